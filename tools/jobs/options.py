@@ -31,7 +31,7 @@ def add(command: argparse.ArgumentParser) -> None:
     """How jobs are done."""
     group = command.add_argument_group("jobs")
     group.add_argument("--jobs", type=int, metavar="N", help="jobs side by side, on each host (as many as processors)")
-    group.add_argument("--hosts", metavar="FILE", help="a line for each machine, as GNU parallel's --sshloginfile has them; ':' is this one")
+    group.add_argument("--hosts", metavar="FILE", help="a line for each machine, as in GNU parallel's --sshloginfile; ':' is this one")
     group.add_argument("--there", metavar="DIR", default=origin.ROOT, help="where this repository lies on the hosts (as here)")
     group.add_argument("--retries", type=int, default=3, metavar="N", help="how often a job is tried (3)")
     group.add_argument("--runs-a-job", type=int, metavar="N", help=f"(so that each slot has {JOBS_A_SLOT} jobs, at most {MOST_RUNS_A_JOB})")

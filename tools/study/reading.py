@@ -49,7 +49,8 @@ class Study:
 
     def spec(self) -> dict[str, Any]:
         """What the plan of its jobs tells."""
-        traces = [{"name": it.name, "file": path, "sum": hashlib.sha256(it.data).hexdigest()} for it, path in zip(self.traces, self.inputs())]
+        traces = [{"name": it.name, "file": path, "sum": hashlib.sha256(it.data).hexdigest()}
+                  for it, path in zip(self.traces, self.inputs())]
         return {"traces": traces, "over": [[name, values] for name, values in self.over.items()], "command": self.command,
                 "repeats": self.repeats, "keep": self.keep}
 
@@ -94,7 +95,8 @@ def study_of(told: dict[str, Any], folder: str) -> Study:
         raise ValueError(f"keep is a list of {', '.join(KEEPS)}")
     if not isinstance(over, dict):
         raise ValueError("over is a table: a parameter and its values a line")
-    study = Study(read_traces(traces, folder), {name: values_over(name, values) for name, values in over.items()}, command, repeats, sorted(set(keep)))
+    variables = {name: values_over(name, values) for name, values in over.items()}
+    study = Study(read_traces(traces, folder), variables, command, repeats, sorted(set(keep)))
     if runs_of(study) > MOST_RUNS:
         raise ValueError(f"{runs_of(study)} runs: a study has at most {MOST_RUNS}")
     return study

@@ -16,8 +16,9 @@ from jobs import engine, joblog
 from .given import EXAMPLES, TOOLS, WithDirectory
 from .loopback import Hosts, why_not
 
-WHY_NOT = why_not() or ("" if engine.gnu_parallel() else "GNU parallel isn't there (Debian's package is parallel): no test of jobs on hosts") or (
-    "" if find_spec("tomllib") else "Python is older than 3.11: no test of studies")
+NO_PARALLEL = "GNU parallel isn't there (Debian's package is parallel): no test of jobs on hosts"
+NO_TOML = "Python is older than 3.11: no test of studies"
+WHY_NOT = why_not() or ("" if engine.gnu_parallel() else NO_PARALLEL) or ("" if find_spec("tomllib") else NO_TOML)
 RUNS, MOST_SECONDS = 8, 600
 
 
@@ -40,12 +41,12 @@ class OnHosts(WithDirectory):
         with open(os.path.join(self.out, "runs.csv"), encoding="ascii", newline="") as file:
             return list(csv.DictReader(file))
 
-    def left_there(self) -> list[str]:
-        """What lies in the folder in which inputs are put."""
-        return [name for name in os.listdir("/tmp") if name.startswith("wbsim-jobs-")]
+    def place(self) -> str:
+        """The folder into which the inputs were put, on each host."""
+        with open(os.path.join(self.out, "jobs", "hosts.list"), encoding="utf-8") as file:
+            return file.readline().split()[2]
 
     def test_a_host_that_dies_in_mid_study(self) -> None:
-        before = set(self.left_there())
         hosts = self.file("hosts", self.hosts.line("alpha") + "1/beta\n" + "1/ssh -p 1 127.0.0.1\n")
         with subprocess.Popen([*self.words, hosts], stdout=subprocess.DEVNULL, stderr=subprocess.PIPE, text=True,
                               env={**os.environ, "PARALLEL_SSH": f"ssh -F {self.hosts.client}"}) as process:
@@ -64,7 +65,8 @@ class OnHosts(WithDirectory):
         self.assertEqual(set(made), {"alpha", "beta"})
         self.assertLessEqual(made["alpha"], died_after)
         self.assertEqual({row["version"] for row in rows}, {"tools/replay.py"})
-        self.assertEqual(set(self.left_there()), before)
+        self.assertRegex(self.place(), "^/tmp/wbsim-jobs-[0-9a-f]{16}$")
+        self.assertFalse(os.path.exists(self.place()), "the inputs are gone")
 
     def test_a_host_with_another_program(self) -> None:
         there = os.path.join(self.directory, "there")
@@ -72,7 +74,8 @@ class OnHosts(WithDirectory):
         with open(os.path.join(there, "tools", "replay.py"), "a", encoding="utf-8") as file:
             file.write("# another one\n")
         hosts = self.file("hosts", self.hosts.line("beta"))
-        done = subprocess.run([*self.words, hosts, "--there", there], stdout=subprocess.DEVNULL, stderr=subprocess.PIPE, text=True, check=False)
+        done = subprocess.run([*self.words, hosts, "--there", there], stdout=subprocess.DEVNULL, stderr=subprocess.PIPE, text=True,
+                              check=False)
         self.assertEqual(done.returncode, 5)
         self.assertRegex(done.stderr, "wb: beta is left out: .* has another program: version tools/replay.py, sum ")
 

@@ -23,7 +23,7 @@ from journals.whole_text import WholeText
 from program.errors import Error, OtherWords
 from search.running import measured
 from study.grid import changed, name_of, point_of, settings
-from study.reading import Refused, StudyTrace, read_study, runs_of, study_of
+from study.reading import Refused, read_study, runs_of, study_of
 from study.spread import Spread, at, spreads
 from study.table import Table, read_table
 from study.words.plot_study import fixed_of
@@ -126,9 +126,9 @@ class Sums(unittest.TestCase):
 
     def test_a_run_over_threads_has_no_steps(self) -> None:
         trace = read_trace(os.path.join(EXAMPLES, "two-pages.trace"))
-        run, _ = cut(content(os.path.join(EXAMPLES, "two-pages.journal")).replace("steps\n", "").encode())
-        text = "".join(line + "\n" for line in run.decode().replace("limits 0 1 ", "limits 0 147 ").splitlines() if not line.startswith("step "))
-        it = measured("run", trace, text.replace("batch 0 2 1 2", "batch 0 2 317 318").encode())
+        lines, _ = cut(content(os.path.join(EXAMPLES, "two-pages.journal")).encode())
+        text = lines.replace(b"steps\n", b"").replace(b"limits 0 1 ", b"limits 0 147 ").replace(b"batch 0 2 1 2", b"batch 0 2 317 318")
+        it = measured("run", trace, text)
         self.assertEqual((it.pages, it.ticks, it.greatest, it.bound, it.distance), (2, 172, 0, 21067, 21067))
 
 
@@ -167,7 +167,8 @@ class Tables(WithDirectory):
         rows = ["run,trace,cap,tasks,repeat,waits,pages"] + [
             f"{run},{'ab'[run % 2]},{run // 8},{run // 4 % 2 + 1},{run // 2 % 2},{run * run % 7},{run}" for run in range(24)]
         table = self.file("runs.csv", "\n".join(rows) + "\n")
-        for more, wanted in ((["--show", "waits,pages"], ["runs-a.png", "runs-b.png"]), (["--show", "waits", "--at", "tasks=2"], ["runs.png"]),
+        for more, wanted in ((["--show", "waits,pages"], ["runs-a.png", "runs-b.png"]),
+                             (["--show", "waits", "--at", "tasks=2"], ["runs.png"]),
                              (["--show", "pages", "--at", "cap=1", "--format", "svg", "--name", "n"], ["n.svg"])):
             status, out, err = printed("plot-study", table, os.path.join(self.directory, "out"), *more)
             self.assertEqual((status, [os.path.basename(path) for path in out.split()], err), (0, wanted, ""))
@@ -235,7 +236,8 @@ class Studies(WithDirectory):
         words = ("study", self.study("[1, 2, 4, 8]"), self.out, "--binary", self.program(more), "--runs-a-job", "2", "--retries", "2")
         status, out, err = printed(*words)
         self.assertEqual((status, out, self.logged("begun")), (6, "", {"1": 1, "2": 2, "4": 1, "8": 1}))
-        self.assertRegex(err, r"wb: job 1 \(runs 0 to 1\) failed, status 5: 1 of 2 runs have failed: run 1: fold with cap 2: .* ended with 9: no luck\n")
+        self.assertRegex(err, r"wb: job 1 \(runs 0 to 1\) failed, status 5: 1 of 2 runs have failed: run 1: fold with cap 2: "
+                              r".* ended with 9: no luck\n")
         self.file("well", "")
         self.assertEqual(printed(*words, "--resume")[0], 0)
         self.assertEqual((len(self.rows()), self.logged("ended")), (4, {"1": 1, "2": 1, "4": 1, "8": 1}))
@@ -253,8 +255,8 @@ class Studies(WithDirectory):
 
     def killed(self, signal_to: str) -> tuple[collections.Counter[str], set[str]]:
         """Kills a study in mid-run, alone or with its group, and lets it go on. How often each run was begun; those that were open then."""
-        words = [sys.executable, os.path.join(TOOLS, "wb"), "study", self.study('["1..9..1"]'), self.out, "--binary", self.program("sleep 0.3"),
-                 "--runs-a-job", "5", "--jobs", "2"]
+        words = [sys.executable, os.path.join(TOOLS, "wb"), "study", self.study('["1..9..1"]'), self.out,
+                 "--binary", self.program("sleep 0.3"), "--runs-a-job", "5", "--jobs", "2"]
         process = subprocess.Popen(words, start_new_session=True, stdout=subprocess.DEVNULL, stderr=subprocess.DEVNULL)
         end = time.monotonic() + 300
         while sum(self.logged("ended").values()) < 2 and time.monotonic() < end:

@@ -61,7 +61,8 @@ def search(given: argparse.Namespace, folder: str) -> Status:
             say(f"by its own order lines: {climb.score.distance:.0f} pages below the bound")
     given.runs_a_job = given.runs_a_job or 1
     spec = {"trace": TRACE, "cpus": trace.cpus, "domain": given.domain, "seconds": 60 * given.minutes / given.seeds}
-    planned = Plan("nearest", spec, given.seeds, options.runs_a_job(given, given.seeds), options.program_of(PYTHON), given.any_program, [TRACE])
+    a_job = options.runs_a_job(given, given.seeds)
+    planned = Plan("nearest", spec, given.seeds, a_job, options.program_of(PYTHON), given.any_program, [TRACE])
     rows = options.made(given, planned, folder, {TRACE: whole.data})
     if rows is not None:
         tell_best(climb, rows)

@@ -4,6 +4,7 @@ from __future__ import annotations
 import argparse
 import os
 import sys
+from typing import Any
 
 from journals import picture
 from journals.words.texts import add_directory
@@ -23,7 +24,8 @@ def add(command: argparse.ArgumentParser) -> None:
     command.add_argument("table", metavar="TABLE", help="the runs.csv of a study")
     add_directory(command)
     command.add_argument("--show", metavar="COLUMN,..", help=f"columns ({SHOWN_OVER_ONE}; over two variables {SHOWN_OVER_TWO})")
-    command.add_argument("--at", action="append", default=[], metavar="VARIABLE=VALUE", help="only these runs; the rest has one variable or two")
+    command.add_argument("--at", action="append", default=[], metavar="VARIABLE=VALUE",
+                         help="only these runs; the rest has one variable or two")
     command.add_argument("--name", help="begins the names of the pictures (that of the table)")
     command.add_argument("--format", choices=("png", "svg", "pdf"), default="png", help="of the pictures (png)")
 
@@ -46,13 +48,13 @@ def run(given: argparse.Namespace) -> Status:
     return Status.GOOD
 
 
-def figures(drawing: object, table: Table, columns: list[str]) -> list[tuple[str, object]]:
+def figures(drawing: Any, table: Table, columns: list[str]) -> list[tuple[str, Any]]:
     """The figures, each with what its name has at the end."""
     over = " and ".join(table.variables)
     if len(table.variables) == 1:
-        return [("", drawing.lines(table, columns, f"{', '.join(table.traces())} over {over}"))]  # type: ignore[attr-defined]
+        return [("", drawing.lines(table, columns, f"{', '.join(table.traces())} over {over}"))]
     traces = table.traces()
-    return [(f"-{trace}" if len(traces) > 1 else "", drawing.maps(table, trace, columns, f"{trace} over {over}"))  # type: ignore[attr-defined]
+    return [(f"-{trace}" if len(traces) > 1 else "", drawing.maps(table, trace, columns, f"{trace} over {over}"))
             for trace in traces]
 
 
