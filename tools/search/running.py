@@ -2,8 +2,8 @@
 from __future__ import annotations
 
 import os
-import tempfile
 from dataclasses import dataclass, fields
+from typing import BinaryIO
 
 from journals.reader import Reader
 from journals.source import HeldSource
@@ -65,7 +65,7 @@ class Runner:
 
     def __init__(self, words: list[str]) -> None:
         self.words = words
-        self.given, self.journal, self.said = (tempfile.TemporaryFile() for _ in range(3))
+        self.given, self.journal, self.said = (in_memory(name) for name in ("trace", "journal", "said"))
         self.text: str | None = None
         self.trace: Trace | None = None
         self.known: dict[bytes, Measured] = {}
@@ -77,7 +77,6 @@ class Runner:
             self.given.seek(0)
             self.given.truncate()
             self.given.write(text.encode("latin-1"))
-            self.given.flush()
         status = self.spawned()
         if status not in (0, SPENT):
             said = content(self.said).decode("latin-1").strip().splitlines()
@@ -102,10 +101,15 @@ class Runner:
         return os.waitstatus_to_exitcode(os.waitpid(process, 0)[1])
 
 
-def content(file: object) -> bytes:
+def in_memory(name: str) -> BinaryIO:
+    """A file that a program may read or write, and that no disk has."""
+    return open(os.memfd_create(name), "w+b", buffering=0)
+
+
+def content(file: BinaryIO) -> bytes:
     """What a program has written into a file."""
-    number = file.fileno()  # type: ignore[attr-defined]
-    return os.pread(number, os.fstat(number).st_size, 0)
+    file.seek(0)
+    return file.read()
 
 
 def measured(name: str, trace: Trace, journal: bytes) -> Measured:
