@@ -73,8 +73,8 @@ def carry_out(folder: str, planned: Plan, how: How) -> list[str]:
     parallel = gnu_parallel()
     if how.hosts and not parallel:
         raise NotThere(f"--hosts needs GNU parallel ({DEBIAN})")
-    if missing(folder, planned):
-        joblog.keep_done(folder, lambda job: os.path.exists(files.done_path(folder, job)))
+    if left := missing(folder, planned):
+        joblog.keep_done(folder, set(range(1, planned.jobs + 1)) - set(left))
         said = Said.new(folder)
         with watched(folder, planned, said.rows):
             if parallel:

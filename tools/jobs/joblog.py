@@ -2,7 +2,6 @@
 from __future__ import annotations
 
 import os
-from collections.abc import Callable
 from dataclasses import dataclass
 
 FILE = "jobs.log"
@@ -34,16 +33,21 @@ def entries(folder: str) -> list[Entry]:
     return found
 
 
-def keep_done(folder: str, is_done: Callable[[int], bool]) -> None:
-    """Leaves in the log the lines of jobs that ended well and whose file is there, so that all others are done again."""
-    kept = [it.text for it in entries(folder) if not it.status and not it.signal and is_done(it.job)]
+def keep_done(folder: str, done: set[int]) -> None:
+    """Leaves in the log one line for each job that is done, so that all others are done again, and no other is."""
+    kept = {it.job: it.text for it in entries(folder) if not it.status and not it.signal and it.job in done}
     path = os.path.join(folder, FILE)
     with open(f"{path}.new", "w", encoding="utf-8") as file:
-        file.writelines([HEAD, *kept])
+        file.writelines([HEAD, *(kept.get(job) or line_of(job, 0, 0, 0, "was done before") for job in sorted(done))])
     os.replace(f"{path}.new", path)
+
+
+def line_of(job: int, begin: float, seconds: float, status: int, command: str) -> str:
+    """A line, of a job that was done here."""
+    return f"{job}\t:\t{begin:.3f}\t{seconds:10.3f}\t0\t0\t{status}\t0\t{command}\n"
 
 
 def add(folder: str, job: int, begin: float, seconds: float, status: int, command: str) -> None:
     """A line more, of a job that was done here."""
     with open(os.path.join(folder, FILE), "a", encoding="utf-8") as file:
-        file.write(f"{job}\t:\t{begin:.3f}\t{seconds:10.3f}\t0\t0\t{status}\t0\t{command}\n")
+        file.write(line_of(job, begin, seconds, status, command))

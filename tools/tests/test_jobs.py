@@ -129,9 +129,9 @@ class Logs(WithJobs):
     def test_what_is_done_again_is_not_in_the_log(self) -> None:
         lines = [LOG.format(0), LOG.format(5).replace("1", "2", 1), LOG.format(0).replace("1", "3", 1), "4\t:\t0.1"]
         self.file("jobs.log", joblog.HEAD + "".join(lines))
-        joblog.keep_done(self.directory, lambda job: job != 3)
+        joblog.keep_done(self.directory, {1, 4})
         with open(os.path.join(self.directory, "jobs.log"), encoding="ascii") as log:
-            self.assertEqual(log.read(), joblog.HEAD + lines[0])
+            self.assertEqual(log.read(), joblog.HEAD + lines[0] + joblog.line_of(4, 0, 0, 0, "was done before"))
 
     def test_a_line_that_was_written_here(self) -> None:
         joblog.add(self.directory, 7, 1.0, 2.0, 5, "command")
