@@ -29,10 +29,12 @@ from study.table import Table, read_table
 from study.words.plot_study import fixed_of
 
 from .given import EXAMPLES, TOOLS, WithDirectory, examples
+from .loopback import below
 from .test_kernel import printed
 from .test_search import ONE_BY_ONE
 
 FOLD = os.path.join(EXAMPLES, "fold.trace")
+NO_PARALLEL = "GNU parallel isn't there (Debian's package is parallel): no test of a study that is killed"
 HAS_TOML = unittest.skipUnless(find_spec("tomllib"), "Python is older than 3.11: no test of studies")
 STUDY = """traces = ["{}"]
 repeats = 2
@@ -253,28 +255,31 @@ class Studies(WithDirectory):
         printed("study", self.study("[1]"), self.out, "--binary", self.program(), "--print-jobs")
         self.assertEqual(printed("study", self.study("[2]"), self.out, "--binary", self.program(), "--resume")[0], 1)
 
-    def killed(self, signal_to: str) -> tuple[collections.Counter[str], set[str]]:
-        """Kills a study in mid-run, alone or with its group, and lets it go on. How often each run was begun; those that were open then."""
+    def killed(self, who: str) -> collections.Counter[str]:
+        """Kills a study when two jobs are each in mid-run, and lets it go on. How often each run was begun."""
+        wait = f'while [ $cap -gt 3 ] && [ ! -e {self.directory}/go ]; do sleep 0.05; done'
         words = [sys.executable, os.path.join(TOOLS, "wb"), "study", self.study('["1..9..1"]'), self.out,
-                 "--binary", self.program("sleep 0.3"), "--runs-a-job", "5", "--jobs", "2"]
+                 "--binary", self.program(wait), "--runs-a-job", "5", "--jobs", "2"]
         process = subprocess.Popen(words, start_new_session=True, stdout=subprocess.DEVNULL, stderr=subprocess.DEVNULL)
         end = time.monotonic() + 300
-        while sum(self.logged("ended").values()) < 2 and time.monotonic() < end:
-            time.sleep(0.02)
-        (os.kill if signal_to == "process" else os.killpg)(process.pid, signal.SIGKILL)
+        while not {"4", "6"} <= set(self.logged("begun")) and time.monotonic() < end:
+            time.sleep(0.05)
+        for number in [*(below(process.pid) if who == "all" else []), process.pid]:
+            (os.killpg if who == "group" else os.kill)(number, signal.SIGKILL)
         process.wait()
-        is_open = set(self.logged("begun")) - set(self.logged("ended"))
+        self.assertEqual(set(self.logged("begun")), {"1", "2", "3", "4", "6"})
+        self.file("go", "")
         subprocess.run([*words, "--resume"], stdout=subprocess.DEVNULL, stderr=subprocess.DEVNULL, check=True)
-        return self.logged("begun"), is_open
+        self.assertEqual([row["cap"] for row in self.rows()], [str(cap) for cap in range(1, 10)])
+        return self.logged("begun")
 
+    @unittest.skipUnless(engine.gnu_parallel(), NO_PARALLEL)
     def test_a_study_that_is_killed_goes_on(self) -> None:
-        for signal_to in ("process", "group"):
-            with self.subTest(signal_to):
-                begun, is_open = self.killed(signal_to)
-                self.assertEqual([row["cap"] for row in self.rows()], [str(cap) for cap in range(1, 10)])
-                self.assertEqual({cap for cap, often in begun.items() if often > 1} - is_open, set(), "what had ended isn't made again")
-                self.assertTrue(is_open)
-            subprocess.run(["rm", "-rf", self.out, self.log], check=True)
+        once = collections.Counter(str(cap) for cap in range(1, 10))
+        for who, twice in (("process", ()), ("group", ()), ("all", ("4", "6"))):
+            with self.subTest(who):
+                self.assertEqual(self.killed(who), once + collections.Counter(twice), "what had ended isn't made again")
+            subprocess.run(["rm", "-rf", self.out, self.log, os.path.join(self.directory, "go")], check=True)
 
 
 if __name__ == "__main__":
