@@ -3,7 +3,6 @@ from __future__ import annotations
 
 import hashlib
 import os
-import socket
 import subprocess
 import sys
 from dataclasses import dataclass
@@ -85,4 +84,4 @@ def sum_of_python() -> str:
 def host() -> str:
     """This machine's name: the one by which GNU parallel has logged in, else its own."""
     name = os.environ.get("PARALLEL_SSHHOST", ":")
-    return socket.gethostname() if name == ":" else name
+    return os.uname().nodename if name == ":" else name
