@@ -8,6 +8,7 @@ import re
 from collections.abc import Callable
 from dataclasses import dataclass, fields
 from enum import Enum
+from functools import cache
 from typing import Any, get_type_hints
 
 from program.errors import Cause
@@ -94,7 +95,7 @@ def plain(kind: type, word: str, trace: Trace) -> Form:
     """The form of a type of which each field is a number or a word."""
     many = {"domain": trace.domains, "cpu": trace.cpus, "task": len(trace.tasks), "context": len(trace.contexts),
             "flusher": len(trace.flushers), "inode": len(trace.inodes), "page": trace.pages}
-    hints = get_type_hints(kind)
+    hints = hints_of(kind)
     names = [field.name for field in fields(kind)]
     patterns, readers = [word], []
     for name in names:
@@ -103,6 +104,12 @@ def plain(kind: type, word: str, trace: Trace) -> Form:
         readers.append(reader)
     things = [(place, name, many[name]) for place, name in enumerate(names) if name in many]
     return Form(re.compile(" ".join(patterns)), readers, things, kind)
+
+
+@cache
+def hints_of(kind: type) -> dict[str, Any]:
+    """The types of the fields of a line. They are looked up once, and not for each journal."""
+    return get_type_hints(kind)
 
 
 def field_form(hint: Any) -> tuple[str, Callable[[str], Any]]:

@@ -33,8 +33,8 @@ class Reader:
     `text` is the line of the event that was given last, and `number` its number.
     """
 
-    def __init__(self, path: str, trace: Trace) -> None:
-        self.source = Source(path)
+    def __init__(self, path: str, trace: Trace, source: Source | None = None) -> None:
+        self.source = source or Source(path)
         self.trace = trace
         self.text = ""
         self._lines = self.source.lines()

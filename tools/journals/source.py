@@ -1,6 +1,7 @@
 """A text of lines, read piece by piece: never more of it in memory than a piece."""
 from __future__ import annotations
 
+import io
 import os
 import sys
 from collections.abc import Generator, Iterator
@@ -33,7 +34,7 @@ class Source:
         progress = None
         try:
             with self._open() as file:
-                whole = os.fstat(file.fileno()).st_size
+                whole = self._size(file)
                 progress = Progress(self.path, whole or None)
                 yield from self._cut(file, progress)
         except OSError as error:
@@ -45,6 +46,9 @@ class Source:
     def fault(self, cause: Cause, found: str, line: int | None = None) -> Fault:
         """The fault of the line that was given last, or of another."""
         return Fault(self.path, self.number if line is None else line, cause, found)
+
+    def _size(self, file: BinaryIO) -> int:
+        return os.fstat(file.fileno()).st_size
 
     def _open(self) -> BinaryIO:
         if self._is_input:
@@ -64,3 +68,17 @@ class Source:
                 raise self.fault(Cause.BAD_LINE, f"more than {MOST_LINE} bytes without a line feed", self.number + 1)
         if rest:
             raise self.fault(Cause.BAD_LINE, "the text ends without a line feed", self.number + 1)
+
+
+class HeldSource(Source):
+    """The lines of a text that is in memory."""
+
+    def __init__(self, path: str, data: bytes) -> None:
+        super().__init__(path)
+        self._data = data
+
+    def _size(self, file: BinaryIO) -> int:
+        return len(self._data)
+
+    def _open(self) -> BinaryIO:
+        return io.BytesIO(self._data)

@@ -21,7 +21,10 @@ WORDS = (
     Word("why", "journals.words.why", "why a trace or a law text is refused: line, column and fault"),
     Word("explain", "laws.words.explain", "the decision of a law text, with every number behind it, one line each"),
     Word("sweep", "search.words.sweep", "one parameter of a trace over values: a replay for each, a table and a picture"),
+    Word("study", "study.words.study", "a study, which is a file: traces, parameters over values, repeats; a table with a line a run"),
+    Word("plot-study", "study.words.plot_study", "pictures of such a table: lines over one variable, a map over two"),
     Word("nearest", "search.words.nearest", "the interleaving of a trace that comes nearest to a bound"),
+    Word("job", "jobs.words.job", "one job of a sweep, a study, a search or judged runs, as their lists have them"),
     Word("from-machine", "machine.words.from_machine", "a trace's first lines from a machine in use, its tasks from a job file of fio"),
     Word("kernel", "kernel.words.kernel", "a running kernel's tracepoints beside the laws: compare, plot, trace, beside, record"),
 )

@@ -10,6 +10,16 @@ for words in '' Replay --help bulk 'bulk 3' 'bulk 07' 'bulk +7' 'bulk 2097153' '
     judge "./wbsim: words '$words'" 1 $? "$usage" /dev/null
 done
 
+# The version is the script's alone, which says it without a program.
+expect "words '--version'" 1 "$usage" /dev/null --version < "$root/examples/empty.trace"
+"$root/wbsim" --version x > "$work/out" 2> "$work/err" < "$root/examples/empty.trace"
+judge "./wbsim: words '--version x'" 1 $? "$usage" /dev/null
+"$root/wbsim" --version > "$work/version" 2> "$work/err"
+status=$?
+grep -cxE 'wbsim [0-9a-f]{12} (proved|unproved|unbuilt)' "$work/version" > "$work/out"
+echo 1 > "$work/wanted"
+judge "./wbsim: words '--version'" 0 $status "" "$work/wanted"
+
 # A word that is no text in UTF-8 is none of a command either.
 no_text=$(printf 'replay\377')
 expect "a word that is no text" 1 "$usage" /dev/null "$no_text" < "$root/examples/empty.trace"

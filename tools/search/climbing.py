@@ -8,7 +8,7 @@ from __future__ import annotations
 import math
 import random
 import time
-from collections.abc import Callable, Sequence
+from collections.abc import Sequence
 from dataclasses import dataclass
 
 from replay import Machine
@@ -112,14 +112,6 @@ def start(text: str, cpus: int, domain: int) -> Climb:
     climb = Climb(without_orders(text), cpus, domain, orders, Score(math.inf, 0), orders)
     climb.score = climb.scored(orders)
     return climb
-
-
-def climb_for(climb: Climb, seconds: float, seeds: Sequence[int], starts: Sequence[list[Order]], say: Callable[[str], None]) -> None:
-    """Searches from each start with each seed, the time shared among them."""
-    share = seconds / max(len(seeds), 1)
-    for seed in seeds:
-        climb_seed(climb, share, seed, starts)
-        say(f"seed {seed}: {climb.score.distance:.0f} pages below the bound after {climb.tries} runs")
 
 
 def climb_seed(climb: Climb, seconds: float, seed: int, starts: Sequence[list[Order]]) -> None:

@@ -5,6 +5,7 @@ import hashlib
 import os
 import subprocess
 import sys
+from importlib.util import find_spec
 
 from journals import picture
 
@@ -96,3 +97,11 @@ class MakeExamples(WithDirectory):
         self.assertEqual(sorted(os.listdir(self.examples)), [
             "throttled-domain-0.png", "throttled-domain-1.png", "throttled.journal", "throttled.trace"])
         self.assertEqual(self.make(f"cat {text_path('threads.journal')}", "throttled:steps"), 1, "no journal of the trace")
+
+    def test_the_picture_of_a_study(self) -> None:
+        if not picture.is_there() or not find_spec("tomllib"):
+            self.skipTest("matplotlib isn't there: the pictures are left out")
+        self.file("examples/throttled.toml", 'traces = ["throttled.trace"]\n[over]\ncap = [32, 64]\ndevice-0 = [5, 10]\n')
+        self.assertEqual(self.make(f"cat {text_path('throttled.journal')}", "throttled:study"), 0)
+        self.assertEqual(sorted(os.listdir(self.examples)), ["throttled-study.png", "throttled.toml", "throttled.trace"])
+        self.assertEqual(self.make("exit 9", "throttled:study"), 1)

@@ -11,18 +11,19 @@ from unittest import mock
 from journals import picture
 from journals.trace_reader import trace_of
 from journals.whole_text import WholeText
+from jobs import origin
 from program.errors import NotThere, OtherWords
 from search.climbing import orders_of, shorten, start, without_orders
 from search.editing import parameter
 from search.orders import changed, joined, lines
-from search.running import program
-from search.words.sweep import values_of
+from search.values import values_of
 
 from .given import EXAMPLES, WithDirectory
 from .test_kernel import printed
 
 TWO_CPUS = os.path.join(EXAMPLES, "stopped.trace")
 FOLD = os.path.join(EXAMPLES, "fold.trace")
+ONE_BY_ONE = "wb: GNU parallel isn't there (Debian's package is parallel): one job after another\n"
 
 
 def content(path: str) -> str:
@@ -82,7 +83,8 @@ class Sweeps(WithDirectory):
 
     def test_a_table(self) -> None:
         status, out, err = self.swept("--over", "cap", "--values", "1,8", "--no-picture")
-        self.assertEqual((status, err), (0, ""))
+        self.assertEqual((status, err.replace(ONE_BY_ONE, "")), (0, ""))
+        self.assertEqual(os.listdir(os.path.join(self.directory, "out")), ["sweep.csv"], "the jobs are gone")
         with open(out.strip(), encoding="ascii") as file:
             rows = list(csv.DictReader(file))
         self.assertEqual([(row["cap"], row["pages"], row["ending"]) for row in rows], [("1", "8", "done"), ("8", "8", "done")])
@@ -102,16 +104,22 @@ class Sweeps(WithDirectory):
         self.assertEqual((status, out), (2, ""))
         self.assertRegex(err, "with cap 2000: line 2.*: out of range")
 
+    def test_each_row_says_what_made_it(self) -> None:
+        _, out, _ = self.swept("--over", "cap", "--values", "8", "--no-picture")
+        with open(out.strip(), encoding="ascii") as file:
+            row = next(csv.DictReader(file))
+        self.assertEqual((row["version"], row["sum"]), ("tools/replay.py", origin.sum_of_python()))
+
     def test_what_runs_it(self) -> None:
-        self.assertEqual(program("/bin/true", False), ["/bin/true", "replay"])
-        self.assertEqual(program(None, True)[0], sys.executable)
+        self.assertEqual(origin.found("/bin/true").words, ["/bin/true"])
+        self.assertEqual(origin.found(origin.PYTHON).words[0], sys.executable)
         with self.assertRaises(NotThere):
-            program(os.path.join(self.directory, "none"), False)
+            origin.found(os.path.join(self.directory, "none"))
 
     def test_a_program_that_fails(self) -> None:
         done = printed("sweep", FOLD, self.directory, "--binary", "/bin/false", "--over", "cap", "--values", "1", "--no-picture")
-        self.assertEqual((done[0], done[1]), (5, ""))
-        self.assertIn("ended with 1", done[2])
+        self.assertEqual((done[0], done[1]), (6, ""))
+        self.assertRegex(done[2], r"job 1 \(run 0\) failed, status 5: 1 of 1 runs have failed: run 0: .* with cap 1: /bin/false ended with 1")
 
 
 class Nearest(WithDirectory):
@@ -139,8 +147,9 @@ class Nearest(WithDirectory):
         self.assertLess(len(climb.orders), 8)
 
     def test_the_word(self) -> None:
-        status, out, err = printed("nearest", "--minutes", "0.002", "--seeds", "1", TWO_CPUS)
+        status, out, err = printed("nearest", "--minutes", "0.002", "--seeds", "2", TWO_CPUS)
         self.assertEqual(status, 0)
+        self.assertRegex(err, "seed 0: .* runs\nwb: seed 1: .* runs\n")
         self.assertIn("in the order of the rotation: 127 pages below the bound", err)
         self.assertLessEqual(start(out, 2, 0).score.distance, 73)
 

@@ -1,0 +1,59 @@
+"""What a folder of jobs is: runs of one kind, numbered from 0, in jobs of as many runs each, numbered from 1."""
+from __future__ import annotations
+
+import json
+import os
+from dataclasses import asdict, dataclass, field
+from typing import Any
+
+from program.errors import OtherWords, ReadFault
+from program.output import writing
+
+FILE = "plan.json"
+
+
+@dataclass(frozen=True)
+class Plan:
+    """The kind of the runs and what it is told, the program, and the inputs beside the plan, by their names."""
+
+    kind: str
+    spec: dict[str, Any]
+    runs: int
+    runs_a_job: int
+    program: dict[str, str] = field(default_factory=dict)
+    is_any_program: bool = False
+    inputs: list[str] = field(default_factory=list)
+
+    @property
+    def jobs(self) -> int:
+        """How many jobs there are."""
+        return -(-self.runs // self.runs_a_job)
+
+    def runs_of(self, job: int) -> range:
+        """The runs of a job."""
+        return range((job - 1) * self.runs_a_job, min(job * self.runs_a_job, self.runs))
+
+    def save(self, folder: str) -> None:
+        """Writes it, whole or not at all."""
+        path = os.path.join(folder, FILE)
+        with writing(path):
+            with open(f"{path}.new", "w", encoding="ascii") as file:
+                json.dump(asdict(self), file, indent=1)
+            os.replace(f"{path}.new", path)
+
+
+def load(folder: str) -> Plan:
+    """The plan of a folder."""
+    path = os.path.join(folder, FILE)
+    try:
+        with open(path, encoding="ascii") as file:
+            return Plan(**json.load(file))
+    except OSError as error:
+        raise ReadFault(f"{path}: {error.strerror or error}") from error
+    except (ValueError, TypeError) as error:
+        raise OtherWords(f"{path} is no plan of jobs: {error}") from error
+
+
+def is_there(folder: str) -> bool:
+    """Whether a folder has a plan."""
+    return os.path.exists(os.path.join(folder, FILE))

@@ -1,0 +1,1 @@
+"""The word of `tools/wb` that does one job: `job`."""

@@ -1,0 +1,56 @@
+"""A run of a study: its trace is made, run, and measured."""
+from __future__ import annotations
+
+import base64
+import os
+import zlib
+from dataclasses import asdict
+from typing import Any
+
+from jobs.kinds import Maker, Row
+from search.running import Runner
+
+from .grid import changed, name_of, point_of
+
+JOURNALS, TRACES = "journals", "traces"
+
+
+def maker(spec: dict[str, Any], folder: str, words: list[str]) -> Maker:
+    """What makes the run of a number."""
+    texts = []
+    for trace in spec["traces"]:
+        with open(os.path.join(folder, trace["file"]), encoding="latin-1", newline="") as file:
+            texts.append(file.read())
+    runner = Runner([*words, *([spec["command"]] if takes_command(words) else [])])
+    made: dict[tuple[int, tuple[int, ...]], str] = {}
+
+    def make(run: int) -> Row:
+        point = point_of(spec, run)
+        setting = (point.trace, point.values)
+        if setting not in made:
+            made.clear()
+            made[setting] = changed(spec, texts[point.trace], point.values)
+        it, journal = runner.run(name_of(spec, point), made[setting])
+        row: Row = asdict(it)
+        if JOURNALS in spec["keep"]:
+            row["kept journal"] = packed(journal)
+        if TRACES in spec["keep"]:
+            row["kept trace"] = packed(made[setting].encode("latin-1"))
+        return row
+
+    return make
+
+
+def takes_command(words: list[str]) -> bool:
+    """Whether a program is told what to do: tools/replay.py does one thing."""
+    return not words[-1].endswith(".py")
+
+
+def packed(data: bytes) -> str:
+    """A text as one word of a row."""
+    return base64.b64encode(zlib.compress(data, 1)).decode("ascii")
+
+
+def unpacked(word: str) -> bytes:
+    """The text again."""
+    return zlib.decompress(base64.b64decode(word))

@@ -1,0 +1,1 @@
+"""The words of `tools/wb` about studies: `study`, `plot-study`."""
