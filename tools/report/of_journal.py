@@ -226,11 +226,13 @@ def height_of(rows: int) -> int:
 
 
 def rates_panel(scene: Scene) -> Panel:
-    """Rate limit and average bandwidth of each context."""
+    """Rate limit and average bandwidth of each context. Where those of two are the same, the first is the broader line."""
     lines = []
-    for context in sorted(scene.rate_limits):
-        lines.append(replace(held(scene, scene.rate_limits[context], f"rate limit, context {context}", of_context(context)), width=1.8))
-        lines.append(replace(held(scene, scene.bandwidths[context], f"bandwidth, context {context}", of_context(context)), dash="dot"))
+    contexts = sorted(scene.rate_limits)
+    for place, context in enumerate(contexts):
+        width = 1.8 + 2.4 * min(len(contexts) - 1 - place, 2)
+        for series, name, dash in ((scene.rate_limits[context], "rate limit", "solid"), (scene.bandwidths[context], "bandwidth", "dot")):
+            lines.append(replace(held(scene, series, f"{name}, context {context}", of_context(context)), width=width, dash=dash))
     values = [value for line in lines for value in line.y]
     return Panel("rates of contexts", "pages/s", 220, lines, is_log=max(values) > EVEN * max(min(values), 1))
 
