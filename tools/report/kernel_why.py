@@ -53,17 +53,23 @@ def rule_of(joined: Joined, clock: Clock) -> Rule:
 def why_no_rate(joined: Joined) -> str:
     """What leaves no rate: the domain, or a strict disk's own threshold."""
     check = joined.check
-    if joined.state is None or check.dirty >= limits_of(joined).hard:
+    if check.dirty >= (limits_of(joined).hard if has_limits(joined) else check.limit):
         return AT_HARD
-    is_at_own = joined.is_strict and any(strict_position(read, check.context_dirty).held is Held.AT_OWN for read in reads_of(joined))
+    is_at_own = joined.is_strict and has_limits(joined) and any(
+        strict_position(read, check.context_dirty).held is Held.AT_OWN for read in reads_of(joined))
     return AT_OWN if is_at_own else TOO_SLOW
+
+
+def has_limits(joined: Joined) -> bool:
+    """Whether a line tells the limits of the check's domain: one of the global domain does, and none of a cgroup."""
+    return joined.state is not None and joined.check.disk == joined.check.device
 
 
 def sentence_of(joined: Joined, clock: Clock) -> str:
     """What the check found and did."""
     check = joined.check
     pages = f"{check.dirty} pages in the domain, of a hard limit of {check.limit} and a setpoint of {check.setpoint}"
-    if joined.state:
+    if has_limits(joined):
         pages += f", freerun {freerun_of(limits_of(joined))}"
     disk = f"{check.context_dirty} of them of disk {check.disk}, whose setpoint is {check.context_setpoint}"
     did = f"it pauses {spans(check.pause, clock)}" if check.pause > 0 else "it doesn't pause"

@@ -94,10 +94,10 @@ def report_of(trace: Trace, path: str, title: str) -> Report:
             checks.take(reader.number, event)
     if scene.last == scene.first:
         raise OtherWords(f"the whole journal is at time {scene.first}: there is nothing to show over time")
-    shown = checks.kept.all()
+    shown, sentences = checks.kept.all(), Sentences(trace)
     return Report(
         title=title, facts=facts_of(summary), axis=Axis("time in ticks; a tick is 1 ms", "ticks", scene.first, scene.last, PROFILE.second),
-        panels=list(panels_of(scene, shown)), checks=[text_of(trace, seen) for seen in shown], tables=list(checks.causes.tables()),
+        panels=list(panels_of(scene, shown)), checks=[text_of(sentences, seen) for seen in shown], tables=list(checks.causes.tables()),
         texts=[("Summary", "\n".join(summary_lines(summary)))], notes=list(notes_of(scene, checks)))
 
 
@@ -118,12 +118,12 @@ def facts_of(summary: Summary) -> list[str]:
             f"{summary.steps} steps" if summary.steps else "a journal without steps", f"latest moment: {summary.latest} ticks"]
 
 
-def text_of(trace: Trace, seen: SeenCheck) -> CheckText:
+def text_of(sentences: Sentences, seen: SeenCheck) -> CheckText:
     """What is said of a check."""
     event = seen.event
     pause = f"{counted(event.pause, 'tick')} ({event.pause * 1000 // PROFILE.second} ms)" if event.pause else "none"
     head = f"task {event.task}, {event.decision.value}, pause: {pause}; at moment {event.now}, line {seen.line} of the journal"
-    return CheckText(head, Sentences(trace).of(event), list(seen.reason.lines()))
+    return CheckText(head, sentences.of(event), list(seen.reason.lines()))
 
 
 def notes_of(scene: Scene, checks: SeenChecks) -> Iterator[str]:

@@ -161,8 +161,9 @@ def domain_panel(seen: Seen) -> Panel:
         of("dirty or under writeback", "count", lambda it: it.count)]
     read = [(number, it) for number, it in enumerate(seen.shown) if it.joined.check.disk == it.joined.check.device]
     dots = dots_of(seen, "count that checks read", "read", [(number, it, it.joined.check.dirty) for number, it in read])
-    top = max(max(limits_of(it).hard, it.check.dirty) for it in seen.story.checks if it.state)
-    return Panel("pages of the global domain", "pages", 270, put_together(lines), [dots] if dots.x else [], top=round(1.06 * top))
+    had = [max(limits_of(it).hard, it.check.dirty) for it in seen.story.checks if kernel_why.has_limits(it)]
+    return Panel("pages of the global domain", "pages", 270, put_together(lines), [dots] if dots.x else [],
+                 top=round(1.06 * max(had, default=0)))
 
 
 def limits_in(state: State) -> Limits:

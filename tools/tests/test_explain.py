@@ -55,9 +55,9 @@ class OfALawText(WithDirectory):
         status, out, err = printed("explain", "--json", LAW)
         self.assertEqual((status, err), (0, ""))
         told = json.loads(out)
-        self.assertEqual({name: told[name] for name in ("text", "decision", "pause", "left", "ratio", "rate", "longest", "period", "think")},
-                         {"text": LAW, "decision": "go", "pause": 8, "left": 250, "ratio": 1023, "rate": 25575, "longest": 88, "period": 9,
-                          "think": 1})
+        wanted = {"text": LAW, "decision": "go", "pause": 8, "left": 250, "ratio": 1023, "rate": 25575, "longest": 88, "period": 9,
+                  "think": 1}
+        self.assertEqual({name: told[name] for name in wanted}, wanted)
         self.assertEqual((told["least"]["pause"], told["task"]["ended"], told["rule"]),
                          (6, 5008, "between the least and the longest pause: as it is"))
         self.assertEqual({name: told["domains"][0][name] for name in ("freerun", "setpoint", "pages", "hard")},

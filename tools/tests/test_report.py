@@ -33,6 +33,7 @@ from report.thinning import Peaks, Thinned
 
 from . import long_journal
 from .given import EXAMPLES, WithDirectory, text_path
+from .test_kernel import CHECK, STATE, line_of
 
 LEFT_OUT = "plotly's script isn't there: reports are not made by the program"
 THREE = os.path.join(EXAMPLES, "kernel", "three-writers.txt")
@@ -226,7 +227,7 @@ class OfJournals(WithDirectory):
         self.assertTrue(any("bins of equal width" in note and "A curve" in note for note in report.notes))
 
 
-class OfKernels(unittest.TestCase):
+class OfKernels(WithDirectory):
     def test_the_pages_are_those_of_the_text(self) -> None:
         text = read_text(THREE)
         panel = panel_of(kernel_content(THREE), "pages of the global domain")
@@ -267,6 +268,20 @@ class OfKernels(unittest.TestCase):
         waiting = [it for it in story.checks if not it.check.rate]
         self.assertEqual({cause_of(it, story.text.clock).why for it in waiting},
                          {"the domain is at its hard limit or above: its rate is 0, so the longest pause"})
+
+    def test_a_check_of_a_cgroup_is_told_by_its_own_numbers(self) -> None:
+        waits = CHECK.replace("limit=51200 setpoint=44800 dirty=43964", "limit=500 setpoint=400 dirty=600").replace(
+            "task_ratelimit=113324", "task_ratelimit=0").replace("pause=0 period=0", "pause=200 period=200")
+        lines = [line_of("global_dirty_state", STATE), line_of("balance_dirty_pages", waits.replace("cgroup_ino=1", "cgroup_ino=77")), ""]
+        content = kernel_content(self.file("text", "\n".join(lines)))
+        self.assertEqual([row[:2] for row in content["tables"][0]["rows"]],
+                         [["wait", "the domain is at its hard limit or above: its rate is 0, so the longest pause"]])
+        sentence = content["checks"][0]["sentence"]
+        self.assertIn("600 pages in the domain, of a hard limit of 500 and a setpoint of 400", sentence)
+        self.assertNotIn("freerun", sentence, "the state's line is of the global domain")
+        panel = panel_of(content, "pages of disk 7:0 of cgroup 77")
+        self.assertEqual(part_of(panel, "lines", "hard limit of its domain")["y"], [500, 500])
+        self.assertEqual(panel_of(content, "pages of the global domain")["dots"], [])
 
     def test_how_many_numbers_are_those_of_the_laws(self) -> None:
         table = kernel_content(THREE)["tables"][-1]
