@@ -1,9 +1,13 @@
-"""What a check of a kernel comes to: which rule gave its pause, in a sentence, and its numbers beside those of the laws."""
+"""What a check of a kernel comes to: which rule gave its pause, in a sentence, and its numbers beside those of the laws.
+
+A cause is told only where the numbers of the line, and of those around it, bear it.
+"""
 from __future__ import annotations
 
 from collections.abc import Iterator, Sequence
 
-from kernel.checks import bounds_of
+from kernel import strict
+from kernel.checks import bounds_of, ratios, seems_strict
 from kernel.joining import Joined
 from kernel.numbers import UNITS, Number, Verdict
 from kernel.reading import ticks_of
@@ -13,12 +17,13 @@ from laws.decision import LATE, Rule
 from laws.limits import freerun_of
 from laws.strict import Held, strict_position
 
-from .causes import Cause
+from .causes import NOT_TOLD, Cause
 
 NO_RATE = "{why}: its rate is 0, so the longest pause"
 AT_HARD = "the domain is at its hard limit or above"
 AT_OWN = "its strict disk is at its own threshold or above"
 TOO_SLOW = "the rate limit times the position ratio is less than a page a second"
+SEEMS_STRICT = "the domain is below its freerun, so its disk is strict (--strict names it)"
 ASKED = "what its rate asks for is {rule}"
 
 BY_RATE = (Rule.WANTED, Rule.CUT, Rule.PAID)
@@ -29,20 +34,21 @@ def cause_of(joined: Joined, clock: Clock) -> Cause:
     """What was decided, and why."""
     rule = rule_of(joined, clock)
     if rule is Rule.RATE_IS_ZERO:
-        return Cause("wait", NO_RATE.format(why=why_no_rate(joined)))
+        why = why_no_rate(joined)
+        return Cause("wait", NO_RATE.format(why=why) if why else NOT_TOLD)
+    if rule is None:
+        return Cause("go", NOT_TOLD)
     return Cause("go", ASKED.format(rule=rule.value) if rule in BY_RATE else rule.value)
 
 
-def rule_of(joined: Joined, clock: Clock) -> Rule:
-    """The rule that gives a pause as the check's, by what the line prints. The longest pause is that by an average around the check."""
+def rule_of(joined: Joined, clock: Clock) -> Rule | None:
+    """The rule that gives a pause as the check's, by what the line prints: none where no rule does."""
     check = joined.check
     if not check.rate:
         return Rule.RATE_IS_ZERO
     wanted = ticks_of(check.period, clock) - ticks_of(check.think, clock)
     if check.pause > 0:
-        longest = {bounds_of(check, average, clock)[0] for average in joined.averages_of_pause()}
-        is_cut = wanted > ticks_of(check.pause, clock) and (not longest or ticks_of(check.pause, clock) in longest)
-        return Rule.CUT if is_cut else Rule.WANTED
+        return rule_of_pause(joined, wanted, clock)
     if wanted < -LATE * clock.second // 1000:
         return Rule.ANEW
     if check.period:
@@ -50,14 +56,30 @@ def rule_of(joined: Joined, clock: Clock) -> Rule:
     return Rule.LONGER if check.allowance <= check.dirtied else Rule.KEPT
 
 
+def rule_of_pause(joined: Joined, wanted: int, clock: Clock) -> Rule | None:
+    """The rule of a pause that was made, where so many ticks were wanted. A tick may have gone by before the line was printed."""
+    pause = ticks_of(joined.check.pause, clock)
+    late = 1 if joined.check.paused else 0
+    if pause == wanted:
+        return Rule.WANTED
+    longest = {bounds_of(joined.check, average, clock)[0] for average in joined.averages_of_pause()}
+    if pause < wanted and (pause in longest or not longest):
+        return Rule.CUT
+    return Rule.WANTED if pause == wanted + late else None
+
+
 def why_no_rate(joined: Joined) -> str:
-    """What leaves no rate: the domain, or a strict disk's own threshold."""
+    """What leaves no rate: the domain, a strict disk's own threshold, or the rate limit; nothing where the lines don't tell."""
     check = joined.check
     if check.dirty >= (limits_of(joined).hard if has_limits(joined) else check.limit):
         return AT_HARD
-    is_at_own = joined.is_strict and has_limits(joined) and any(
-        strict_position(read, check.context_dirty).held is Held.AT_OWN for read in reads_of(joined))
-    return AT_OWN if is_at_own else TOO_SLOW
+    if not has_limits(joined):
+        return ""
+    if joined.is_strict and any(strict_position(read, check.context_dirty).held is Held.AT_OWN for read in reads_of(joined)):
+        return AT_OWN
+    if any(not check.ratelimit * ratio >> 10 for ratio in (strict.ratios(joined) if joined.is_strict else ratios(joined))):
+        return TOO_SLOW
+    return SEEMS_STRICT if seems_strict(joined) else ""
 
 
 def has_limits(joined: Joined) -> bool:

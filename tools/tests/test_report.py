@@ -23,12 +23,10 @@ from kernel.joining import join
 from kernel.numbers import Kind
 from kernel.reading import read_text
 from kernel.tracepoints import Balance, State
-from laws.decision import Rule
 from program.main import main
 from report import of_journal, of_kernel, page, script
 from report.causes import Cause, Causes
 from report.content import Axis, CheckText, Report
-from report.kernel_why import cause_of, rule_of
 from report.thinning import Peaks, Thinned
 
 from . import long_journal
@@ -258,27 +256,15 @@ class OfKernels(WithDirectory):
         self.assertIn("46689 pages in the domain, of a hard limit of 51200 and a setpoint of 44800", found["sentence"])
         self.assertIn("task rate limit           5348 pages/s          equal by the laws", found["why"])
 
-    def test_causes(self) -> None:
+    def test_the_table_of_causes(self) -> None:
         rows = kernel_content(STRICT, "7:0")["tables"][0]["rows"]
         why = "its strict disk is at its own threshold or above: its rate is 0, so the longest pause"
         self.assertEqual(rows[0][:5], ["wait", why, "21", "21", "4164"])
-        story = join(read_text(THREE))
-        kinds = {rule_of(it, story.text.clock) for it in story.checks}
-        self.assertEqual(kinds, {Rule.WANTED, Rule.RATE_IS_ZERO, Rule.PAID, Rule.LONGER, Rule.KEPT})
-        waiting = [it for it in story.checks if not it.check.rate]
-        self.assertEqual({cause_of(it, story.text.clock).why for it in waiting},
-                         {"the domain is at its hard limit or above: its rate is 0, so the longest pause"})
 
-    def test_a_check_of_a_cgroup_is_told_by_its_own_numbers(self) -> None:
-        waits = CHECK.replace("limit=51200 setpoint=44800 dirty=43964", "limit=500 setpoint=400 dirty=600").replace(
-            "task_ratelimit=113324", "task_ratelimit=0").replace("pause=0 period=0", "pause=200 period=200")
-        lines = [line_of("global_dirty_state", STATE), line_of("balance_dirty_pages", waits.replace("cgroup_ino=1", "cgroup_ino=77")), ""]
+    def test_a_disk_of_a_cgroup_has_a_part(self) -> None:
+        check = CHECK.replace("limit=51200 setpoint=44800 dirty=43964", "limit=500 setpoint=400 dirty=600")
+        lines = [line_of("global_dirty_state", STATE), line_of("balance_dirty_pages", check.replace("cgroup_ino=1", "cgroup_ino=77")), ""]
         content = kernel_content(self.file("text", "\n".join(lines)))
-        self.assertEqual([row[:2] for row in content["tables"][0]["rows"]],
-                         [["wait", "the domain is at its hard limit or above: its rate is 0, so the longest pause"]])
-        sentence = content["checks"][0]["sentence"]
-        self.assertIn("600 pages in the domain, of a hard limit of 500 and a setpoint of 400", sentence)
-        self.assertNotIn("freerun", sentence, "the state's line is of the global domain")
         panel = panel_of(content, "pages of disk 7:0 of cgroup 77")
         self.assertEqual(part_of(panel, "lines", "hard limit of its domain")["y"], [500, 500])
         self.assertEqual(panel_of(content, "pages of the global domain")["dots"], [])
