@@ -185,6 +185,7 @@ function paintLegends() {
     const block = element("div", undefined, "legend");
     block.style.top = top + "px";
     block.style.maxHeight = panel.height + GAP - 6 + "px";
+    block.append(element("b", panel.title));
     for (const kind of ["lines", "bars", "dots"]) for (const of of panel[kind]) block.append(legendRow(of, kind, at));
     if (!panel.rows.length) block.append(logButton(at));
     legends.append(block);

@@ -2,6 +2,7 @@
 from __future__ import annotations
 
 import unittest
+from typing import Any
 
 from kernel.joining import Joined, join
 from kernel.reading import read_text
@@ -17,14 +18,14 @@ CLOCK = Clock(250)
 
 
 class Causes(WithDirectory):
-    def check(self, state: str = STATE, strict: str = "", **fields: int) -> Joined:
+    def check(self, strict: str = "", **fields: int) -> Joined:
         """A check of these fields, after a state."""
         line = CHECK
         for name, value in fields.items():
             before = line
             line = " ".join(f"{name}={value}" if part.split("=")[0] == name else part for part in line.split(" "))
             self.assertTrue(line != before or f"{name}={value}" in before, name)
-        text = self.file("text", "\n".join([line_of("global_dirty_state", state), line_of("balance_dirty_pages", line), ""]))
+        text = self.file("text", "\n".join([line_of("global_dirty_state", STATE), line_of("balance_dirty_pages", line), ""]))
         return join(read_text(text, 250), [strict] if strict else []).checks[0]
 
     def why(self, joined: Joined) -> str:
@@ -32,14 +33,14 @@ class Causes(WithDirectory):
         return cause_of(joined, CLOCK).why
 
     def test_a_domain_at_its_hard_limit(self) -> None:
-        waits = {"task_ratelimit": 0, "pause": 200, "period": 200}
+        waits: dict[str, Any] = {"task_ratelimit": 0, "pause": 200, "period": 200}
         self.assertEqual(self.why(self.check(dirty=51200, **waits)), NO_RATE.format(why=AT_HARD))
         self.assertEqual(self.why(self.check(dirty=51199, **waits)), NOT_TOLD, "a page less, and no line tells why")
         below = self.check(dirty=38400, **waits)
         self.assertEqual(self.why(below), NO_RATE.format(why=SEEMS_STRICT))
-        own = self.check(strict="7:0", dirty=38400, wb_setpoint=10, wb_dirty=900, **waits)
-        self.assertEqual(self.why(own), NO_RATE.format(why=AT_OWN))
-        self.assertNotEqual(self.why(self.check(strict="7:0", dirty=38400, wb_setpoint=10, wb_dirty=5, **waits)), NO_RATE.format(why=AT_OWN))
+        own = {"strict": "7:0", "dirty": 38400, "wb_setpoint": 10, **waits}
+        self.assertEqual(self.why(self.check(wb_dirty=900, **own)), NO_RATE.format(why=AT_OWN))
+        self.assertNotEqual(self.why(self.check(wb_dirty=5, **own)), NO_RATE.format(why=AT_OWN))
 
     def test_the_pause_that_a_rate_asks_for(self) -> None:
         for period, think, pause, paused, rule in (
