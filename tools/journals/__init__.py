@@ -23,6 +23,7 @@ a run over threads is lawful for its trace says `wbsim audit`. A journal is read
     bound         the bound of a domain, where a journal has no steps that say it
     summary       by task, by device, by domain
     summary_text  that as tables to read
+    summary_json  that for other programs
     tables        csv
     series        long curves and bars in bounded memory
     scene         what is drawn, kept while a journal is read

@@ -14,7 +14,7 @@ from .bound import fixed_bound
 from .events import Decision
 from .scene import DomainScene, Scene
 from .sentences import counted
-from .series import Bar, Curve
+from .series import Bar, Series
 
 WIDTH, DOTS_AN_INCH = 11, 100
 DOT = 72 / DOTS_AN_INCH
@@ -303,7 +303,7 @@ def draw_rates(scene: Scene, domain: int, axes: Any) -> None:
 # ---- what several parts use
 
 
-def held(axes: Any, curve: Curve, scene: Scene, name: str, **look: Any) -> None:
+def held(axes: Any, curve: Series, scene: Scene, name: str, **look: Any) -> None:
     """A curve by moments, each value held until the next, and the last one to the end. Its name has its values."""
     moments, values = curve.points()
     if not moments:

@@ -12,7 +12,7 @@ from dataclasses import dataclass
 
 from laws.allowance import FIRST_ALLOWANCE, page_done
 from laws.counters import error_of
-from laws.decision import Task
+from laws.decision import Task, Verdict
 from laws.estimate import FIRST_RATE
 from laws.limits import ratelimit_pages
 from laws.sentences import Asked, lines
@@ -27,6 +27,21 @@ NOT_TOLD = "the numbers that its task had before aren't told in full"
 
 Rates = dict[tuple[int, int], tuple[int, int]]
 """Average and rate limit of an estimate, by its context and version."""
+
+
+@dataclass(frozen=True)
+class Reason:
+    """What a check was asked with, and what the laws decide of that: nothing where its line tells something else."""
+
+    asked: Asked
+    verdict: Verdict | None
+
+    def lines(self) -> Iterator[str]:
+        """The numbers, one line each."""
+        if self.verdict:
+            yield from lines(self.asked, self.verdict)
+        else:
+            yield NOT_TOLD
 
 
 @dataclass
@@ -71,6 +86,11 @@ class Reasons:
 
     def of(self, event: Event) -> Iterator[str]:
         """The lines that explain an event: none but for a check."""
+        reason = self.reason(event)
+        return iter(()) if reason is None else reason.lines()
+
+    def reason(self, event: Event) -> Reason | None:
+        """What is behind an event, which is to be taken once: nothing but for a check."""
         if isinstance(event, events.Limits) and not self._check_after and event.domain == 0:
             self._check_after = ratelimit_pages(event.thresh, self._trace.cpus)
         elif isinstance(event, events.Cpu):
@@ -82,8 +102,10 @@ class Reasons:
         elif isinstance(event, events.Count):
             self._pages = max(event.count, 0)
         elif isinstance(event, events.Check):
-            yield from self._check(event)
+            reason = self._check(event)
             self._reads = []
+            return reason
+        return None
 
     def _writer(self, task: int, context: int) -> Writer:
         left = min(FIRST_ALLOWANCE, self._trace.cap)
@@ -109,7 +131,7 @@ class Reasons:
     def _context(self, page: int) -> int:
         return self._trace.inodes[bisect_right(self._firsts, page) - 1].context
 
-    def _check(self, event: events.Check) -> Iterator[str]:
+    def _check(self, event: events.Check) -> Reason:
         writer = self._writer(event.task, event.context)
         reads = [domain_read(self._trace, read, event.context) for read in self._reads]
         average, rate_limit = self._rates.get((event.context, event.estimate), (FIRST_RATE, FIRST_RATE))
@@ -118,10 +140,8 @@ class Reasons:
         verdict = decide_for(is_strict, reads, self._pages, average, rate_limit, writer.task, event.now, self._error, self._trace.cap)
         told = Task(event.dirtied, event.allowance, event.paused_until)
         wanted = (event.decision.value, event.pause, event.left, told)
-        if (verdict.kind.value, verdict.pause, verdict.left, verdict.task) == wanted:
-            yield from lines(asked, verdict)
-        else:
-            yield NOT_TOLD
+        is_told = (verdict.kind.value, verdict.pause, verdict.left, verdict.task) == wanted
         writer.task, writer.left, writer.exceeded = told, event.left, verdict.exceeded
         if not self._to_write[event.task] and event.decision is not events.Decision.WAIT:
             self._end(event.task)
+        return Reason(asked, verdict if is_told else None)

@@ -5,6 +5,7 @@ pause from the last step of its check to the first step at its end or later.
 """
 from __future__ import annotations
 
+from collections.abc import Callable
 from dataclasses import dataclass
 
 from laws.strict import own_freerun
@@ -14,7 +15,7 @@ from .domain_reads import domain_read
 from .events import Age, Check, Count, Decision, End, Estimate, Event, Limits, Notice, Read, Step, Take
 from .listener import Listener
 from .moments import OPENING, Moments
-from .series import Bars, Curve, Passage
+from .series import Bars, Curve, Passage, Series
 from .setpoints import freerun, setpoint
 from .trace import Trace
 
@@ -39,24 +40,24 @@ class Nearest:
 class OwnScene:
     """What is drawn of a context of a strict device in a domain, as checks read it: its count, its threshold, its freerun."""
 
-    def __init__(self) -> None:
-        self.reads = Curve()
-        self.thresh = Curve()
-        self.freerun = Curve()
+    def __init__(self, curve: Callable[[], Series]) -> None:
+        self.reads = curve()
+        self.thresh = curve()
+        self.freerun = curve()
 
 
 class DomainScene:
     """What is drawn of one domain: limits by moments, the count and the bound on the axis that is drawn."""
 
-    def __init__(self) -> None:
-        self.counts = Curve()
-        self.bounds = Curve()
-        self.reads = Curve()
-        self.hard = Curve()
-        self.thresh = Curve()
-        self.setpoint = Curve()
-        self.freerun = Curve()
-        self.background = Curve()
+    def __init__(self, curve: Callable[[], Series]) -> None:
+        self.counts = curve()
+        self.bounds = curve()
+        self.reads = curve()
+        self.hard = curve()
+        self.thresh = curve()
+        self.setpoint = curve()
+        self.freerun = curve()
+        self.background = curve()
         self.greatest_hard = 0
         self.nearest: Nearest | None = None
 
@@ -79,17 +80,18 @@ class DomainScene:
 
 
 class Scene(Listener):
-    """Takes each event of a journal in turn, and keeps what the pictures need. Its curves don't grow with the journal."""
+    """Takes each event of a journal in turn, and keeps what the pictures need. Its curves, each made by `curve`, don't grow with the
+    journal."""
 
-    def __init__(self, trace: Trace, is_over_steps: bool) -> None:
+    def __init__(self, trace: Trace, is_over_steps: bool, curve: Callable[[], Series] = Curve) -> None:
         self.trace = trace
         self.is_over_steps = is_over_steps
-        self.domains = [DomainScene() for _ in range(trace.domains)]
+        self.domains = [DomainScene(curve) for _ in range(trace.domains)]
         self.pauses: dict[tuple[int, int, Decision], Bars] = {}
-        self.rate_limits: dict[int, Curve] = {}
-        self.bandwidths: dict[int, Curve] = {}
+        self.rate_limits: dict[int, Series] = {}
+        self.bandwidths: dict[int, Series] = {}
         self.own: dict[tuple[int, int], OwnScene] = {}
-        self.waiting: dict[tuple[int, int], Curve] = {}
+        self.waiting: dict[tuple[int, int], Series] = {}
         self.passage = Passage()
         self.steps = 0
         self.opening = OPENING
@@ -101,6 +103,7 @@ class Scene(Listener):
         self._reads: list[Read] = []
         self._pages = 0
         self._running: list[tuple[int, Found]] = []
+        self._curve = curve
         super().__init__({
             Limits: self._limits, Read: self._read, Count: self._count, Check: self._check, Estimate: self._estimate,
             Notice: self._notice, Age: self._leave, Take: self._leave, Step: self._step, End: self._end,
@@ -153,7 +156,7 @@ class Scene(Listener):
 
     def _weigh(self, read: Read, event: Check) -> None:
         found = domain_read(self.trace, read, event.context)
-        own = self.own.setdefault((event.context, read.domain), OwnScene())
+        own = self.own.setdefault((event.context, read.domain), OwnScene(self._curve))
         own.reads.add(event.now, self._pages)
         own.thresh.add(event.now, found.context_limit)
         own.freerun.add(event.now, own_freerun(found))
@@ -165,8 +168,8 @@ class Scene(Listener):
         self._last_pause[task, domain] = end
 
     def _estimate(self, event: Estimate) -> None:
-        self.rate_limits.setdefault(event.context, Curve()).add(event.at, event.rate_limit)
-        self.bandwidths.setdefault(event.context, Curve()).add(event.at, event.average)
+        self.rate_limits.setdefault(event.context, self._curve()).add(event.at, event.rate_limit)
+        self.bandwidths.setdefault(event.context, self._curve()).add(event.at, event.average)
 
     def _notice(self, event: Notice) -> None:
         self._wait(event.flusher, event.inode, 1)
@@ -179,7 +182,7 @@ class Scene(Listener):
         for domain in {0, own}:
             of = flusher, domain
             self._inodes[of] = max(self._inodes.get(of, 0) + change, 0)
-            self.waiting.setdefault(of, Curve()).add(self._moments.entries.moment, self._inodes[of])
+            self.waiting.setdefault(of, self._curve()).add(self._moments.entries.moment, self._inodes[of])
 
     def _step(self, event: Step) -> None:
         before = self._moments.now

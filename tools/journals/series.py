@@ -6,10 +6,23 @@ together doubles; of a curve the first, least, greatest and last value of each s
 from __future__ import annotations
 
 from bisect import bisect_left
-from typing import NamedTuple
+from typing import NamedTuple, Protocol
 
 MOST_PIECES = 4096
 """A picture is narrower, in dots."""
+
+
+class Series(Protocol):
+    """Values that hold from a place on until the next one, in bounded memory."""
+
+    def add(self, place: int, value: int) -> None:
+        """The value from this place on."""
+
+    def points(self) -> tuple[list[int], list[int]]:
+        """Places and values to draw, by place."""
+
+    def __len__(self) -> int:
+        """As many pieces as are kept."""
 
 
 class Curve:

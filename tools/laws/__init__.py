@@ -10,6 +10,7 @@
     pauses       the longest and the least pause, the poll interval
     decision     the decision of a check, with the numbers behind it
     strict       that of a check in a context of a strict device, and the bound of such a context
+    verdict_json a decision for other programs
     allowance    the allowance of a writer: when a check is due
     age          when an inode is due, and how many are noticed at once
 

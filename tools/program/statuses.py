@@ -23,7 +23,7 @@ MEANINGS = {
     Status.REFUSED: "a text that is refused (nothing is written)",
     Status.READ_FAULT: "read fault",
     Status.WRITE_FAULT: "write fault",
-    Status.NOT_THERE: "what the word needs isn't there, as matplotlib",
+    Status.NOT_THERE: "what the word needs isn't there, as matplotlib or plotly",
     Status.JOBS_FAILED: "a job that failed each time it was tried",
     Status.INTERRUPTED: "interrupted",
 }

@@ -17,6 +17,7 @@ WORDS = (
     Word("summary", "journals.words.summary", "tables by task, by device and by domain, and the ending"),
     Word("csv", "journals.words.csv", "steps, checks, limits, estimates and folds as tables into a directory"),
     Word("plot", "journals.words.plot", "a picture of each domain: counts and limits, pauses, estimates"),
+    Word("report", "report.words.report", "a page to look at in a browser: counts, limits, pauses and causes of a journal or a kernel's text"),
     Word("annotate", "journals.words.annotate", "each line with a sentence of what it says"),
     Word("why", "journals.words.why", "why a trace or a law text is refused: line, column and fault"),
     Word("explain", "laws.words.explain", "the decision of a law text, with every number behind it, one line each"),

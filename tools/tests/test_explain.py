@@ -1,6 +1,7 @@
 """The numbers behind a decision: of a law text, and of each check of a journal."""
 from __future__ import annotations
 
+import json
 import os
 import re
 import unittest
@@ -49,6 +50,33 @@ class OfALawText(WithDirectory):
         free = self.file("free", own.replace("context 850", "context 749"))
         self.assertEqual(rows(printed("explain", "--strict", free)[1])["decision"], "free")
         self.assertEqual(rows(printed("explain", free)[1])["decision"], "go", "the domain is above its freerun")
+
+    def test_for_other_programs(self) -> None:
+        status, out, err = printed("explain", "--json", LAW)
+        self.assertEqual((status, err), (0, ""))
+        told = json.loads(out)
+        wanted = {"text": LAW, "decision": "go", "pause": 8, "left": 250, "ratio": 1023, "rate": 25575, "longest": 88, "period": 9,
+                  "think": 1}
+        self.assertEqual({name: told[name] for name in wanted}, wanted)
+        self.assertEqual((told["least"]["pause"], told["task"]["ended"], told["rule"]),
+                         (6, 5008, "between the least and the longest pause: as it is"))
+        self.assertEqual({name: told["domains"][0][name] for name in ("freerun", "setpoint", "pages", "hard")},
+                         {"freerun": 14990, "setpoint": 17492, "pages": 17492, "hard": 19995})
+        self.assertEqual(told["domains"][0]["position"]["span"], 204800)
+
+    def test_what_was_not_needed_is_null(self) -> None:
+        other = self.file("law", WITHOUT_RATE)
+        told = json.loads(printed("explain", "--json", "--many", LAW, other)[1])
+        self.assertEqual([it["text"] for it in told], [LAW, other])
+        self.assertEqual((told[1]["decision"], told[1]["rate"], told[1]["period"], told[1]["error"]), ("exempt", 0, None, 96))
+        free = json.loads(printed("explain", "--json", self.file("free", WITHOUT_RATE.replace("19995 19995\n", "14990 19995\n")))[1])
+        self.assertEqual((free["decision"], free["ratio"], free["least"], free["domains"][0]["position"]), ("free", None, None, None))
+
+    def test_a_strict_device_for_other_programs(self) -> None:
+        own = WITHOUT_RATE.replace("context 90", "context 850").replace("19995 19995 19995", "19995 17492 1000")
+        told = json.loads(printed("explain", "--json", "--strict", self.file("law", own))[1])
+        self.assertEqual((told["is_strict"], told["ratio"], told["domains"][0]["own_freerun"]), (True, 957, 749))
+        self.assertEqual(told["domains"][0]["position"]["ratio"], 957)
 
     def test_many(self) -> None:
         other = self.file("law", WITHOUT_RATE)

@@ -1,15 +1,20 @@
-"""The manual page is well formed, and says what the program and its examples say."""
+"""The manual pages are well formed, and say what the programs and their examples say."""
 from __future__ import annotations
 
+import argparse
 import os
 import re
 import shutil
 import subprocess
 import unittest
+from importlib import import_module
+
+from program.statuses import MEANINGS
+from program.words import WORDS
 
 from .given import EXAMPLES, ROOT
 
-MANUAL = os.path.join(ROOT, "docs", "wbsim.1")
+MANUALS = ("wbsim.1", "wb.1")
 
 
 def content(*path: str) -> str:
@@ -21,8 +26,10 @@ def content(*path: str) -> str:
 class Manual(unittest.TestCase):
     @unittest.skipUnless(shutil.which("mandoc"), "mandoc isn't there: the manual page is not linted")
     def test_mandoc_finds_nothing(self) -> None:
-        done = subprocess.run(["mandoc", "-Tlint", "-W", "style", MANUAL], capture_output=True, text=True, check=False)
-        self.assertEqual((done.returncode, done.stdout), (0, ""))
+        for name in MANUALS:
+            words = ["mandoc", "-Tlint", "-W", "style", os.path.join(ROOT, "docs", name)]
+            done = subprocess.run(words, capture_output=True, text=True, check=False)
+            self.assertEqual((done.returncode, done.stdout), (0, ""), name)
 
     def test_it_has_each_text_of_a_status(self) -> None:
         texts = re.findall(r"^\| \d+ \| `(wbsim: [^`]*)` \|", content("docs", "FORMATS.md"), re.MULTILINE)
@@ -40,3 +47,37 @@ class Manual(unittest.TestCase):
     def test_its_decision_is_that_of_the_example(self) -> None:
         with open(os.path.join(EXAMPLES, "decision.out"), encoding="ascii") as file:
             self.assertIn(file.read(), content("docs", "wbsim.1"))
+
+
+def parsers() -> dict[str, argparse.ArgumentParser]:
+    """The parser of each word of `tools/wb`, and in place of a word that has parts that of each part."""
+    found: dict[str, argparse.ArgumentParser] = {}
+    for word in WORDS:
+        parser = argparse.ArgumentParser()
+        import_module(word.module).add(parser)
+        parts = [action for action in parser._actions if isinstance(action, argparse._SubParsersAction)]
+        found |= {f"{word.name} {name}": part for action in parts for name, part in action.choices.items()} or {word.name: parser}
+    return found
+
+
+class ManualOfTools(unittest.TestCase):
+    def setUp(self) -> None:
+        self.text = content("docs", "wb.1")
+        names = r"\n\.It Cm ([a-z-]+(?: [a-z]+)?)(?= (?:Ar|Fl)|\n)"
+        pieces = re.split(names, self.text)
+        self.words = dict(zip(pieces[1::2], pieces[2::2]))
+
+    def test_it_has_the_words_of_the_program(self) -> None:
+        self.assertEqual(sorted(self.words), sorted(parsers()))
+
+    def test_it_has_each_option_in_its_word(self) -> None:
+        """But for those of many words, which stand at its head."""
+        for word, parser in parsers().items():
+            options = {name for action in parser._actions for name in action.option_strings if name.startswith("--")}
+            options -= {"--help", "--force"}
+            told = {f"--{name}" for name in re.findall(r"Fl -([a-z]+(?:-[a-z]+)*)", self.words[word])}
+            self.assertLessEqual(options, told, word)
+
+    def test_it_has_each_status(self) -> None:
+        for status, meaning in MEANINGS.items():
+            self.assertIn(f"\n.It {status.value}\n{meaning}\n", self.text)

@@ -1,15 +1,19 @@
 """What a journal comes to."""
 from __future__ import annotations
 
+import json
 import unittest
+from typing import Any
 
 from journals.events import Decision, End, Totals
 from journals.reader import Reader
 from journals.summary import Summary
+from journals.summary_json import summary_json
 from journals.summary_text import lines
 from journals.trace_reader import read_trace
 
-from .given import EXAMPLES, events_of, heard, text, trace_of
+from .given import EXAMPLES, events_of, examples, heard, text, text_path, trace_of
+from .test_kernel import printed
 
 
 def summary_of(name: str) -> Summary:
@@ -73,3 +77,44 @@ class Summaries(unittest.TestCase):
         self.assertNotIn("differs", "".join(lines(summary)))
         summary.take(Totals(7, 1))
         self.assertIn("differs: the totals are 7 and 1, and the entries 6 and 1", list(lines(summary)))
+
+
+class ForOtherPrograms(unittest.TestCase):
+    def told(self, name: str) -> Any:
+        """What `summary --json` prints of a journal of texts/."""
+        status, out, err = printed("summary", "--json", text_path(f"{name}.trace"), text_path(f"{name}.journal"))
+        self.assertEqual((status, err), (0, ""))
+        return json.loads(out)
+
+    def test_numbers_of_a_replay(self) -> None:
+        told = self.told("throttled")
+        self.assertEqual((told["ending"], told["steps"], told["latest"], told["ticks_a_second"]), ("done", 122, 236, 1000))
+        self.assertEqual({name: told["tasks"][1][name] for name in ("task", "pauses", "longest_pause", "paused", "checks")},
+                         {"task": 1, "pauses": 2, "longest_pause": 7, "paused": 12,
+                          "checks": {"free": 0, "go": 1, "exempt": 1, "wait": 1}})
+        self.assertEqual([(it["greatest"], it["greatest_at"], it["bound_there"], it["least_distance"]) for it in told["domains"]],
+                         [(5, 87, 423, 418), (2, 36, 155, 153)])
+
+    def test_what_is_not_told_is_null(self) -> None:
+        told = self.told("threads")
+        domain = told["domains"][0]
+        self.assertEqual([domain[name] for name in ("greatest", "greatest_at", "bound_there", "least_distance", "nearest")], [None] * 5)
+        self.assertEqual((domain["greatest_read"], domain["bound"]), (41, 399902 + 2 * 32 + 2 * 1024 + 2 * 32 * 2))
+        self.assertEqual((told["steps"], told["ending"]), (0, "faulted"))
+
+    def test_its_numbers_are_those_of_the_tables(self) -> None:
+        for trace_path, journal_path in examples():
+            trace = read_trace(trace_path)
+            summary = heard(Summary(trace), Reader(journal_path, trace).events())
+            told, tables = json.loads(json.dumps(summary_json(summary))), "\n".join(lines(summary))
+            of_task = [[it["task"], it["fresh"], it["already"], sum(it["checks"].values()), *it["checks"].values(), it["pauses"],
+                        it["longest_pause"], it["paused"]] for it in told["tasks"]]
+            of_device = [[it[name] for name in ("device", "batches", "pages", "longest_flight", "completions", "faults", "given_back",
+                                                "absorbed", "estimates")] for it in told["devices"]]
+            of_domain = [[it[name] for name in ("domain", "greatest", "greatest_at", "bound_there", "least_distance", "nearest",
+                                                "publications", "periods")] for it in told["domains"]]
+            rows = [[int(cell) for cell in line.split()] for line in tables.splitlines() if line.replace(" ", "").isdigit()]
+            for row in of_task + of_device + (of_domain if told["steps"] else []):
+                self.assertIn(row, rows, journal_path)
+            for it in told["strict"]:
+                self.assertIn([it["context"], it["most"], it["bound"], it["bound"] - it["most"]], rows)

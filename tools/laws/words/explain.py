@@ -2,6 +2,7 @@
 from __future__ import annotations
 
 import argparse
+import json
 
 from journals.law_reader import LawInput, read_law
 from program.errors import OtherWords
@@ -9,10 +10,11 @@ from program.output import held_text
 from program.statuses import Status
 
 from ..counters import error_of
-from ..decision import DomainRead, Task
+from ..decision import DomainRead, Task, Verdict
 from ..limits import Limits
 from ..sentences import Asked, lines
 from ..strict import decide_for
+from ..verdict_json import verdict_json
 
 
 def add(command: argparse.ArgumentParser) -> None:
@@ -20,6 +22,7 @@ def add(command: argparse.ArgumentParser) -> None:
     command.add_argument("texts", metavar="LAWTEXT", nargs="+", help="what was read of a machine, '-' for standard input")
     command.add_argument("--strict", action="store_true", help="as in a context of a strict device")
     command.add_argument("--many", action="store_true", help="several texts, one after another")
+    command.add_argument("--json", action="store_true", help="the numbers for other programs, as JSON; with --many a list")
 
 
 def run(given: argparse.Namespace) -> Status:
@@ -28,6 +31,10 @@ def run(given: argparse.Namespace) -> Status:
         raise OtherWords("several law texts are explained with --many")
     laws = [(path, read_law(path)) for path in given.texts]
     with held_text() as text:
+        if given.json:
+            told = [{"text": path, **verdict_json(*decided(law, given.strict))} for path, law in laws]
+            print(json.dumps(told if given.many else told[0], indent=1), file=text)
+            return Status.GOOD
         for place, (path, law) in enumerate(laws):
             if given.many:
                 print(f"{'' if place == 0 else chr(10)}{path}:", file=text)
@@ -38,8 +45,13 @@ def run(given: argparse.Namespace) -> Status:
 
 def explained(law: LawInput, is_strict: bool = False) -> list[str]:
     """The lines of a law text, for a strict device or another."""
+    return list(lines(*decided(law, is_strict)))
+
+
+def decided(law: LawInput, is_strict: bool) -> tuple[Asked, Verdict]:
+    """What a law text asks, and what is decided."""
     reads = [DomainRead(Limits(it.thresh, it.background, it.hard), it.pages, it.context_thresh) for it in law.domains]
     task = Task(law.dirtied, law.allowance, law.paused_until)
     asked = Asked(reads, law.pages, law.average, law.rate_limit, task, law.now, error_of(law.cpus), is_strict)
     verdict = decide_for(is_strict, reads, law.pages, law.average, law.rate_limit, task, law.now, asked.error, law.cap)
-    return list(lines(asked, verdict))
+    return asked, verdict

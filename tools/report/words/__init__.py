@@ -1,0 +1,1 @@
+"""The word `tools/wb report`."""
