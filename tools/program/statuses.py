@@ -13,6 +13,7 @@ class Status(IntEnum):
     READ_FAULT = 3
     WRITE_FAULT = 4
     NOT_THERE = 5
+    UNEXPLAINED = 7
     INTERRUPTED = 130
 
 
@@ -23,6 +24,7 @@ MEANINGS = {
     Status.READ_FAULT: "read fault",
     Status.WRITE_FAULT: "write fault",
     Status.NOT_THERE: "what the word needs isn't there, as matplotlib",
+    Status.UNEXPLAINED: "a kernel's number is unexplained ('kernel compare' alone)",
     Status.INTERRUPTED: "interrupted",
 }
 

@@ -12,8 +12,7 @@ from program.output import Staging, held_text, publish
 from program.statuses import Status
 
 from ..beside import of_kernel, of_replay, rows
-from ..joining import join
-from .texts import add_text, opened
+from .texts import add_text, joined
 
 FORMATS = ("png", "svg", "pdf")
 
@@ -33,7 +32,7 @@ def run(given: argparse.Namespace) -> Status:
     """Prints the table, and draws the picture where one is wanted."""
     if given.picture and not picture.is_there():
         raise NotThere(f"{sys.executable} has no matplotlib (Debian's package is python3-matplotlib)")
-    story = join(opened(given))
+    story = joined(given)
     trace = read_trace(given.trace)
     spans = [of_kernel(story), of_replay(trace, Reader(given.journal, trace).events())]
     if not spans[1].levels:
