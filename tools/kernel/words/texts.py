@@ -9,7 +9,8 @@ from ..reading import SECONDS
 
 def add_text(command: argparse.ArgumentParser, is_last: bool = False) -> None:
     """A part reads a text; where a word before it may have none of its own, that one may have taken it."""
-    command.add_argument("text", metavar="TEXT", nargs="?" if is_last else None, help="what trace or trace_pipe of tracefs, 'trace-cmd report' or 'perf script' "
+    command.add_argument("text", metavar="TEXT", nargs="?" if is_last else None,
+                         help="what trace or trace_pipe of tracefs, 'trace-cmd report' or 'perf script' "
                          "printed, '-' for standard input")
     command.add_argument("--hz", type=int, choices=SECONDS, help="ticks a second of the kernel (else as its spans say)")
 
