@@ -11,6 +11,8 @@ class Word:
     name: str
     module: str
     about: str
+    commands: tuple[str, ...] = ()
+    """Its parts that take a command after `--`."""
 
 
 WORDS = (
@@ -23,6 +25,7 @@ WORDS = (
     Word("sweep", "search.words.sweep", "one parameter of a trace over values: a replay for each, a table and a picture"),
     Word("nearest", "search.words.nearest", "the interleaving of a trace that comes nearest to a bound"),
     Word("from-machine", "machine.words.from_machine", "a trace's first lines from a machine in use, its tasks from a job file of fio"),
-    Word("kernel", "kernel.words.kernel", "a running kernel's tracepoints beside the laws: explain, compare, plot, trace, beside, record"),
+    Word("kernel", "kernel.words.kernel", "a running kernel's tracepoints beside the laws: explain, compare, plot, trace, beside, record",
+         ("record",)),
 )
 """In the order of the help."""

@@ -11,7 +11,7 @@ PARTS = {
     "plot": (plot, "a picture of each disk: its pages and limits, task rate limits, pauses, kernel and laws in two colours"),
     "trace": (trace, "a trace of a machine like the one that printed the text, for replay"),
     "beside": (beside, "what the kernel did beside what a replay of such a trace did: a table, and a picture"),
-    "record": (record, "as root: takes a text on a loop device of its own, and puts all back; --dry-run says what it does"),
+    "record": (record, "as root: takes a text while whatever runs there runs, or a command; --dry-run says what it does"),
 }
 
 
