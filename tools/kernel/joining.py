@@ -12,7 +12,7 @@ import gc
 import sys
 from array import array
 from collections import deque
-from collections.abc import Callable, Collection, Iterator
+from collections.abc import Callable, Collection, Iterable, Iterator
 from dataclasses import dataclass, field
 from typing import Protocol, TypeVar, Union
 
@@ -141,7 +141,7 @@ class Joiner:
 
         self.tasks: dict[str, TaskSoFar] = {}
         self.sampled: dict[str, Estimated] = {}
-        self.open: dict[str, list[Joined | Estimated]] = {}
+        self.open: dict[str, deque[Joined | Estimated]] = {}
         """By disk, what waits for its next estimate."""
 
         self.waiting: deque[Joined | Estimated] = deque()
@@ -152,24 +152,28 @@ class Joiner:
         self.plain = Plain()
         self.scales: dict[str, Scale] = {}
 
-    def take(self, line: Line | Lost) -> None:
-        """One line more."""
-        kind = type(line)
-        if kind is State:
-            self.take_state(line)
-        elif kind is Balance:
-            self.take_check(line)
-        elif kind is Sample:
-            self.take_sample(line)
-        else:
-            for task in self.tasks.values():
-                task.read = task.own = None
+    def take(self, lines: Iterable[Line | Lost]) -> None:
+        """All lines."""
+        take_state, take_check = self.take_state, self.take_check
+        for line in lines:
+            kind = type(line)
+            if kind is State:
+                take_state(line)  # type: ignore[arg-type]
+            elif kind is Balance:
+                take_check(line)  # type: ignore[arg-type]
+            elif kind is Sample:
+                self.take_sample(line)  # type: ignore[arg-type]
+            else:
+                for task in self.tasks.values():
+                    task.read = task.own = None
 
     def take_state(self, line: State) -> None:
         """A state of the domain: if its task reads another one before a check, it was free."""
         self.last_state = line
-        self.plain.is_raised(line)
-        task = self.tasks.get(line.task)
+        plain = self.plain.state
+        if plain is None or line[7] != plain[7] or line[6] != plain[6]:
+            self.plain.is_raised(line)
+        task = self.tasks.get(line[1])
         if task is None:
             task = self.tasks[line.task] = TaskSoFar()
         elif (free := task.read) is not None:
@@ -217,7 +221,8 @@ class Joiner:
         joined = Joined(line, task.read, last, is_own, is_strict, task.last, task.free)
         if line.is_of_cgroup:
             joined.scale = self.scales.setdefault(line.disk, Scale())
-        joined.is_raised = task.read is not None and self.plain.is_raised(task.read)
+        state, plain = task.read, self.plain.state
+        joined.is_raised = state is not None and plain is not None and state[7] != plain[7] and self.plain.is_raised(state)
         if is_own and last:
             last.check = joined
         if task.free is not None:
@@ -228,7 +233,7 @@ class Joiner:
 
     def wait(self, disk: str, item: Joined | Estimated) -> None:
         """An item more that waits."""
-        self.open.setdefault(disk, []).append(item)
+        self.open.setdefault(disk, deque()).append(item)
         self.waiting.append(item)
         if len(self.waiting) > MOST_WAITING:
             self.give(1)
@@ -237,7 +242,10 @@ class Joiner:
         """Gives on what is known in full, and at least so many."""
         while self.waiting and (at_least > 0 or self.waiting[0].after is not None):
             at_least -= 1
-            self.give_one(self.waiting.popleft())
+            item = self.waiting.popleft()
+            if item.after is None:
+                self.open[item.check.disk if isinstance(item, Joined) else item.sample.disk].popleft()
+            self.give_one(item)
 
     def give_one(self, item: Joined | Estimated) -> None:
         """One item. What its task did before that is of no use any more."""
@@ -305,14 +313,19 @@ def take_all(lines: Iterator[Line | Lost], joiner: Joiner, text: Text) -> None:
     is_collecting = gc.isenabled()
     gc.disable()
     try:
-        for line in lines:
-            joiner.take(line)
-            if joiner.is_kept and not isinstance(line, Lost):
-                text.lines.append(line)
+        joiner.take(kept(lines, text) if joiner.is_kept else lines)
         joiner.end()
     finally:
         if is_collecting:
             gc.enable()
+
+
+def kept(lines: Iterable[Line | Lost], text: Text) -> Iterator[Line | Lost]:
+    """The lines, which are kept too."""
+    for line in lines:
+        if not isinstance(line, Lost):
+            text.lines.append(line)
+        yield line
 
 
 def look(text: Text, strict: Collection[str]) -> None:

@@ -153,9 +153,8 @@ def read_common(number: int, text: str) -> Line | None:
     if "global_dirty_state: " in text:
         found = WHOLE_STATE(text)
         if found:
-            task, cpu, time, dirty, writeback, background, thresh, limit, dirtied, written = found.groups()
-            return new(State, (number, task, int(cpu), float(time), int(dirty), int(writeback), int(background), int(thresh), int(limit),
-                               int(dirtied), int(written)))
+            task, cpu, time, *pages = found.groups()
+            return new(State, (number, task, int(cpu), float(time), *map(int, pages)))
     elif "balance_dirty_pages: " in text:
         found = WHOLE_BALANCE(text)
         if found:

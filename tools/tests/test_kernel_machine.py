@@ -35,7 +35,7 @@ class Pictures(WithDirectory):
 
         found = {(it.line, it.kind): it for it in numbers_of(STRICT, "7:0")}
         figure = drawing.compose(story_of(STRICT, "7:0"), "7:0", found, "strict", 0.0, math.inf)
-        self.assertEqual(figure.axes[1].get_title(loc="left"), "task rate limits: 160 of 160 equal")
+        self.assertEqual(figure.axes[1].get_title(loc="left"), "task rate limits, 160: 160 equal")
         status, out, err = printed("kernel", "plot", "--to", "0.5", "--strict", "7:0", STRICT, self.directory)
         self.assertEqual((status, out, err), (0, os.path.join(self.directory, "strict-disk-disk-7-0.png") + "\n", ""))
 

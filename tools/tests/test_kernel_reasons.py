@@ -5,8 +5,9 @@ import os
 import re
 import unittest
 from collections.abc import Callable
+from unittest import mock
 
-from kernel import averages
+from kernel import averages, joining
 from kernel.comparing import Comparing, Group, compared, numbers
 from kernel.domains import FOLD
 from kernel.estimates import MOVED
@@ -14,7 +15,7 @@ from kernel.joining import story_of, told
 from kernel.numbers import Kind, Number, Verdict
 from kernel.raised import Plain, is_raised
 from kernel.scale import UNIT, Scale
-from kernel.tracepoints import State
+from kernel.tracepoints import Sample, State
 from laws.clock import Clock
 from laws.estimate import moved, next_average
 
@@ -178,6 +179,14 @@ class Groups(unittest.TestCase):
             streamed = told(path, None, (), Comparing)
             for group, tally in compared(story_at(path)).tallies.items():
                 self.assertEqual([tally.of(kind) for kind in Kind], [streamed.tallies[group].of(kind) for kind in Kind], (path, group))
+
+    def test_where_no_estimate_comes_nothing_waits_for_long(self) -> None:
+        with mock.patch.object(joining, "MOST_WAITING", 10):
+            found = told(THREE, None, (), Comparing)
+            self.assertEqual((found.checks, found.tallies[Group.PLAIN].of(Kind.COUNT)[:2]), (1981, [1970, 11]))
+            joiner = joining.Joiner(Comparing(story_at(THREE).text))
+            joiner.take(line for line in story_at(THREE).text.lines if not isinstance(line, Sample))
+            self.assertEqual((len(joiner.waiting), sum(map(len, joiner.open.values()))), (10, 10))
 
     def test_which_thresholds_are_raised(self) -> None:
         def state(thresh: int, background: int) -> State:
