@@ -33,6 +33,9 @@ LINES = (
 )
 """The lines in their order; the last one may be left out."""
 
+WIDE = {CAP: Range("cap", 1, 2**34), PAGES: Range("number of dirty pages", 0, MOST_LIMIT)}
+"""What a kernel prints may be more than `wbsim law` takes: an allowance has no cap there, and a disk may have more pages."""
+
 FIELDS = {
     "cpus": ("cpus",), "cap": ("cap",), "now": ("now",), "task": ("dirtied", "allowance", "paused_until"),
     "estimate": ("average", "rate_limit"), "context": ("pages",),
@@ -67,14 +70,14 @@ class LawInput:
     domains: list[DomainReading] = field(default_factory=list)
 
 
-def read_law(path: str) -> LawInput:
-    """The law text of a file. Raises `Fault` where it is none."""
-    return law_of(read_whole(path))
+def read_law(path: str, is_wide: bool = False) -> LawInput:
+    """The law text of a file, or one with numbers as large as kernels print them. Raises `Fault` where it is none."""
+    return law_of(read_whole(path), is_wide)
 
 
-def law_of(text: WholeText) -> LawInput:
+def law_of(text: WholeText, is_wide: bool = False) -> LawInput:
     """What a law text says. Raises `Fault` where it is none."""
-    reader = LawReader()
+    reader = LawReader(is_wide)
     text.give(reader)
     if not reader.law.domains:
         wanted = LINES[reader.place][0]
@@ -85,9 +88,10 @@ def law_of(text: WholeText) -> LawInput:
 class LawReader:
     """Takes a law text line by line."""
 
-    def __init__(self) -> None:
+    def __init__(self, is_wide: bool = False) -> None:
         self.law = LawInput()
         self.place = 0
+        self.is_wide = is_wide
 
     def spell(self, text: str) -> None:
         """Raises `Refused` where the text isn't spelled as the next line."""
@@ -97,6 +101,8 @@ class LawReader:
         """One line. Raises `Refused`."""
         numbers = self._numbers(text)
         word, ranges = LINES[self.place]
+        if self.is_wide:
+            ranges = tuple(WIDE.get(it, it) for it in ranges)
         found = next(((place, said) for place, said in enumerate(map(Range.fault, ranges, numbers)) if said), None)
         if word == "domain":
             found = min(filter(None, (found, out_of_order(*numbers[:3]))), default=None)

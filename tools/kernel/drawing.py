@@ -7,10 +7,12 @@ from __future__ import annotations
 from collections.abc import Sequence
 from typing import Any
 
-from laws.limits import freerun_of
+from laws.limits import Limits, freerun_of, setpoint_of
 
+from . import cgroups
+from .domains import is_by_cgroup
 from .joining import Joined, Story
-from .numbers import Kind, Number
+from .numbers import Kind, Number, Verdict
 from .reads import limits_of
 
 WIDTH, DOTS_AN_INCH = 11, 100
@@ -59,16 +61,25 @@ def draw_pages(checks: Sequence[Joined], axes: Any, first: float) -> None:
     def held(values: Sequence[int], **look: Any) -> None:
         axes.step(times, values, where="post", **look)
 
-    held([limits_of(it).hard for it in checks], color=LIMIT, label="hard limit", linewidth=1.2)
-    held([it.check.setpoint for it in checks], color=SETPOINT, label="setpoint", linewidth=1.2)
-    held([freerun_of(limits_of(it)) for it in checks], color=FREERUN, label="freerun", linewidth=1.2)
+    limits = [own_limits(it) for it in checks]
+    held([it.hard for it in limits], color=LIMIT, label="hard limit", linewidth=1.2)
+    held([setpoint_of(it) for it in limits], color=SETPOINT, label="setpoint", linewidth=1.2)
+    held([freerun_of(it) for it in limits], color=FREERUN, label="freerun", linewidth=1.2)
     held([it.check.context_setpoint for it in checks], color=OWN_SETPOINT, label="setpoint of the disk", linewidth=1.0, linestyle="--")
-    held([it.check.dirty for it in checks], color=DOMAIN, label="pages of all disks", linewidth=1.0)
+    is_own = any(map(is_by_cgroup, checks))
+    held([it.check.dirty for it in checks], color=DOMAIN, label="pages of the domain" if is_own else "pages of all disks", linewidth=1.0)
     held([it.check.context_dirty for it in checks], color=KERNEL, label="pages of the disk", linewidth=1.0)
     axes.set_ylabel("pages")
     axes.ticklabel_format(axis="y", style="plain", useOffset=False)
     axes.set_ylim(bottom=0)
     beside_axes(axes)
+
+
+def own_limits(joined: Joined) -> Limits:
+    """The limits of the domain by which a check was made: of its cgroup's own where a threshold of that gives its rate."""
+    if is_by_cgroup(joined) and (own := cgroups.solved(joined)) and own.read:
+        return own.read.limits
+    return limits_of(joined)
 
 
 def draw_rates(checks: Sequence[Joined], found: Numbers, axes: Any, first: float) -> None:
@@ -89,8 +100,8 @@ def draw_rates(checks: Sequence[Joined], found: Numbers, axes: Any, first: float
         axes.set_ylabel("pages a second")
         axes.ticklabel_format(axis="y", style="plain", useOffset=False)
     axes.set_ylim(bottom=-0.02 * axes.get_ylim()[1] if axes.get_yscale() == "linear" else -20)
-    equal = sum(it.kernel == it.laws for _, it in rates)
-    axes.set_title(f"task rate limits: {equal} of {len(rates)} equal", fontsize=9, loc="left")
+    said = ", ".join(f"{many} {verdict.value}" for verdict in Verdict if (many := sum(it.verdict is verdict for _, it in rates)))
+    axes.set_title(f"task rate limits, {len(rates)}: {said}", fontsize=9, loc="left")
     beside_axes(axes)
 
 

@@ -1,51 +1,78 @@
 """Each check with the lines that it belongs to.
 
 An estimate's line tells bandwidth and average as they were before its update. So the check that made the update, whose line comes
-right after, was decided by the average in that line; and every later one by what the *next* line of the disk tells, unless an update
-without a line came between.
+right after, was decided by the average in that line; and every later one by the average that the update made, or by one that a later
+update without a line made, of which the *next* line of the disk tells the last.
+
+A text is joined as it is read: what is known in full is given on, in the order of the lines, and dropped.
 """
 from __future__ import annotations
 
-from collections.abc import Collection
+import gc
+import sys
+from array import array
+from collections import deque
+from collections.abc import Callable, Collection, Iterable, Iterator
 from dataclasses import dataclass, field
+from typing import Protocol, TypeVar, Union
 
-from .reading import Text
-from .tracepoints import Balance, Sample, State
+from laws.clock import Clock
+from laws.pauses import Least
+from program.errors import Cause, Fault, OtherWords
+
+from .raised import Plain
+from .scale import Scale
+from .reading import SECONDS, Lost, OtherClock, Text, guessed_second, lines_of, opened
+from .tracepoints import Balance, Line, Sample, State
+
+MOST_WAITING = 20_000
+"""Checks and estimates that wait for the next estimate of a disk. Where more do, the first one goes on without: an estimate comes five times a
+second where there are checks."""
+
+SAME_UPDATE = 0.001
+"""Seconds within which the two lines of one update of a cgroup's disk are printed."""
 
 
-@dataclass
 class Joined:
     """A check, with the domain's state that it read, the estimates around it, and what its task did before."""
 
-    check: Balance
-    state: State | None
-    before: Sample | None
-    """The last estimate of its disk."""
+    __slots__ = ("check", "state", "before", "last", "is_own", "is_strict", "is_raised", "after", "previous", "free",
+                 "bounds", "first_bounds", "scale")
 
-    is_own: bool
-    """Whether this check made that estimate's update."""
+    def __init__(self, check: Balance, state: State | None, last: Estimated | None, is_own: bool, is_strict: bool,
+                 previous: Joined | None = None, free: State | None = None) -> None:
+        self.check = check
+        self.state = state
+        self.last = last
+        self.before = last.sample if last else None
+        """The last estimate of its disk."""
 
-    is_strict: bool
-    """Whether its disk is strict."""
+        self.is_own = is_own
+        """Whether this check made the update of that estimate."""
 
-    after: Sample | None = None
-    """The next estimate of its disk."""
+        self.is_strict = is_strict
+        """Whether its disk is strict."""
 
-    previous: Joined | None = None
-    """The check of its task before."""
+        self.is_raised = False
+        """Whether its thresholds are raised, as for a task of a real-time class."""
 
-    frees: list[State] = field(default_factory=list)
-    """States that its task read between the two, and was free."""
+        self.after: Sample | None = None
+        """The next estimate of its disk."""
 
-    def averages_of_rate(self) -> list[int]:
-        """The averages by which the rate may have been found, the likelier first."""
-        if self.is_own and self.before:
-            return [self.before.average]
-        return self.averages_of_pause()
+        self.previous = previous
+        """The check of its task before."""
 
-    def averages_of_pause(self) -> list[int]:
-        """The averages by which the pause may have been found: those after an update of its own, the likelier first."""
-        return [sample.average for sample in (self.after, self.before) if sample]
+        self.free = free
+        """The last state that its task read between the two, and was free."""
+
+        self.bounds: list[tuple[int, Least]] | None = None
+        """For each average that it may have been decided by, the longest pause and the least one, once they are computed."""
+
+        self.first_bounds: tuple[int, Least] | None = None
+        """The same for the likeliest average alone."""
+
+        self.scale: Scale | None = None
+        """Of its cgroup, where it is in one."""
 
 
 @dataclass
@@ -57,73 +84,264 @@ class Free:
     """Whether the disk of its task's next check, or else of the last one, is strict."""
 
 
-@dataclass
 class Estimated:
     """An estimate's line, with the one before and the one after, and the check that made it."""
 
-    sample: Sample
-    before: Sample | None
-    after: Sample | None = None
-    check: Joined | None = None
+    __slots__ = ("sample", "before", "after", "check", "first", "is_first", "written")
+
+    def __init__(self, sample: Sample, before: Sample | None, first: Sample | None = None) -> None:
+        self.sample = sample
+        self.before = before
+        self.after: Sample | None = None
+        self.check: Joined | None = None
+        self.first = first
+        """The line before of the same update, where a cgroup's disk has two: this is the one by the cgroup's own domain."""
+
+        self.is_first = False
+        """Whether another line of the same update follows."""
+
+        self.written: tuple[int, int] | None = None
+        """Pages that the machine wrote from the line before to this one, and from this one to the next."""
+
+
+Item = Union[Joined, Estimated, Free]
+
+
+class Taker(Protocol):
+    """Takes what is joined, in the order of the lines."""
+
+    def free(self, free: Free) -> None: ...
+    def check(self, joined: Joined) -> None: ...
+    def estimate(self, estimated: Estimated) -> None: ...
+
+
+@dataclass
+class TaskSoFar:
+    """What is known of a task."""
+
+    read: State | None = None
+    free: State | None = None
+    """The last state that it read since its last check, and was free."""
+
+    frees: array[int] = field(default_factory=lambda: array("q"))
+    """All such states: line, pages, background threshold, threshold, limit of each. Most tasks that have many write nothing themselves."""
+
+    last: Joined | None = None
+    own: Estimated | None = None
+
+
+class Joiner:
+    """Takes the lines of a text, of which these disks are strict, in all cgroups."""
+
+    def __init__(self, taker: Taker, strict: Collection[str] = (), is_kept: bool = False) -> None:
+        self.taker = taker
+        self.strict = strict
+        self.is_kept = is_kept
+        """Whether the taker keeps each item, and wants to know what a task did before."""
+
+        self.tasks: dict[str, TaskSoFar] = {}
+        self.sampled: dict[str, Estimated] = {}
+        self.open: dict[str, deque[Joined | Estimated]] = {}
+        """By disk, what waits for its next estimate."""
+
+        self.waiting: deque[Joined | Estimated] = deque()
+        self.written: dict[str, int] = {}
+        """By disk, the pages that the machine had written at its last estimate."""
+
+        self.last_state: State | None = None
+        self.plain = Plain()
+        self.scales: dict[str, Scale] = {}
+
+    def take(self, lines: Iterable[Line | Lost]) -> None:
+        """All lines."""
+        take_state, take_check = self.take_state, self.take_check
+        for line in lines:
+            kind = type(line)
+            if kind is State:
+                take_state(line)  # type: ignore[arg-type]
+            elif kind is Balance:
+                take_check(line)  # type: ignore[arg-type]
+            elif kind is Sample:
+                self.take_sample(line)  # type: ignore[arg-type]
+            else:
+                for task in self.tasks.values():
+                    task.read = task.own = None
+
+    def take_state(self, line: State) -> None:
+        """A state of the domain: if its task reads another one before a check, it was free."""
+        self.last_state = line
+        plain = self.plain.state
+        if plain is None or line[7] != plain[7] or line[6] != plain[6]:
+            self.plain.is_raised(line)
+        task = self.tasks.get(line[1])
+        if task is None:
+            task = self.tasks[line.task] = TaskSoFar()
+        elif (free := task.read) is not None:
+            task.free = free
+            task.frees.extend((free.line, free.dirty + free.writeback, free.background, free.thresh, free.limit))
+        task.read = line
+        task.own = None
+
+    def let_free(self, task: str, of: TaskSoFar, is_strict: bool) -> None:
+        """Gives the free ones of a writer on."""
+        kept = of.frees
+        for at in range(0, len(kept), 5):
+            line, count, background, thresh, limit = kept[at:at + 5]
+            self.taker.free(Free(State(line, task, 0, 0.0, count, 0, background, thresh, limit, 0, 0), is_strict))
+        of.free, of.frees = None, array("q")
+
+    def take_sample(self, line: Sample) -> None:
+        """An estimate: all that waits for one of its disk is known in full."""
+        before = self.sampled.get(line.disk)
+        task = self.tasks.setdefault(line.task, TaskSoFar())
+        is_second = before is not None and task.own is before and before.sample.time > line.time - SAME_UPDATE
+        estimated = Estimated(line, before.sample if before else None, before.sample if before and is_second else None)
+        written = self.last_state.written if self.last_state else 0
+        if before and is_second:
+            before.is_first = True
+        since = self.written.get(line.disk)
+        estimated.written = (written - since if since is not None else written, 0)
+        for item in self.open.pop(line.disk, ()):
+            item.after = line
+            if isinstance(item, Estimated) and since is not None and item.written:
+                item.written = (item.written[0], written - since)
+        self.written[line.disk] = written
+        self.sampled[line.disk] = task.own = estimated
+        self.wait(line.disk, estimated)
+        self.give()
+
+    def take_check(self, line: Balance) -> None:
+        """A check, which is known in full with the next estimate of its disk."""
+        task = self.tasks.get(line.task)
+        if task is None:
+            task = self.tasks[line.task] = TaskSoFar()
+        last = self.sampled.get(line.disk)
+        is_own = last is not None and task.own is last
+        is_strict = bool(self.strict) and line.device in self.strict
+        joined = Joined(line, task.read, last, is_own, is_strict, task.last, task.free)
+        if line.is_of_cgroup:
+            joined.scale = self.scales.setdefault(line.disk, Scale())
+        state, plain = task.read, self.plain.state
+        joined.is_raised = state is not None and plain is not None and state[7] != plain[7] and self.plain.is_raised(state)
+        if is_own and last:
+            last.check = joined
+        if task.free is not None:
+            self.let_free(line.task, task, is_strict)
+        task.read = task.own = None
+        task.last = joined
+        self.wait(line.disk, joined)
+
+    def wait(self, disk: str, item: Joined | Estimated) -> None:
+        """An item more that waits."""
+        self.open.setdefault(disk, deque()).append(item)
+        self.waiting.append(item)
+        if len(self.waiting) > MOST_WAITING:
+            self.give(1)
+
+    def give(self, at_least: int = 0) -> None:
+        """Gives on what is known in full, and at least so many."""
+        while self.waiting and (at_least > 0 or self.waiting[0].after is not None):
+            at_least -= 1
+            item = self.waiting.popleft()
+            if item.after is None:
+                self.open[item.check.disk if isinstance(item, Joined) else item.sample.disk].popleft()
+            self.give_one(item)
+
+    def give_one(self, item: Joined | Estimated) -> None:
+        """One item. What its task did before that is of no use any more."""
+        if isinstance(item, Estimated):
+            self.taker.estimate(item)
+            if not self.is_kept:
+                item.check = None
+        else:
+            self.taker.check(item)
+            if not self.is_kept:
+                item.previous = None
+
+    def end(self) -> None:
+        """No line follows."""
+        self.give(len(self.waiting))
+        for name, task in self.tasks.items():
+            if task.last and task.free is not None:
+                self.let_free(name, task, task.last.is_strict)
 
 
 @dataclass
 class Story:
-    """A text, joined."""
+    """A text, joined, and all of it in memory."""
 
     text: Text
     checks: list[Joined] = field(default_factory=list)
     estimates: list[Estimated] = field(default_factory=list)
     frees: list[Free] = field(default_factory=list)
 
+    def free(self, free: Free) -> None:
+        """Keeps it."""
+        self.frees.append(free)
 
-def join(text: Text, strict: Collection[str] = ()) -> Story:
-    """The story of a text, of which these disks are strict, in all cgroups."""
-    story = Story(text)
-    writers = {check.task for check in text.balances}
-    read: dict[str, State] = {}
-    free: dict[str, list[Free]] = {}
-    checked: dict[str, Joined] = {}
-    sampled: dict[str, Estimated] = {}
-    own: dict[str, Estimated] = {}
-    for line in text.lines:
-        if isinstance(line, State) and line.task in writers:
-            if line.task in read:
-                found = Free(read[line.task], line.task in checked and checked[line.task].is_strict)
-                free.setdefault(line.task, []).append(found)
-                story.frees.append(found)
-            read[line.task] = line
-            own.pop(line.task, None)
-        elif isinstance(line, Sample):
-            before = sampled.get(line.disk)
-            estimated = Estimated(line, before.sample if before else None)
-            sampled[line.disk] = own[line.task] = estimated
-            story.estimates.append(estimated)
-        elif isinstance(line, Balance):
-            made = own.pop(line.task, None)
-            last = sampled.get(line.disk)
-            is_own = made is not None and made is last
-            joined = Joined(line, read.pop(line.task, None), last.sample if last else None, is_own, line.device in strict,
-                            previous=checked.get(line.task))
-            for found in free.pop(line.task, []):
-                found.is_strict = joined.is_strict
-                joined.frees.append(found.state)
-            if is_own and made:
-                made.check = joined
-            checked[line.task] = joined
-            story.checks.append(joined)
-    look_ahead(story)
-    return story
+    def check(self, joined: Joined) -> None:
+        """Keeps it."""
+        self.checks.append(joined)
+
+    def estimate(self, estimated: Estimated) -> None:
+        """Keeps it."""
+        self.estimates.append(estimated)
 
 
-def look_ahead(story: Story) -> None:
-    """Gives each its next estimate."""
-    coming: dict[str, Sample] = {}
-    estimates = {estimated.sample.line: estimated for estimated in story.estimates}
-    checks = {joined.check.line: joined for joined in story.checks}
-    for line in reversed(story.text.lines):
-        if isinstance(line, Sample):
-            estimates[line.line].after = coming.get(line.disk)
-            coming[line.disk] = line
-        elif isinstance(line, Balance):
-            checks[line.line].after = coming.get(line.disk)
+T = TypeVar("T", bound=Taker)
+
+
+def told(path: str, second: int | None, strict: Collection[str], make: Callable[[Text], T], is_kept: bool = False) -> T:
+    """What takes the text of a file, after all of it. It is read again where its first spans let one guess too few ticks a second."""
+    with opened(path) as (name, file):
+        clocks = [second] if second else [it for it in SECONDS if it >= guessed_second(file, name)]
+        for clock in clocks:
+            text = Text(name, Clock(clock))
+            taker = make(text)
+            joiner = Joiner(taker, strict, is_kept)
+            try:
+                take_all(lines_of(file, text, second is None), joiner, text)
+            except OtherClock:
+                continue
+            look(text, strict)
+            return taker
+    raise OtherWords(f"{name}: the spans of its checks are of no number of ticks a second known here: --hz says it")
+
+
+def take_all(lines: Iterator[Line | Lost], joiner: Joiner, text: Text) -> None:
+    """Gives all lines to a joiner. Nothing here refers to what refers to it, so that no search for such circles is needed."""
+    is_collecting = gc.isenabled()
+    gc.disable()
+    try:
+        joiner.take(kept(lines, text) if joiner.is_kept else lines)
+        joiner.end()
+    finally:
+        if is_collecting:
+            gc.enable()
+
+
+def kept(lines: Iterable[Line | Lost], text: Text) -> Iterator[Line | Lost]:
+    """The lines, which are kept too."""
+    for line in lines:
+        if not isinstance(line, Lost):
+            text.lines.append(line)
+        yield line
+
+
+def look(text: Text, strict: Collection[str]) -> None:
+    """Whether all is there that a text needs, and a word on what of it is left out."""
+    if not text.disks_seen:
+        raise Fault(text.path, 0, Cause.MISSING, "it has no line of balance_dirty_pages")
+    if not text.states_seen:
+        raise Fault(text.path, 0, Cause.MISSING, "it has no line of global_dirty_state")
+    disks = sorted({disk.partition(" ")[0] for disk in text.disks_seen})
+    for disk in strict:
+        if disk not in disks:
+            raise OtherWords(f"--strict {disk}: no check is of that disk, there are {', '.join(disks)}")
+    if text.cut:
+        print(f"wb: {text.path}: {text.cut}", file=sys.stderr)
+
+
+def story_of(path: str, second: int | None = None, strict: Collection[str] = ()) -> Story:
+    """A text with all its lines."""
+    return told(path, second, strict, Story, True)

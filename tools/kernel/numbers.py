@@ -1,13 +1,14 @@
 """A number that the kernel printed, beside the one by the laws.
 
-Where inputs aren't told to the last digit, the laws give several numbers: one for each average that a line tells and each context
-threshold that the printed setpoint leaves open.
+Where inputs aren't told to the last digit, the laws give several numbers: one for each average that a line tells or its update may have
+made, and each context threshold that the printed setpoint leaves open. A number that is none of them has a verdict by a reason, and a reason
+stands only where the numbers bear it; else it is unexplained.
 """
 from __future__ import annotations
 
 from collections.abc import Sequence
-from dataclasses import dataclass
 from enum import Enum
+from typing import NamedTuple
 
 
 class Kind(Enum):
@@ -42,11 +43,13 @@ class Verdict(Enum):
 
     EQUAL = "equal"
     WITHIN = "within rounding"
+    BETWEEN = "between two averages"
+    NOT_TOLD = "not told"
     DIFFERENT = "different"
+    UNEXPLAINED = "unexplained"
 
 
-@dataclass(frozen=True)
-class Number:
+class Number(NamedTuple):
     """A number of a line: the kernel's, the laws' first one, and all those from `low` to `high` that inputs leave open."""
 
     line: int
@@ -59,17 +62,15 @@ class Number:
     reason: str = ""
 
 
-def number(line: int, kind: Kind, kernel: int, candidates: Sequence[int], reason: str = "", rounding: Sequence[int] = ()) -> Number:
-    """Compares. The first candidate is the likeliest; the kernel's is equal where it is one of them. `rounding` are numbers that the
-    roundings of a line leave open besides."""
-    low, high = min([*candidates, *rounding]), max([*candidates, *rounding])
+Why = tuple[Verdict, str]
+"""A verdict other than equal, and its reason."""
+
+NONE: Why = (Verdict.UNEXPLAINED, "")
+
+
+def number(line: int, kind: Kind, kernel: int, candidates: Sequence[int], why: Why = NONE) -> Number:
+    """Compares. The first candidate is the likeliest; the kernel's is equal where it is one of them. Else it is as `why` has it."""
+    low, high = min(candidates), max(candidates)
     if kernel in candidates:
         return Number(line, kind, kernel, kernel, low, high, Verdict.EQUAL)
-    verdict = Verdict.WITHIN if low <= kernel <= high else Verdict.DIFFERENT
-    return Number(line, kind, kernel, candidates[0], low, high, verdict, reason)
-
-
-def near(line: int, kind: Kind, kernel: int, laws: int, low: int, high: int, reason: str = "") -> Number:
-    """Compares with one number and the range around it."""
-    verdict = Verdict.EQUAL if kernel == laws else Verdict.WITHIN if low <= kernel <= high else Verdict.DIFFERENT
-    return Number(line, kind, kernel, laws, low, high, verdict, "" if verdict is Verdict.EQUAL else reason)
+    return Number(line, kind, kernel, candidates[0], low, high, *why)

@@ -9,21 +9,31 @@ from .tracepoints import Balance
 
 
 def limits_of(joined: Joined) -> Limits:
-    """The limits of a check's domain."""
-    assert joined.state
-    return Limits(joined.state.thresh, joined.state.background, max(joined.check.limit, joined.state.thresh))
+    """The limits of the machine's domain at a check, with the following limit as its line tells it: after an update of its own."""
+    state = joined.state
+    assert state
+    return Limits(state.thresh, state.background, max(joined.check.limit, state.thresh))
+
+
+def limits_before(joined: Joined) -> Limits:
+    """The same as the position ratio takes them: before an update of its own."""
+    state = joined.state
+    assert state
+    return Limits(state.thresh, state.background, max(state.limit if joined.is_own else joined.check.limit, state.thresh))
 
 
 def context_limits(check: Balance, thresh: int) -> range:
     """The context thresholds that the printed setpoint leaves open: it is `setpoint * wb_thresh / (thresh + 1)`, rounded down."""
-    at = check.context_setpoint
-    first = -(-at * (thresh + 1) // max(check.setpoint, 1))
-    last = ((at + 1) * (thresh + 1) - 1) // max(check.setpoint, 1)
-    return range(first, max(last, first) + 1)
+    at, setpoint = check.context_setpoint * (thresh + 1), check.setpoint or 1
+    first = -(-at // setpoint)
+    last = (at + thresh) // setpoint
+    return range(first, (last if last > first else first) + 1)
 
 
 def reads_of(joined: Joined) -> list[DomainRead]:
     """The reads of the domain that the printed setpoint leaves open: one with the least context threshold, one with the greatest."""
-    limits = limits_of(joined)
+    limits = limits_before(joined)
     open_limits = context_limits(joined.check, limits.thresh)
-    return [DomainRead(limits, joined.check.dirty, at) for at in sorted({open_limits[0], open_limits[-1]})]
+    first, last = open_limits[0], open_limits[-1]
+    dirty = joined.check.dirty
+    return [DomainRead(limits, dirty, first)] if first == last else [DomainRead(limits, dirty, first), DomainRead(limits, dirty, last)]

@@ -1,36 +1,37 @@
-"""The three tracepoints of writeback, as typed lines. Pages, rates in pages a second, times in seconds, spans in milliseconds."""
+"""The three tracepoints of writeback, as typed lines. Pages, rates in pages a second, times in seconds, spans in milliseconds.
+
+Most lines have their fields as kernels print them now, and one expression reads those. Any other line is read field by field: it may have
+fields that aren't known here and names of older kernels, and what is wrong in it is told with its column.
+"""
 from __future__ import annotations
 
 import re
-from dataclasses import dataclass
-from typing import Union
+from typing import NamedTuple, Union
 
-LINE = re.compile(r"\s*(?P<task>\S.*-\d+)\s+(?:\([\s\d-]+\)\s+)?\[(?P<cpu>\d+)\]\s+(?:\S+\s+)?(?P<time>\d+\.\d+):\s+"
-                  r"(?:writeback:)?(?P<event>[a-z_]+):\s*(?P<fields>.*)")
-"""`trace_pipe` has flags before the time, `trace-cmd report` has none; the number of a thread group may stand in round brackets."""
+from .heads import Heads
 
-LOST = re.compile(r"CPU:\d+ \[LOST (\d+) EVENTS\]")
+LOST = re.compile(r"CPU:\d+ \[(?:LOST (\d+) EVENTS|(\d+) EVENTS DROPPED|EVENTS DROPPED)\]")
 DISK = re.compile(r"bdi (\S+?):(?:\s|$)")
-FIELD = re.compile(r"(\w+)=(-?\d+)(?=\s|$)")
+FIELD = re.compile(r"(?<!\S)(\w+)=(\S*)")
+NUMBER = re.compile(r"-?\d+")
 
 OLD_NAMES = {"bdi_setpoint": "wb_setpoint", "bdi_dirty": "wb_dirty"}
 KIB_A_PAGE = 4
+DIGITS = 15
+"""A number has at most so many: no kernel has that many pages, kilobytes a second, or milliseconds."""
+
+MAY_BE_NEGATIVE = ("pause", "think")
+ROOT = ("1", "4294967295", None)
+"""How the root cgroup is told, or that there is none."""
 
 
-@dataclass(frozen=True)
-class Told:
-    """Where and when a line was printed: its number in the text, the task with its number, the CPU, the time in seconds."""
+class State(NamedTuple):
+    """`global_dirty_state`: the global domain, in pages."""
 
     line: int
     task: str
     cpu: int
     time: float
-
-
-@dataclass(frozen=True)
-class State(Told):
-    """`global_dirty_state`: the global domain, in pages."""
-
     dirty: int
     writeback: int
     background: int
@@ -45,10 +46,13 @@ class State(Told):
         return self.dirty + self.writeback
 
 
-@dataclass(frozen=True)
-class Sample(Told):
+class Sample(NamedTuple):
     """`bdi_dirty_ratelimit`: an estimate of a disk, in pages a second. Bandwidth and average are those before its update."""
 
+    line: int
+    task: str
+    cpu: int
+    time: float
     disk: str
     bandwidth: int
     average: int
@@ -58,10 +62,13 @@ class Sample(Told):
     balanced: int
 
 
-@dataclass(frozen=True)
-class Balance(Told):
+class Balance(NamedTuple):
     """`balance_dirty_pages`: a check of a writer that isn't free. Pages, pages a second, milliseconds."""
 
+    line: int
+    task: str
+    cpu: int
+    time: float
     disk: str
     limit: int
     setpoint: int
@@ -80,56 +87,157 @@ class Balance(Told):
     @property
     def device(self) -> str:
         """The disk, whichever cgroup the check is of."""
-        return self.disk.split(" ")[0]
+        return self.disk.partition(" ")[0]
+
+    @property
+    def is_of_cgroup(self) -> bool:
+        """Whether its writer is in a cgroup of its own."""
+        return " " in self.disk
 
 
 Line = Union[State, Sample, Balance]
 
+PAGES_OF_STATE = ("dirty", "writeback", "bg_thresh", "thresh", "limit", "dirtied", "written")
+RATES_OF_SAMPLE = ("write_bw", "awrite_bw", "dirty_rate", "dirty_ratelimit", "task_ratelimit", "balanced_dirty_ratelimit")
+PAGES_OF_BALANCE = ("limit", "setpoint", "dirty", "wb_setpoint", "wb_dirty")
+RATES_OF_BALANCE = ("dirty_ratelimit", "task_ratelimit")
+REST_OF_BALANCE = ("dirtied", "dirtied_pause", "paused", "pause", "period", "think")
+EITHER = {new: f"(?:{new}|{old})" for old, new in OLD_NAMES.items()}
 
-class Missing(Exception):
-    """A tracepoint's line has no such field."""
+
+def spelled(names: tuple[str, ...]) -> str:
+    """The fields of these names in their order, as an expression."""
+    return " ".join(f"{EITHER.get(name, name)}=({'-?' if name in MAY_BE_NEGATIVE else ''}\\d{{1,{DIGITS}}})" for name in names)
 
 
-def read_line(number: int, text: str) -> Line | None:
+OF_DISK, OF_CGROUP = r"bdi (\S+): ", r"(?: cgroup_ino=(\d+))?"
+STATE = re.compile(rf"\s*{spelled(PAGES_OF_STATE)}\s*")
+SAMPLE = re.compile(rf"\s*{OF_DISK}{spelled(RATES_OF_SAMPLE)}{OF_CGROUP}\s*")
+BALANCE = re.compile(rf"\s*{OF_DISK}{spelled(PAGES_OF_BALANCE + RATES_OF_BALANCE + REST_OF_BALANCE)}{OF_CGROUP}\s*")
+
+
+class Bad(Exception):
+    """A tracepoint's line is damaged: from which place on (-1: as a whole), and how. `is_range` where a number is none that kernels print."""
+
+    def __init__(self, place: int, how: str, is_range: bool = False) -> None:
+        super().__init__(how)
+        self.place = place
+        self.is_range = is_range
+
+
+def read_line(number: int, text: str, heads: Heads) -> Line | None:
     """What a line tells, or nothing where it is of no tracepoint here."""
-    found = LINE.match(text)
-    if not found or found["event"] not in READERS:
+    for event, of in READERS.items():
+        place = text.find(event)
+        if place > 0:
+            break
+    else:
         return None
-    fields = {OLD_NAMES.get(name, name): int(value) for name, value in FIELD.findall(found["fields"])}
-    told = (number, found["task"].strip(), int(found["cpu"]), float(found["time"]))
-    try:
-        return READERS[found["event"]](told, fields, found["fields"])
-    except KeyError as missing:
-        raise Missing(f"{found['event']} without {missing.args[0]}") from None
+    if text[place - 1] not in " \t:" or text.startswith("#"):
+        return None
+    head = heads.read(text[:place])
+    if head is None:
+        raise Bad(0, f"no task, CPU and time stand before {event}")
+    return of(number, head, text, place + len(event))
 
 
-def state(told: tuple[int, str, int, float], of: dict[str, int], _text: str) -> State:
+HEAD = r" *([^\s<]\S*-\d+) +\[(\d+)\] \S+ +(\d{1,10}\.\d{6}): "
+WHOLE_STATE = re.compile(rf"{HEAD}global_dirty_state: {spelled(PAGES_OF_STATE)}\n").fullmatch
+WHOLE_BALANCE = re.compile(rf"{HEAD}balance_dirty_pages: bdi (\S+): "
+                           rf"{spelled(PAGES_OF_BALANCE + RATES_OF_BALANCE + REST_OF_BALANCE)} cgroup_ino=1\n").fullmatch
+new = tuple.__new__
+
+
+def read_common(number: int, text: str) -> Line | None:
+    """What a line tells that is as most are: of a task whose name has no spaces, in the root cgroup, as tracefs prints it now."""
+    if "global_dirty_state: " in text:
+        found = WHOLE_STATE(text)
+        if found:
+            task, cpu, time, *pages = found.groups()
+            return new(State, (number, task, int(cpu), float(time), *map(int, pages)))
+    elif "balance_dirty_pages: " in text:
+        found = WHOLE_BALANCE(text)
+        if found:
+            task, cpu, time, disk, limit, setpoint, dirty, own_setpoint, own_dirty, ratelimit, rate, *rest = found.groups()
+            return new(Balance, (number, task, int(cpu), float(time), disk, int(limit), int(setpoint), int(dirty), int(own_setpoint),
+                                 int(own_dirty), int(ratelimit) // KIB_A_PAGE, int(rate) // KIB_A_PAGE, *map(int, rest)))
+    return None
+
+
+def state(number: int, head: tuple[str, int, float], text: str, place: int) -> State:
     """A line of the global domain."""
-    limits = (of["bg_thresh"], of["thresh"], of["limit"])
-    return State(*told, of["dirty"], of["writeback"], *limits, of.get("dirtied", 0), of.get("written", 0))
+    found = STATE.fullmatch(text, place)
+    if found:
+        return State(number, *head, *map(int, found.groups()))
+    of = fields(text, place, {"dirtied": "0", "written": "0"})
+    return State(number, *head, *(numeral(of, name, "global_dirty_state") for name in PAGES_OF_STATE))
 
 
-def sample(told: tuple[int, str, int, float], of: dict[str, int], text: str) -> Sample:
+def sample(number: int, head: tuple[str, int, float], text: str, place: int) -> Sample:
     """A line of an estimate."""
-    rates = (of[name] // KIB_A_PAGE for name in ("write_bw", "awrite_bw", "dirty_rate", "dirty_ratelimit", "task_ratelimit",
-                                                  "balanced_dirty_ratelimit"))
-    return Sample(*told, disk_of(of, text), *rates)
+    found = SAMPLE.fullmatch(text, place)
+    if found:
+        disk, *rates, cgroup = found.groups()
+        return Sample(number, *head, named(disk, cgroup), *(int(rate) // KIB_A_PAGE for rate in rates))
+    of = fields(text, place, {})
+    disk = disk_of(text, place, of, "bdi_dirty_ratelimit")
+    return Sample(number, *head, disk, *(numeral(of, name, "bdi_dirty_ratelimit") // KIB_A_PAGE for name in RATES_OF_SAMPLE))
 
 
-def balance(told: tuple[int, str, int, float], of: dict[str, int], text: str) -> Balance:
+def balance(number: int, head: tuple[str, int, float], text: str, place: int) -> Balance:
     """A line of a check."""
-    pages = (of[name] for name in ("limit", "setpoint", "dirty", "wb_setpoint", "wb_dirty"))
-    rates = (of[name] // KIB_A_PAGE for name in ("dirty_ratelimit", "task_ratelimit"))
-    rest = (of[name] for name in ("dirtied", "dirtied_pause", "paused", "pause", "period", "think"))
-    return Balance(*told, disk_of(of, text), *pages, *rates, *rest)
+    found = BALANCE.fullmatch(text, place)
+    if found:
+        disk, limit, setpoint, dirty, own_setpoint, own_dirty, ratelimit, rate, *rest, cgroup = found.groups()
+        return Balance(number, *head, named(disk, cgroup), int(limit), int(setpoint), int(dirty), int(own_setpoint), int(own_dirty),
+                       int(ratelimit) // KIB_A_PAGE, int(rate) // KIB_A_PAGE, *map(int, rest))
+    of = fields(text, place, {})
+    event = "balance_dirty_pages"
+    disk = disk_of(text, place, of, event)
+    return Balance(number, *head, disk, *(numeral(of, name, event) for name in PAGES_OF_BALANCE),
+                   *(numeral(of, name, event) // KIB_A_PAGE for name in RATES_OF_BALANCE),
+                   *(numeral(of, name, event) for name in REST_OF_BALANCE))
 
 
-def disk_of(of: dict[str, int], text: str) -> str:
+READERS = {"global_dirty_state:": state, "balance_dirty_pages:": balance, "bdi_dirty_ratelimit:": sample}
+
+Fields = dict[str, tuple[int, str]]
+"""By a name, where its value begins in the line, and the value."""
+
+
+def fields(text: str, place: int, unless: dict[str, str]) -> Fields:
+    """The fields of a line from a place on, and those that it may leave out."""
+    found: Fields = {}
+    for field in FIELD.finditer(text, place):
+        name = OLD_NAMES.get(field[1], field[1])
+        if name in found:
+            raise Bad(field.start(), f"{name} stands twice")
+        found[name] = (field.start(2), field[2])
+    return {**{name: (-1, value) for name, value in unless.items()}, **found}
+
+
+def numeral(of: Fields, name: str, event: str) -> int:
+    """The number of a field."""
+    if name not in of:
+        raise Bad(-1, f"{event} without {name}")
+    place, value = of[name]
+    if not NUMBER.fullmatch(value):
+        raise Bad(place, f"'{value}' where the number of {name} is wanted")
+    if value[0] == "-" and name not in MAY_BE_NEGATIVE:
+        raise Bad(place, f"{name} is {value}, below 0", True)
+    if len(value.lstrip("-")) > DIGITS:
+        raise Bad(place, f"{name} has {len(value.lstrip('-'))} digits, at most {DIGITS} are read", True)
+    return int(value)
+
+
+def disk_of(text: str, place: int, of: Fields, event: str) -> str:
     """The disk that a line is of, with its cgroup where that isn't the root."""
-    found = DISK.match(text)
+    found = DISK.search(text, place)
     if not found:
-        raise KeyError("bdi")
-    return found[1] if of.get("cgroup_ino", 1) == 1 else f"{found[1]} of cgroup {of['cgroup_ino']}"
+        raise Bad(-1, f"{event} without bdi")
+    return named(found[1], str(numeral(of, "cgroup_ino", event)) if "cgroup_ino" in of else None)
 
 
-READERS = {"global_dirty_state": state, "bdi_dirty_ratelimit": sample, "balance_dirty_pages": balance}
+def named(disk: str, cgroup: str | None) -> str:
+    """A disk with its cgroup where that isn't the root."""
+    return disk if cgroup in ROOT else f"{disk} of cgroup {cgroup}"

@@ -13,6 +13,7 @@ Some constants of the laws are spans of time, and others are powers of two near 
 from __future__ import annotations
 
 from dataclasses import dataclass
+from functools import cached_property
 
 from .numbers import pow2_up
 
@@ -23,27 +24,27 @@ class Clock:
 
     second: int = 1000
 
-    @property
+    @cached_property
     def longest(self) -> int:
         """The longest of all pauses, in ticks: a fifth of a second."""
         return max(self.second // 5, 1)
 
-    @property
+    @cached_property
     def least(self) -> int:
         """What a least pause begins with, in ticks: a hundredth of a second."""
         return max(self.second // 100, 1)
 
-    @property
+    @cached_property
     def near_second(self) -> int:
         """The power of two that stands for a second where pages are counted from a rate."""
         return pow2_up(self.second)
 
-    @property
+    @cached_property
     def near_eighth(self) -> int:
         """The power of two that stands for an eighth of a second."""
         return pow2_up(1 + self.second // 8)
 
-    @property
+    @cached_property
     def window(self) -> int:
         """Over how many ticks a bandwidth is taken: the power of two from three seconds on."""
         return pow2_up(3 * self.second)

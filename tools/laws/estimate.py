@@ -17,11 +17,21 @@ def next_bandwidth(bandwidth: int, average: int, written: int, elapsed: int, clo
     if elapsed > clock.window:
         return grown // elapsed, max(grown // elapsed, 1)
     new = (grown + bandwidth * (clock.window - elapsed)) // clock.window
+    return new, next_average(average, bandwidth, new)
+
+
+def next_average(average: int, bandwidth: int, new: int) -> int:
+    """The average after an update from one bandwidth to a new one: it moves where the bandwidth goes on away from it."""
     if average > bandwidth >= new:
         average -= average - bandwidth >> 3
     elif average < bandwidth <= new:
         average += bandwidth - average >> 3
-    return new, max(average, 1)
+    return max(average, 1)
+
+
+def moved(average: int, bandwidth: int) -> int:
+    """An average that moves: by an eighth of its way to the bandwidth."""
+    return next_average(average, bandwidth, bandwidth)
 
 
 def task_rate(ratelimit: int, ratio: int) -> int:

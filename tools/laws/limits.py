@@ -40,6 +40,11 @@ def thresholds(settings: Mapping[str, int], avail: int, global_avail: int | None
     return thresh, background if background < thresh else thresh // 2
 
 
+def raised(thresh: int, limit: int) -> int:
+    """A threshold as kernels raise it for a task of a real-time class, by the following limit. No law of LAWS.md does so."""
+    return thresh + thresh // 4 + limit // 32
+
+
 def freerun_of(limits: Limits) -> int:
     """Up to here writers run free."""
     return (limits.thresh + limits.background) // 2

@@ -4,6 +4,7 @@ from __future__ import annotations
 from collections.abc import Iterator, Sequence
 from dataclasses import dataclass
 
+from .clock import PROFILE, Clock
 from .decision import DomainRead, Kind, Rule, Task, Verdict
 from .limits import freerun_of, setpoint_of
 from .pauses import poll_interval
@@ -31,7 +32,7 @@ STRICT_EXCEEDED = "the context is above its own threshold: checks come after 8 p
 @dataclass(frozen=True)
 class Asked:
     """What a decision was asked with: reads, the context's pages, average and rate limit, the task's numbers, the moment, the error,
-    and whether the context is one of a strict device."""
+    whether the context is one of a strict device, the clock, and the average of the pause where the rate has an older one."""
 
     reads: Sequence[DomainRead]
     context_dirty: int
@@ -41,6 +42,8 @@ class Asked:
     now: int
     error: int
     is_strict: bool = False
+    clock: Clock = PROFILE
+    later: int | None = None
 
 
 def lines(asked: Asked, verdict: Verdict) -> Iterator[str]:
@@ -98,9 +101,10 @@ def pages(many: int) -> str:
     return "1 page" if many == 1 else f"{many} pages"
 
 
-def ticks(many: int) -> str:
-    """So many ticks."""
-    return "1 tick" if many == 1 else f"{many} ticks"
+def ticks(many: int, clock: Clock = PROFILE) -> str:
+    """So many ticks, and in milliseconds where that is another number."""
+    of_clock = "1 tick" if many == 1 else f"{many} ticks"
+    return of_clock if clock.second == PROFILE.second else f"{of_clock}, {clock.milliseconds(many)} ms"
 
 
 def domain_lines(name: str, read: DomainRead) -> Iterator[str]:
@@ -148,17 +152,19 @@ def position_lines(name: str, read: DomainRead, asked: Asked, it: Position) -> I
 def rate_lines(asked: Asked, it: Verdict, ratios: Sequence[int]) -> Iterator[str]:
     """Rate, period, think, the bounds of a pause, and the pause."""
     assert it.least and it.longest
-    ratio = min(ratios)
+    clock, ratio = asked.clock, min(ratios)
+    average = asked.average if asked.later is None else asked.later
     whose = f", the smaller one, of {DOMAINS[ratios.index(ratio)]}" if len(ratios) > 1 else ""
     yield row("task rate", f"{it.rate} pages/s", f"{asked.ratelimit} * {ratio} / 1024{whose}")
     if it.rate:
-        yield row("period", ticks(it.period or 0), f"1000 * {asked.task.dirtied} / {it.rate}")
+        yield row("period", ticks(it.period or 0, clock), f"{clock.second} * {asked.task.dirtied} / {it.rate}")
         since = f"{asked.now} - {asked.task.ended}" if asked.task.ended else "no pause yet"
-        yield row("think", ticks(it.think or 0), f"since its last pause ended: {since}")
-    yield row("longest pause", ticks(it.longest), f"{asked.context_dirty} / (1 + {asked.average} / 128) + 1, at most 200")
-    yield row("least pause", ticks(it.least.pause), f"for {pages(it.least.pages)} in {ticks(it.least.ticks)}: {it.least.target.value}")
+        yield row("think", ticks(it.think or 0, clock), f"since its last pause ended: {since}")
+    yield row("longest pause", ticks(it.longest, clock),
+              f"{asked.context_dirty} / (1 + {average} / {clock.near_eighth}) + 1, at most {clock.longest}")
+    yield row("least pause", ticks(it.least.pause, clock), f"for {pages(it.least.pages)} in {ticks(it.least.ticks)}: {it.least.target.value}")
     wanted = f"{it.period} - {it.think or 0} = {it.wanted}; " if it.rate else ""
-    yield row("pause", ticks(it.pause), f"{wanted}{it.rule.value}")
+    yield row("pause", ticks(it.pause, clock), f"{wanted}{it.rule.value}")
     if it.kind in (Kind.EXEMPT, Kind.WAIT):
         yield row("error", pages(asked.error), f"a reading of {pages(asked.context_dirty)} may be off by that much")
     if it.pause and it.rule is not Rule.FREE:

@@ -84,10 +84,10 @@ def strict_decide(reads: Sequence[DomainRead], context_dirty: int, average: int,
 
 
 def decide_for(is_strict: bool, reads: Sequence[DomainRead], context_dirty: int, average: int, ratelimit: int, task: Task, now: int,
-               error: int, cap: int) -> Verdict:
+               error: int, cap: int, clock: Clock = PROFILE) -> Verdict:
     """The decision of a check, by the rule for its device."""
     rule = strict_decide if is_strict else decide
-    return rule(reads, context_dirty, average, ratelimit, task, now, error, cap)
+    return rule(reads, context_dirty, average, ratelimit, task, now, error, cap, clock)
 
 
 def strict_bound(most: int, cpus: int, writers: int, cap: int) -> int:

@@ -124,6 +124,11 @@ def actions(task: int, job: Job, scale: int, tasks: int) -> Iterator[str]:
         yield f"rest {task} {rest}"
 
 
+def named(disk: Disk, seen: Seen) -> str:
+    """A disk by its number and the name of its block device, and whether `/` lies there."""
+    return f"disk {disk.name}{f' ({disk.block})' if disk.block else ''}{', the one of /' if disk.name == seen.root else ''}"
+
+
 def about(seen: Seen, disk: Disk, jobs: Jobs | None, scale: int) -> Iterator[str]:
     """What it was made of."""
     thresh, background = thresholds(settings(seen, scale), down(seen.available, scale))
@@ -135,7 +140,7 @@ def about(seen: Seen, disk: Disk, jobs: Jobs | None, scale: int) -> Iterator[str
     yield f"vm.{EXPIRE}={seen.expire}" + ("" if is_told(seen) else ": left out, as a trace can't say it")
     yield f"threshold {thresh}, background threshold {background} pages, scaled"
     told = f"{disk.rate} pages a second (its average in debugfs)" if disk.rate else f"not told, so {UNKNOWN_RATE} pages a second"
-    yield f"disk {disk.name}: {told}, shares of {disk.least} to {disk.greatest} percent"
+    yield f"{named(disk, seen)}: {told}, shares of {disk.least} to {disk.greatest} percent"
     for job in jobs.jobs if jobs else ():
         rate = f"{job.rate} bytes a second" if job.rate else "as fast as it may"
         yield f"job {job.name}: {job.many} of {job.size} bytes, {job.call} a call, {rate}"

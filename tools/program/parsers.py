@@ -23,14 +23,18 @@ class Parser(argparse.ArgumentParser):
 
 
 def parse(arguments: list[str]) -> argparse.Namespace:
-    """What was given, with the word's `run`."""
+    """What was given, with the word's `run`, and in `rest` the command after `--`."""
     parser = Parser(prog="wb", description=ABOUT, epilog=statuses.sentence())
     commands = parser.add_subparsers(dest="word", required=True, parser_class=Parser, metavar="WORD")
+    rest: list[str] = []
     for word in WORDS:
+        if word.name in arguments[:1] and arguments[1:2] and arguments[1] in word.commands and "--" in arguments:
+            place = arguments.index("--")
+            arguments, rest = arguments[:place], arguments[place + 1:]
         command = commands.add_parser(word.name, help=word.about, description=word.about, epilog=statuses.sentence())
         if word.name in arguments[:1]:
             fill(command, word)
-    return parser.parse_args(arguments)
+    return parser.parse_args(arguments, argparse.Namespace(rest=rest))
 
 
 def fill(command: Parser, word: Word) -> None:

@@ -14,6 +14,7 @@ class Status(IntEnum):
     WRITE_FAULT = 4
     NOT_THERE = 5
     JOBS_FAILED = 6
+    UNEXPLAINED = 7
     INTERRUPTED = 130
 
 
@@ -25,6 +26,7 @@ MEANINGS = {
     Status.WRITE_FAULT: "write fault",
     Status.NOT_THERE: "what the word needs isn't there, as matplotlib or plotly",
     Status.JOBS_FAILED: "a job that failed each time it was tried",
+    Status.UNEXPLAINED: "a kernel's number is unexplained ('kernel compare' alone)",
     Status.INTERRUPTED: "interrupted",
 }
 

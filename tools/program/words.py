@@ -11,6 +11,8 @@ class Word:
     name: str
     module: str
     about: str
+    commands: tuple[str, ...] = ()
+    """Its parts that take a command after `--`."""
 
 
 WORDS = (
@@ -27,6 +29,7 @@ WORDS = (
     Word("nearest", "search.words.nearest", "the interleaving of a trace that comes nearest to a bound"),
     Word("job", "jobs.words.job", "one job of a sweep, a study, a search or judged runs, as their lists have them"),
     Word("from-machine", "machine.words.from_machine", "a trace's first lines from a machine in use, its tasks from a job file of fio"),
-    Word("kernel", "kernel.words.kernel", "a running kernel's tracepoints beside the laws: compare, plot, trace, beside, record"),
+    Word("kernel", "kernel.words.kernel", "a running kernel's tracepoints beside the laws: explain, compare, plot, trace, beside, record",
+         ("record",)),
 )
 """In the order of the help."""

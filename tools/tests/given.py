@@ -21,6 +21,7 @@ TESTS = os.path.dirname(os.path.abspath(__file__))
 TOOLS = os.path.dirname(TESTS)
 ROOT = os.path.dirname(TOOLS)
 EXAMPLES = os.path.join(ROOT, "examples")
+TESTS_TEXTS = os.path.join(ROOT, "tools", "tests", "texts")
 
 
 def text_path(name: str) -> str:

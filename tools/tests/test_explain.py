@@ -78,6 +78,20 @@ class OfALawText(WithDirectory):
         self.assertEqual((told["is_strict"], told["ratio"], told["domains"][0]["own_freerun"]), (True, 957, 749))
         self.assertEqual(told["domains"][0]["position"]["ratio"], 957)
 
+    def test_another_clock(self) -> None:
+        _, out, _ = printed("explain", "--hz", "250", LAW)
+        wanted = {"period": "2 ticks, 8 ms", "longest pause": "22 ticks, 88 ms", "least pause": "2 ticks, 8 ms", "pause": "0 ticks, 0 ms"}
+        self.assertEqual({name: rows(out)[name] for name in wanted}, wanted)
+        self.assertIn("17492 / (1 + 25600 / 32) + 1, at most 50", out)
+        self.assertEqual([printed("explain", "--hz", hz, LAW)[0] for hz in ("0", "1001")], [1, 1])
+
+    def test_numbers_as_large_as_kernels_print(self) -> None:
+        large = WITHOUT_RATE.replace("cap 1024", "cap 16384").replace("task 250 250", "task 9000 12000").replace("context 90", "context 9000000")
+        path = self.file("law", large.replace("domain 19995 9985 19995 19995", "domain 20000000 9985 20000000 15000000"))
+        status, out, _ = printed("explain", path)
+        self.assertEqual((status, rows(out)["decision"]), (0, "go"))
+        self.assertRegex(printed("why", path)[1], "line 2, column 5: out of range: number above 1024, the greatest cap")
+
     def test_many(self) -> None:
         other = self.file("law", WITHOUT_RATE)
         self.assertEqual(printed("explain", LAW, other)[0], 1)

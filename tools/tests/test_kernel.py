@@ -8,13 +8,16 @@ import unittest
 from functools import cache
 
 from kernel import strict
-from kernel.comparing import numbers, tally_of
-from kernel.joining import Story, join
+from kernel import joining
+from kernel.averages import of_rate
+from kernel.comparing import Tally, numbers, tally_of
+from kernel.heads import Heads
+from kernel.joining import Story
 from kernel.numbers import Kind, Number, Verdict
-from kernel.reading import read_text
 from kernel.reads import limits_of, reads_of
-from kernel.searching import between, where
-from kernel.tracepoints import Balance, Missing, State, read_line
+from kernel.searching import between, grid, where
+from kernel.tracepoints import Bad, Balance, Line, State
+from kernel.tracepoints import read_line as read_any_line
 from laws.strict import Held, strict_position
 from program.errors import Fault
 from program.main import main
@@ -33,10 +36,23 @@ def line_of(event: str, fields: str, head: str = "        writer-1  [000] ..... 
     return f"{head}: {event}: {fields}"
 
 
+def read_line(number: int, text: str) -> Line | None:
+    """What a line tells of which none went before."""
+    return read_any_line(number, text + "\n", Heads())
+
+
 @cache
 def story_of(path: str, *disks: str) -> Story:
     """The story of a text, of which these disks are strict: it is read once."""
-    return join(read_text(path), disks)
+    return joining.story_of(path, None, disks)
+
+
+def counts(tally: Tally, kind: Kind) -> list[int]:
+    """Equal, within rounding, between two averages, not told, different, unexplained: without the zeros at the end."""
+    found = tally.of(kind)
+    while found and not found[-1]:
+        found.pop()
+    return found
 
 
 @cache
@@ -84,36 +100,10 @@ class Lines(unittest.TestCase):
             self.assertIsNone(read_line(1, other))
 
     def test_a_field_that_is_missing(self) -> None:
-        with self.assertRaisesRegex(Missing, "balance_dirty_pages without period"):
+        with self.assertRaisesRegex(Bad, "balance_dirty_pages without period"):
             read_line(1, line_of("balance_dirty_pages", CHECK.replace("period=0 ", "")))
-        with self.assertRaisesRegex(Missing, "without bdi"):
+        with self.assertRaisesRegex(Bad, "without bdi"):
             read_line(1, line_of("balance_dirty_pages", CHECK.replace("bdi 7:0: ", "")))
-
-
-class Texts(WithDirectory):
-    def test_the_line_of_a_fault(self) -> None:
-        text = "\n".join(["# head", line_of("global_dirty_state", STATE), line_of("balance_dirty_pages", "bdi 7:0: limit=1"), ""])
-        with self.assertRaisesRegex(Fault, "line 3: bad line: balance_dirty_pages without setpoint"):
-            read_text(self.file("text", text))
-
-    def test_what_is_missing(self) -> None:
-        with self.assertRaisesRegex(Fault, "missing: it has no line of balance_dirty_pages"):
-            read_text(self.file("text", line_of("global_dirty_state", STATE) + "\n"))
-        with self.assertRaisesRegex(Fault, "missing: it has no line of global_dirty_state"):
-            read_text(self.file("text", line_of("balance_dirty_pages", CHECK) + "\n"))
-
-    def test_lost_lines_are_counted(self) -> None:
-        lines = ["CPU:3 [LOST 12 EVENTS]", line_of("global_dirty_state", STATE), line_of("balance_dirty_pages", CHECK), ""]
-        path = self.file("text", "\n".join(lines))
-        self.assertEqual(read_text(path).lost, 12)
-        self.assertIn("lost 12 lines", printed("kernel", "compare", path)[1])
-
-    def test_ticks_a_second_by_the_spans(self) -> None:
-        for spans, second in (((10, 20), 100), ((4, 8, 16), 250), ((3, 6, 10), 300), ((7, 9), 1000)):
-            checks = [line_of("balance_dirty_pages", CHECK.replace("period=0", f"period={span}")) for span in spans]
-            path = self.file("text", "\n".join([line_of("global_dirty_state", STATE), *checks, ""]))
-            self.assertEqual(read_text(path).clock.second, second)
-            self.assertEqual(read_text(path, 1000).clock.second, 1000)
 
 
 class Joins(unittest.TestCase):
@@ -124,47 +114,44 @@ class Joins(unittest.TestCase):
         self.assertFalse(second.is_own)
         self.assertEqual((first.before, first.after), (second.before, second.after))
         assert first.before and first.after
-        self.assertEqual(first.averages_of_rate(), [first.before.average])
-        self.assertEqual(second.averages_of_rate(), [first.after.average, first.before.average])
+        self.assertEqual(of_rate(first), [first.before.average])
+        self.assertEqual(of_rate(second)[:2], [first.after.average, first.before.average])
         self.assertIs(second.previous, first)
 
     def test_a_free_check_has_no_line(self) -> None:
         story = story_of(TWO)
         self.assertGreater(len(story.frees), 300)
-        self.assertTrue(any(joined.frees for joined in story.checks))
+        self.assertTrue(any(joined.free for joined in story.checks))
 
 
 class Comparisons(unittest.TestCase):
     def test_three_writers_to_the_last_digit(self) -> None:
         tally = tally_of(story_of(THREE))
-        wanted = {Kind.FREE: 2130, Kind.SETPOINT: 1981, Kind.FOLLOWING: 57, Kind.PERIOD: 1981, Kind.ALLOWANCE: 1978, Kind.SAMPLE_RATE: 56,
-                  Kind.BALANCED: 57, Kind.RATE_LIMIT: 56}
+        wanted = {Kind.FREE: 2130, Kind.SETPOINT: 1981, Kind.FOLLOWING: 57, Kind.RATE: 1981, Kind.PERIOD: 1981, Kind.ALLOWANCE: 1978,
+                  Kind.SAMPLE_RATE: 56, Kind.BALANCED: 57, Kind.RATE_LIMIT: 56}
         for kind, equal in wanted.items():
-            self.assertEqual(tally.of(kind), [equal, 0, 0], kind)
-        self.assertEqual((tally.of(Kind.RATE), tally.of(Kind.PAUSE)), ([1976, 0, 5], [1980, 1, 0]))
+            self.assertEqual(counts(tally, kind), [equal], kind)
+        self.assertEqual([counts(tally, kind) for kind in (Kind.COUNT, Kind.THINK, Kind.PAUSE, Kind.AVERAGE)],
+                         [[1970, 11], [1945, 3], [1980, 1], [54, 0, 2]])
 
-    def test_after_the_last_estimate_no_line_tells_the_average(self) -> None:
-        story = story_of(THREE)
-        odd = [it for it in numbers_of(THREE) if it.kind is Kind.RATE and it.verdict is not Verdict.EQUAL]
-        self.assertTrue(all(it.line > story.estimates[-1].sample.line and "is told by none" in it.reason for it in odd))
+    def test_rates_by_the_average_that_an_update_made(self) -> None:
+        moved = [it for it in story_of(THREE).checks if not it.is_own and it.before and it.after is None]
+        self.assertEqual(len(moved), 14)
+        found = {it.line: it for it in numbers_of(THREE) if it.kind is Kind.RATE}
+        self.assertEqual({found[it.check.line].verdict for it in moved}, {Verdict.EQUAL})
 
-    def test_a_second_update_is_told(self) -> None:
-        odd = [it for it in numbers_of(THREE) if it.kind is Kind.AVERAGE and it.verdict is Verdict.DIFFERENT]
-        self.assertEqual([(it.line, it.kernel) for it in odd], [(3, 1), (2878, 8276)])
-        self.assertEqual({it.reason for it in odd}, {"more than one update between the two lines"})
+    def test_a_second_update_is_solved_for(self) -> None:
+        odd = [it for it in numbers_of(THREE) if it.kind is Kind.AVERAGE and it.verdict is not Verdict.EQUAL]
+        self.assertEqual([(it.line, it.kernel, it.verdict) for it in odd], [(3, 1, Verdict.BETWEEN), (2878, 8276, Verdict.BETWEEN)])
+        self.assertIn("an update without a line gave it, the last from an average of", odd[1].reason)
 
     def test_a_strict_disk_shows(self) -> None:
         tally = tally_of(story_of(STRICT))
-        self.assertEqual(tally.of(Kind.RATE)[0], 0)
-        self.assertEqual(tally.of(Kind.FREE)[2], len(story_of(STRICT).checks))
+        self.assertEqual(counts(tally, Kind.RATE), [0, 0, 0, 0, 160])
+        self.assertEqual(counts(tally, Kind.FREE)[4], len(story_of(STRICT).checks))
         self.assertEqual({it.reason for it in numbers_of(STRICT) if it.kind is Kind.RATE},
-                         {"a check below the domain's freerun is that of a strict disk: --strict names it"})
+                         {"the law of strict disks gives it: --strict names the disk"})
         self.assertFalse({Kind.OWN_SAMPLE_RATE, Kind.OWN_RATE_LIMIT} & set(tally.kinds()))
-
-    def test_which_average_would_give_a_rate(self) -> None:
-        reasons = [it.reason for it in numbers_of(TWO) if it.kind is Kind.RATE and it.verdict is not Verdict.EQUAL]
-        self.assertTrue(reasons)
-        self.assertTrue(all("pages/s would give it" in reason for reason in reasons), reasons)
 
     def test_where_a_formula_gives_a_number(self) -> None:
         self.assertEqual(where(7, lambda at: at // 10, 0, 1000), range(70, 80))
@@ -172,18 +159,22 @@ class Comparisons(unittest.TestCase):
         self.assertFalse(where(7, lambda at: 2 * at, 0, 1000))
         self.assertEqual((between([3]), between(range(3, 9))), ("3", "3 to 8"))
 
+    def test_a_grid_has_both_ends_and_powers_of_two(self) -> None:
+        self.assertEqual(grid(range(5, 41), 16), [5, 8, 16, 32, 40])
+        self.assertEqual(grid(range(0), 16), [])
+
 
 class StrictDisks(WithDirectory):
     def strict_numbers(self, *lines: str) -> list[Number]:
         """The numbers of a text of such lines, whose disk is strict."""
-        return list(numbers(join(read_text(self.file("text", "".join(f"{line}\n" for line in lines)), 250), ["7:0"])))
+        return list(numbers(joining.story_of(self.file("text", "".join(f"{line}\n" for line in lines)), 250, ["7:0"])))
 
     def test_to_the_last_digit(self) -> None:
         tally = tally_of(story_of(STRICT, "7:0"))
         wanted = {Kind.FREE: 160, Kind.SETPOINT: 160, Kind.FOLLOWING: 15, Kind.RATE: 160, Kind.PERIOD: 160, Kind.BALANCED: 15,
                   Kind.OWN_SAMPLE_RATE: 14, Kind.OWN_RATE_LIMIT: 14}
         for kind, equal in wanted.items():
-            self.assertEqual(tally.of(kind), [equal, 0, 0], kind)
+            self.assertEqual(counts(tally, kind), [equal], kind)
 
     def test_by_its_own_pages(self) -> None:
         story = story_of(STRICT, "7:0")
@@ -204,13 +195,13 @@ class StrictDisks(WithDirectory):
 
     def test_estimates_are_those_of_the_domain(self) -> None:
         tally = tally_of(story_of(STRICT, "7:0"))
-        self.assertEqual((tally.of(Kind.SAMPLE_RATE), tally.of(Kind.RATE_LIMIT)), ([0, 0, 14], [6, 0, 8]))
+        self.assertEqual((counts(tally, Kind.SAMPLE_RATE), counts(tally, Kind.RATE_LIMIT)), ([0, 0, 0, 0, 14], [6, 0, 0, 0, 8]))
         odd = [it for it in numbers_of(STRICT, "7:0") if it.kind in (Kind.SAMPLE_RATE, Kind.RATE_LIMIT)
                and it.verdict is not Verdict.EQUAL]
         self.assertEqual({it.reason for it in odd}, {strict.ESTIMATE})
 
     def test_the_allowance_after_a_free_check(self) -> None:
-        after = {it.check.line for it in story_of(STRICT).checks if it.frees}
+        after = {it.check.line for it in story_of(STRICT).checks if it.free}
         found, other = ([(it.kernel, it.verdict) for it in numbers_of(STRICT, *disks) if it.kind is Kind.ALLOWANCE and it.line in after]
                         for disks in (["7:0"], []))
         self.assertEqual(found, [(32, Verdict.EQUAL)] * 5)
@@ -227,7 +218,7 @@ class StrictDisks(WithDirectory):
                                                                  for disk in ("7:0", "7:1"))
         path = self.file("text", "\n".join([state, state, checks[1], state, state, checks[0], state, state, ""]))
         for disks, told in ((["7:0"], [False, True, True]), (["7:1"], [True, False, False])):
-            self.assertEqual([it.is_strict for it in join(read_text(path), disks).frees], told)
+            self.assertEqual([it.is_strict for it in joining.story_of(path, None, disks).frees], told)
 
     def test_a_free_check_above_the_hard_limit(self) -> None:
         above = STATE.replace("dirty=43964", "dirty=51201")
@@ -247,13 +238,13 @@ class StrictDisks(WithDirectory):
         for pages, told in ((3838, [True, True]), (3839, [False, True]), (3840, [False, False])):
             check = CHECK.replace("wb_setpoint=44799 wb_dirty=16832", f"wb_setpoint=4479 wb_dirty={pages}")
             path = self.file("text", "\n".join([state, line_of("balance_dirty_pages", check), ""]))
-            self.assertEqual(strict.is_below_own(join(read_text(path), ["7:0"]).checks[0]), told)
+            self.assertEqual(strict.is_below_own(joining.story_of(path, None, ["7:0"]).checks[0]), told)
 
     def test_which_threshold_would_give_a_rate(self) -> None:
         state = line_of("global_dirty_state", STATE)
         check = CHECK.replace("wb_setpoint=44799 wb_dirty=16832", "wb_setpoint=4479 wb_dirty=4608")
-        for rate, reason in ((41568, "a context threshold of 5000 to 5001 pages would give it, its setpoint tells 5119 to 5120"),
-                             (400000, "no context threshold gives it: a changed rule")):
+        for rate, reason in ((41568, "it would take a context threshold of 5000 to 5001 pages, its setpoint tells 5119 to 5120"),
+                             (400000, "no context threshold gives it")):
             changed = check.replace("task_ratelimit=113324", f"task_ratelimit={rate}")
             found = self.strict_numbers(state, line_of("balance_dirty_pages", changed))
             self.assertEqual([it.reason for it in found if it.kind is Kind.RATE], [reason])
@@ -269,14 +260,14 @@ class StrictDisks(WithDirectory):
     def test_in_all_cgroups(self) -> None:
         check = CHECK.replace("cgroup_ino=1", "cgroup_ino=77")
         path = self.file("text", "\n".join([line_of("global_dirty_state", STATE), line_of("balance_dirty_pages", check), ""]))
-        self.assertEqual([[it.is_strict for it in join(read_text(path), disks).checks] for disks in ([], ["7:0"])], [[False], [True]])
+        self.assertEqual([[it.is_strict for it in joining.story_of(path, None, disks).checks] for disks in ([], ["7:0"])], [[False], [True]])
 
 
 class Words(WithDirectory):
     def test_compare(self) -> None:
         status, out, err = printed("kernel", "compare", TWO)
         self.assertEqual((status, err), (0, ""))
-        self.assertRegex(out, r"task rate limit +327 +0 +3 +99.1")
+        self.assertRegex(out, r"task rate limit +330 +0 +0 +0 +0 +100.0")
 
     def test_the_list_has_both_numbers(self) -> None:
         _, out, _ = printed("kernel", "compare", "--list", "--hz", "250", TWO)
@@ -288,9 +279,9 @@ class Words(WithDirectory):
         status, out, err = printed("kernel", "compare", "--strict", "7:0", STRICT)
         self.assertEqual((status, err), (0, ""))
         self.assertIn("disks 7:0, of which 7:0 strict; 250 ticks a second\n", out)
-        self.assertRegex(out, r"\ntask rate limit +160 +0 +0 +100.0\n")
-        self.assertRegex(out, r"\ntask rate of an estimate +0 +0 +14 +0.0\ntask rate, own ratio +14 +0 +0 +100.0\n")
-        self.assertRegex(out, r"\nrate limit +6 +0 +8 +42.9\nrate limit, own setpoint +14 +0 +0 +100.0\n")
+        self.assertRegex(out, r"\ntask rate limit +160 +0 +0 +0 +0 +100.0\n")
+        self.assertRegex(out, r"\ntask rate of an estimate +0 +0 +0 +14 +0 +0.0\ntask rate, own ratio +14 +0 +0 +0 +0 +100.0\n")
+        self.assertRegex(out, r"\nrate limit +6 +0 +0 +8 +0 +42.9\nrate limit, own setpoint +14 +0 +0 +0 +0 +100.0\n")
 
     def test_a_strict_disk_that_is_not_there(self) -> None:
         self.assertEqual(printed("kernel", "compare", "--strict", "7:1", "--strict", "8:0", TWO),

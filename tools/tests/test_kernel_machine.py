@@ -35,7 +35,7 @@ class Pictures(WithDirectory):
 
         found = {(it.line, it.kind): it for it in numbers_of(STRICT, "7:0")}
         figure = drawing.compose(story_of(STRICT, "7:0"), "7:0", found, "strict", 0.0, math.inf)
-        self.assertEqual(figure.axes[1].get_title(loc="left"), "task rate limits: 160 of 160 equal")
+        self.assertEqual(figure.axes[1].get_title(loc="left"), "task rate limits, 160: 160 equal")
         status, out, err = printed("kernel", "plot", "--to", "0.5", "--strict", "7:0", STRICT, self.directory)
         self.assertEqual((status, out, err), (0, os.path.join(self.directory, "strict-disk-disk-7-0.png") + "\n", ""))
 
@@ -86,18 +86,41 @@ class Beside(WithDirectory):
     def test_the_word(self) -> None:
         settled = [os.path.join(EXAMPLES, f"settled.{kind}") for kind in ("trace", "journal")]
         status, out, err = printed("kernel", "beside", TWO, *settled)
-        self.assertEqual((status, err), (0, ""))
+        self.assertEqual(status, 0)
+        self.assertRegex(err, r"^wb: the spans don't fit: \d\.\d s of the kernel, \d+\.\d s of the replay\n$")
         self.assertRegex(out, r"time paused of a writer, % +\d+\.\d +\d+\.\d\n")
 
 
 class Recordings(WithDirectory):
-    def test_a_dry_run_says_what_and_back(self) -> None:
-        status, out, _ = printed("kernel", "record", "--dry-run", os.path.join(self.directory, "text"))
+    def dry(self, *words: str) -> list[str]:
+        """What a recording would do, and then how it would put that back."""
+        status, out, err = printed("kernel", "record", "--dry-run", os.path.join(self.directory, "text"), *words)
+        self.assertEqual((status, err, os.listdir(self.directory)), (0, "", []))
         lines = out.splitlines()
         middle = lines.index("and then, also after an interrupt:")
-        self.assertEqual((status, len(lines)), (0, 2 * middle + 1))
-        self.assertIn("vm.dirty_bytes to 200 MiB", out)
-        self.assertFalse(os.listdir(self.directory))
+        self.assertEqual(len(lines), 2 * middle + 1)
+        return lines[:middle]
+
+    def test_what_runs_is_recorded_and_nothing_is_set(self) -> None:
+        for words, does in (((), "waits until an interrupt (Ctrl-C), whatever runs meanwhile"),
+                            (("--seconds", "5"), "waits for 5 s, whatever runs meanwhile"),
+                            (("--seconds", "5", "--", "dd", "of=/a file", "--seconds"), "runs dd 'of=/a file' --seconds")):
+            lines = self.dry(*words)
+            self.assertEqual((len(lines), lines[1]), (2, does))
+            self.assertRegex(lines[0], "^records global_dirty_state, bdi_dirty_ratelimit, balance_dirty_pages in a buffer of its own")
+
+    def test_a_demonstration_sets_what_it_says(self) -> None:
+        lines = self.dry("--demo")
+        self.assertEqual(len(lines), 7)
+        self.assertTrue(any("sets vm.dirty_bytes to 200 MiB" in line for line in lines))
+        self.assertIn("runs 3 dd, each of which writes a file of its own with 64 KiB a call, for 12 s", lines)
+        self.assertFalse(any("slows" in line for line in self.dry("--demo", "--disk", "0")))
+
+    def test_words_of_a_demonstration(self) -> None:
+        for words in (("--writers", "2"), ("--demo", "--dirty", "10", "--background", "10"), ("--demo", "--", "dd")):
+            status, out, err = printed("kernel", "record", "--dry-run", "text", *words)
+            self.assertEqual((status, out), (1, ""), words)
+            self.assertTrue(err.startswith("wb: "))
 
     def test_without_tracefs(self) -> None:
         with mock.patch.object(recording, "TRACING", os.path.join(self.directory, "none")):
@@ -105,8 +128,25 @@ class Recordings(WithDirectory):
         self.assertEqual((status, out), (5, ""))
         self.assertIn("tracefs isn't there", err)
 
-    def test_thresholds_in_their_order(self) -> None:
-        self.assertEqual(printed("kernel", "record", "--dry-run", "--dirty", "10", "--background", "10", "text")[0], 1)
+    def test_a_command_runs_to_its_end_or_to_the_time(self) -> None:
+        for words, seconds, status in (("exit 3", None, 3), ("exit 0", 9, 0), ("sleep 60", 1, 0)):
+            it = recording.Recording(Wish("text", seconds, ("sh", "-c", words)))
+            it.run_command()
+            it.end_command()
+            assert it.command
+            self.assertEqual((it.status, it.command.poll() is None), (status, False))
+
+    def test_an_interrupt_ends_what_has_no_time_well(self) -> None:
+        with mock.patch("time.sleep", side_effect=KeyboardInterrupt):
+            recording.Recording(Wish("text")).wait()
+            with self.assertRaises(KeyboardInterrupt):
+                recording.Recording(Wish("text", 5)).wait()
+
+    def test_a_program_that_isn_t_there(self) -> None:
+        with mock.patch.object(recording, "TRACING", self.directory), mock.patch("os.geteuid", return_value=0):
+            os.makedirs(os.path.join(self.directory, "events", "writeback"))
+            self.assertEqual(recording.missing(Wish("text", command=("no-such-program",))), "these programs aren't there: no-such-program")
+            self.assertEqual(recording.missing(Wish("text")), "")
 
     def test_all_is_put_back_from_the_last(self) -> None:
         said: list[str] = []
@@ -122,10 +162,6 @@ class Recordings(WithDirectory):
         with self.assertRaises(KeyboardInterrupt):
             record(steps, said.append)
         self.assertEqual(said, ["a", "b", "c", "no c", "no b", "that could not be done: busy", "no a"])
-
-    def test_a_disk_as_it_is(self) -> None:
-        steps = recording.Recording(Wish("text", disk=0)).steps()
-        self.assertFalse(any("slows" in step.says for step in steps))
 
 
 if __name__ == "__main__":

@@ -61,7 +61,7 @@ class FromMachine(WithDirectory):
 
     def test_a_machine_without_jobs(self) -> None:
         status, out, err = self.made()
-        self.assertEqual((status, err), (0, ""))
+        self.assertEqual((status, err), (0, "wb: disk 8:0\n"))
         self.assertEqual(out.splitlines(), [self.trace, f"{self.trace}.about"])
         self.assertEqual(self.lines()[:7], ["cpus 2", "set dirty_ratio 20", "set dirty_background_ratio 10", "set dirty_bytes 0",
                                             "set dirty_background_bytes 0", "avail 0 100000", "device 0 25600 0 100"])
@@ -97,6 +97,39 @@ class FromMachine(WithDirectory):
         self.made("--disk", "7:0")
         self.assertIn("device 0 25600 5 50", self.lines())
         self.assertEqual(self.made("--disk", "9:9"), (5, "", "wb: there is no disk 9:9 (there: 7:0, 8:0)\n"))
+
+    def block(self, number: str, name: str, sectors: int) -> None:
+        """A block device: its number, name and size."""
+        self.put(f"sys/devices/{name}/size", f"{sectors}\n")
+        self.put(f"sys/devices/{name}/dev", f"{number}\n")
+        self.link(number, name)
+
+    def link(self, number: str, name: str) -> None:
+        """Where a block device is found by its number."""
+        os.makedirs(os.path.join(self.directory, "sys/dev/block"), exist_ok=True)
+        os.symlink(os.path.join(self.directory, "sys/devices", name), os.path.join(self.directory, "sys/dev/block", number))
+
+    def test_the_disk_of_the_root(self) -> None:
+        for name in ("7:0", "253:0", "254:0", "254:16"):
+            self.disk(name, 0, 100)
+        for number, name, sectors in (("7:0", "loop0", 8), ("8:0", "sda", 0), ("253:0", "zram0", 8), ("254:0", "vda", 8), ("254:16", "vdb", 8)):
+            self.block(number, name, sectors)
+        self.put("sys/devices/vdb/vdb1/partition", "1\n")
+        self.link("254:17", "vdb/vdb1")
+        self.assertEqual(self.made()[2], "wb: disk 254:0 (vda)\n")
+        for line, named in (("25 1 254:17 / / rw - ext4 /dev/vdb1 rw", "disk 254:16 (vdb), the one of /"),
+                            ("25 1 254:16 / / rw shared:1 - xfs /dev/vdb rw", "disk 254:16 (vdb), the one of /"),
+                            ("25 1 254:16 / /home rw - xfs /dev/vdb rw", "disk 254:0 (vda)"),
+                            ("25 1 7:0 / / rw - ext4 /dev/loop0 rw", "disk 254:0 (vda)"),
+                            ("25 1 0:30 / / rw - overlay overlay rw", "disk 254:0 (vda)")):
+            self.put("proc/self/mountinfo", f"20 1 0:5 / /proc rw - proc proc rw\n{line}\n")
+            self.assertEqual(self.made("--force")[2], f"wb: {named}\n", line)
+            self.assertTrue(any(it.startswith(f"{named}: not told") for it in self.lines(".about")))
+        self.assertEqual(self.made("--force", "--disk", "253:0")[0], 0)
+
+    def test_only_disks_that_are_none(self) -> None:
+        self.block("8:0", "loop8", 8)
+        self.assertEqual(self.made(), (5, "", "wb: there is no disk in sys/class/bdi to which files are written (there: 8:0 (loop8))\n"))
 
     def test_what_is_too_large_is_scaled_or_refused(self) -> None:
         self.put("proc/meminfo", MEMORY.replace("200000", "409600000000"))

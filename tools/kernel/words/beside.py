@@ -12,8 +12,10 @@ from program.output import Staging, held_text, publish
 from program.statuses import Status
 
 from ..beside import of_kernel, of_replay, rows
-from ..joining import join
-from .texts import add_text, opened
+from .texts import add_text, joined
+
+FIT = 0.5
+"""The shorter of two spans is at least such a part of the longer one, or numbers of both say little beside each other."""
 
 FORMATS = ("png", "svg", "pdf")
 
@@ -33,11 +35,14 @@ def run(given: argparse.Namespace) -> Status:
     """Prints the table, and draws the picture where one is wanted."""
     if given.picture and not picture.is_there():
         raise NotThere(f"{sys.executable} has no matplotlib (Debian's package is python3-matplotlib)")
-    story = join(opened(given))
+    story = joined(given)
     trace = read_trace(given.trace)
     spans = [of_kernel(story), of_replay(trace, Reader(given.journal, trace).events())]
     if not spans[1].levels:
         raise OtherWords("the journal has no check that isn't free")
+    shorter, longer = sorted(span.seconds for span in spans)
+    if shorter < FIT * longer:
+        print(f"wb: the spans don't fit: {spans[0].seconds:.1f} s of the kernel, {spans[1].seconds:.1f} s of the replay", file=sys.stderr)
     with held_text() as text:
         print(f"{'':<32}{'kernel':>12}{'replay':>12}", file=text)
         for name, values in rows(spans):

@@ -2,77 +2,100 @@
 from __future__ import annotations
 
 import argparse
+import tempfile
+from collections.abc import Iterator
+from contextlib import contextmanager
 from typing import TextIO
 
-from program.output import held_text
+from program.output import MOST_HELD, held_text
 from program.statuses import Status
 
-from .. import comparing
-from ..comparing import Tally
-from ..joining import Story
+from ..comparing import Comparing, Group, Tally
+from ..joining import told
 from ..numbers import UNITS, Number, Verdict
-from .texts import add_strict, add_text, joined
+from .texts import add_strict, add_text
+
+COLUMNS = {Verdict.EQUAL: "equal", Verdict.WITHIN: "within", Verdict.BETWEEN: "between", Verdict.NOT_TOLD: "not told",
+           Verdict.DIFFERENT: "different", Verdict.UNEXPLAINED: "unexplained"}
 
 
 def add(command: argparse.ArgumentParser) -> None:
     """A text, and what is listed of it."""
     add_text(command)
     command.add_argument("--list", action="store_true", help="each number with both values")
-    command.add_argument("--different", action="store_true", help="lists those only that aren't equal, each with what could explain it")
+    command.add_argument("--different", action="store_true", help="lists those only that aren't equal, each with its reason")
+    command.add_argument("--allow-unexplained", action="store_true", help=f"status 0, and not {Status.UNEXPLAINED.value}, where a number is "
+                         "unexplained")
     add_strict(command)
 
 
 def run(given: argparse.Namespace) -> Status:
     """Prints the table, and the list where it is wanted."""
-    story = joined(given)
-    found = list(comparing.numbers(story))
-    tally = Tally()
-    for it in found:
-        tally.take(it)
-    with held_text() as text:
-        head(story, text)
-        table(tally, text)
-        notes(story, tally, text)
-        if given.list or given.different:
-            listing(story, [it for it in found if not given.different or it.verdict is not Verdict.EQUAL], text)
-    return Status.GOOD
+    with held_text() as text, held_list() as rows:
+        def each(it: Number, task: str) -> None:
+            if not given.different or it.verdict is not Verdict.EQUAL:
+                listed(it, task, rows)
+
+        is_listed = given.list or given.different
+        found = told(given.text, given.hz, given.strict, lambda of: Comparing(of, each if is_listed else None))
+        head(found, text)
+        for group, tally in found.tallies.items():
+            if tally.kinds():
+                table(group, tally, text)
+        notes(found, text)
+        if is_listed:
+            print(f"\n{'line':>7}  {'task':<16}{'number':<26}{'kernel':>10}{'laws':>10}  {'unit':<8}{'':<22}why", file=text)
+            rows.seek(0)
+            text.writelines(rows)
+    return Status.GOOD if given.allow_unexplained or not found.unexplained() else Status.UNEXPLAINED
 
 
-def head(story: Story, out: TextIO) -> None:
+@contextmanager
+def held_list() -> Iterator[TextIO]:
+    """Where the list waits for the table that stands above it."""
+    with tempfile.SpooledTemporaryFile(MOST_HELD, mode="w+", encoding="utf-8", errors="surrogateescape", newline="\n") as held:
+        yield held  # type: ignore[misc]
+
+
+def head(found: Comparing, out: TextIO) -> None:
     """What the text is."""
-    text = story.text
-    strict = ", ".join(sorted({it.check.device for it in story.checks if it.is_strict}))
-    print(f"{text.path}: {len(story.checks)} checks, {len(story.frees)} free ones, {len(story.estimates)} estimates; disks "
+    text = found.text
+    strict = ", ".join(sorted(found.strict))
+    print(f"{text.path}: {found.checks} checks, {found.frees} free ones, {found.estimates} estimates; disks "
           f"{', '.join(text.disks)}{f', of which {strict} strict' if strict else ''}; {text.clock.second} ticks a second", file=out)
     if text.lost:
         print(f"the kernel says that it lost {text.lost} lines", file=out)
-    print(file=out)
+    if found.raised:
+        print(f"real-time: {', '.join(sorted(found.raised))}", file=out)
 
 
-def table(tally: Tally, out: TextIO) -> None:
+def table(group: Group, tally: Tally, out: TextIO) -> None:
     """How many numbers of each kind compare how."""
-    print(f"{'number':<26}{'equal':>8}{'within':>8}{'different':>11}{'equal, %':>10}", file=out)
+    used = [verdict for verdict in COLUMNS if verdict is not Verdict.NOT_TOLD or any(tally.of(kind)[NOT_TOLD] for kind in tally.kinds())]
+    print(f"\n{group.value}: {tally.checks}" if group is not Group.PLAIN else "", file=out)
+    print(f"{'number':<26}" + "".join(f"{COLUMNS[verdict]:>12}" for verdict in used) + f"{'equal, %':>10}", file=out)
     for kind in tally.kinds():
-        equal, within, different = tally.of(kind)
-        percent = 100 * equal / (equal + within + different)
-        print(f"{kind.value:<26}{equal:>8}{within:>8}{different:>11}{percent:>10.1f}", file=out)
+        of = dict(zip(Verdict, tally.of(kind)))
+        percent = 100 * of[Verdict.EQUAL] / sum(of.values())
+        print(f"{kind.value:<26}" + "".join(f"{of[verdict]:>12}" for verdict in used) + f"{percent:>10.1f}", file=out)
 
 
-def notes(story: Story, tally: Tally, out: TextIO) -> None:
-    """For each kind that has a difference, the farthest one."""
-    if tally.farthest:
+NOT_TOLD = list(Verdict).index(Verdict.NOT_TOLD)
+
+
+def notes(found: Comparing, out: TextIO) -> None:
+    """For each kind that has numbers that differ or are unexplained, the farthest one."""
+    far = [it for tally in found.tallies.values() for it in tally.farthest.values()]
+    if far:
         print("\nfarthest off:", file=out)
-    for it in tally.farthest.values():
+    for it in far:
         laws = str(it.low) if it.low == it.high else f"{it.low} to {it.high}"
         why = f" ({it.reason})" if it.reason else ""
-        print(f"  {it.kind.value}, line {it.line}: kernel {it.kernel}, laws {laws} {UNITS[it.kind]}{why}".rstrip(), file=out)
+        print(f"  {it.verdict.value}: {it.kind.value}, line {it.line}: kernel {it.kernel}, laws {laws} {UNITS[it.kind]}{why}".rstrip(), file=out)
 
 
-def listing(story: Story, found: list[Number], out: TextIO) -> None:
-    """Each number in a row."""
-    tasks = {line.line: line.task for line in story.text.lines}
-    print(f"\n{'line':>7}  {'task':<16}{'number':<26}{'kernel':>10}{'laws':>10}  {'unit':<8}{'':<17}why", file=out)
-    for it in found:
-        row = (f"{it.line:>7}  {tasks[it.line]:<16}{it.kind.value:<26}{it.kernel:>10}{it.laws:>10}  {UNITS[it.kind]:<8}"
-               f"{it.verdict.value:<17}{it.reason}")
-        print(row.rstrip(), file=out)
+def listed(it: Number, task: str, out: TextIO) -> None:
+    """A number in a row."""
+    row = (f"{it.line:>7}  {task:<16}{it.kind.value:<26}{it.kernel:>10}{it.laws:>10}  {UNITS[it.kind]:<8}"
+           f"{it.verdict.value:<22}{it.reason}")
+    print(row.rstrip(), file=out)

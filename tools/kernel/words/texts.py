@@ -3,15 +3,15 @@ from __future__ import annotations
 
 import argparse
 
-from program.errors import OtherWords
-
-from ..joining import Story, join
-from ..reading import SECONDS, Text, read_text
+from ..joining import Story, story_of
+from ..reading import SECONDS
 
 
-def add_text(command: argparse.ArgumentParser) -> None:
-    """A part reads a text."""
-    command.add_argument("text", metavar="TEXT", help="what trace_pipe or 'trace-cmd report' printed, '-' for standard input")
+def add_text(command: argparse.ArgumentParser, is_last: bool = False) -> None:
+    """A part reads a text; where a word before it may have none of its own, that one may have taken it."""
+    command.add_argument("text", metavar="TEXT", nargs="?" if is_last else None,
+                         help="what trace or trace_pipe of tracefs, 'trace-cmd report' or 'perf script' "
+                         "printed, '-' for standard input")
     command.add_argument("--hz", type=int, choices=SECONDS, help="ticks a second of the kernel (else as its spans say)")
 
 
@@ -23,14 +23,4 @@ def add_strict(command: argparse.ArgumentParser) -> None:
 
 def joined(given: argparse.Namespace) -> Story:
     """The story of the text, with its strict disks."""
-    text = opened(given)
-    disks = sorted({line.device for line in text.balances})
-    for disk in given.strict:
-        if disk not in disks:
-            raise OtherWords(f"--strict {disk}: no check is of that disk, there are {', '.join(disks)}")
-    return join(text, given.strict)
-
-
-def opened(given: argparse.Namespace) -> Text:
-    """The text."""
-    return read_text(given.text, given.hz)
+    return story_of(given.text, given.hz, getattr(given, "strict", ()))

@@ -7,9 +7,8 @@ import sys
 from program.output import held_text
 from program.statuses import Status
 
-from ..joining import join
 from ..machine import machine_of, trace_lines
-from .texts import add_text, opened
+from .texts import add_text, joined
 
 
 def add(command: argparse.ArgumentParser) -> None:
@@ -20,7 +19,7 @@ def add(command: argparse.ArgumentParser) -> None:
 
 def run(given: argparse.Namespace) -> Status:
     """Prints the trace, and on standard error what it stands for."""
-    machine = machine_of(join(opened(given)), given.seconds)
+    machine = machine_of(joined(given), given.seconds)
     with held_text() as text:
         for line in trace_lines(machine):
             print(line, file=text)
