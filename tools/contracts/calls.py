@@ -9,7 +9,7 @@ import re
 from dataclasses import dataclass, field
 
 PUB = r"(?P<pub>pub(?:\([^)]*\))? )?"
-FUNCTION = re.compile(PUB + r"(?:unsafe |const )*fn (?P<name>\w+)")
+FUNCTION = re.compile(PUB + r"(?:unsafe |const |extern \"C\" )*fn (?P<name>\w+)")
 BLOCK = re.compile(PUB + r"(?P<word>mod|trait|impl)\b(?P<rest>.*)")
 DECLARED = re.compile(PUB + r"(?:struct|enum|trait|type|union) (?P<name>\w+)")
 USE = re.compile(PUB + r"use (?P<tree>[^;]*);")

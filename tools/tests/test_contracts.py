@@ -211,6 +211,10 @@ class Contracts(unittest.TestCase):
         self.put("crates/boxes/src/laws.rt", LAWS + "\npub fn more()\n    ensures one { A }\n    ensures two { B }\n{}\n")
         self.assertEqual(self.house().missing(), ["boxes::laws::more one", "boxes::laws::more two"])
 
+    def test_an_export_for_c_is_a_call(self) -> None:
+        self.put("crates/boxes/src/laws.rt", '/// For C.\n#[unsafe(no_mangle)]\npub extern "C" fn out()\n    ensures told { A }\n{}\n')
+        self.assertIn("| `laws::out` | `told` | For C. |", self.rows())
+
     def test_a_program_without_public_modules_shows_what_its_modules_show(self) -> None:
         self.put("crates.txt", "low:\nboxes: low\ntool:\n")
         self.put("crates/tool/src/main.rt", "//! A tool.\n\nmod work;\n\nfn main() {}\n")
