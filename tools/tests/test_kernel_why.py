@@ -84,6 +84,22 @@ class Causes(WithDirectory):
             said = next(line for line in lines_of(self.told(period=period, think=think, pause=pause)) if line.startswith("pause "))
             self.assertEqual("unexplained" in said, not is_by_laws, said)
 
+    def test_no_pages_to_pay_for(self) -> None:
+        for dirtied in (31, 33):
+            told = self.told(dirtied=dirtied, dirtied_pause=32)
+            lines = list(lines_of(told))
+            self.assertEqual(told.cause.decision, "go")
+            self.assertIn(f"period                    0 ms for {dirtied} pages at that rate, an allowance of 32", lines)
+            self.assertIn("pause                     0 ms                  equal by the laws", lines)
+
+    def test_of_whole_texts(self) -> None:
+        for path in (THREE, STRICT):
+            story = read_story(path)
+            causes = {told_of(it, (), story.text.clock).cause for it in story.checks}
+            self.assertFalse({Cause.UNKNOWN.value, Cause.NOT_TOLD.value} & {cause.why for cause in causes})
+            waits = {cause.why for cause in causes if cause.decision == "wait"}
+            self.assertEqual(waits, {Cause.AT_LIMIT.value if path == THREE else Cause.OWN_AT_LIMIT.value}, "nothing says that the disk is strict")
+
     def test_a_text_that_begins_with_a_check_tells_no_cause(self) -> None:
         path = self.file("text", f"{line_of('balance_dirty_pages', CHECK)}\n{line_of('global_dirty_state', STATE)}\n")
         story = read_story(path, 250)
