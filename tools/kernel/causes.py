@@ -8,6 +8,7 @@ from typing import NamedTuple
 from laws.decision import DomainRead
 from laws.limits import PAGE, setpoint_of
 from laws.position import position
+from laws.sentences import row
 from laws.strict import own_freerun, strict_position
 
 from .found import By, Found
@@ -61,6 +62,16 @@ def parts_of(found: Found) -> list[Part]:
     return [Part("rate limit", alone, f"{check.dirtied} pages at {check.ratelimit} pages/s"),
             Part(domain, with_domain - alone, f"at {of_domain} of 1024 by its polynomial"),
             Part("the disk", whole - with_domain, f"at {of_both} of 1024 by {disk} too")]
+
+
+def period_lines(found: Found) -> Iterator[str]:
+    """The same, a line each, and what of it had gone by. There is none where the rate is 0."""
+    think = found.joined.check.think
+    parts = parts_of(found)
+    for part in parts:
+        yield row(part.name, f"{1000 * part.seconds:+.1f} ms", part.how)
+    if parts and think:
+        yield row("already gone", f"{-think:+.1f} ms", f"since its last pause ended: think={think}")
 
 
 def cause_of(found: Found | None) -> Cause:

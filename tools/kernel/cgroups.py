@@ -62,7 +62,15 @@ class Solved(NamedTuple):
 
 
 def solved(joined: Joined) -> Solved | None:
-    """The threshold that is left open and gives the rate, if there is one; nothing where no average or state is told."""
+    """The threshold that is left open and gives the rate, if there is one; nothing where no average or state is told. Each check is solved
+    once, and tells those after it what is open: so all checks of cgroups are to be solved in their order, whichever are wanted."""
+    if joined.solved is None:
+        joined.solved = (solve(joined),)
+    return joined.solved[0]
+
+
+def solve(joined: Joined) -> Solved | None:
+    """The same for the first time."""
     check, state, scale = joined.check, joined.state, joined.scale
     told = averages.of_rate(joined)
     if not told or state is None or scale is None:

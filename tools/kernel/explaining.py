@@ -5,7 +5,9 @@ from __future__ import annotations
 import heapq
 from dataclasses import dataclass
 
+from . import cgroups
 from .causes import Cause, cause_of
+from .domains import is_by_cgroup
 from .found import Found, found_of
 from .joining import Estimated, Free, Joined
 from .reading import Text
@@ -76,6 +78,8 @@ class Explaining:
         self.end = check.time
         self.checks += 1
         self.tasks.add(check.task)
+        if is_by_cgroup(joined):
+            cgroups.solved(joined)
         if self.wish.line:
             self.look(joined)
         elif check.pause > 0 and self.is_wanted(check.task):

@@ -14,7 +14,7 @@ from array import array
 from collections import deque
 from collections.abc import Callable, Collection, Iterable, Iterator
 from dataclasses import dataclass, field
-from typing import Protocol, TypeVar, Union
+from typing import TYPE_CHECKING, Protocol, TypeVar, Union
 
 from laws.clock import Clock
 from laws.pauses import Least
@@ -24,6 +24,9 @@ from .raised import Plain
 from .scale import Scale
 from .reading import SECONDS, Lost, OtherClock, Text, guessed_second, lines_of, opened
 from .tracepoints import Balance, Line, Sample, State
+
+if TYPE_CHECKING:
+    from .cgroups import Solved
 
 MOST_WAITING = 20_000
 """Checks and estimates that wait for the next estimate of a disk. Where more do, the first one goes on without: an estimate comes five times a
@@ -37,7 +40,7 @@ class Joined:
     """A check, with the domain's state that it read, the estimates around it, and what its task did before."""
 
     __slots__ = ("check", "state", "before", "last", "is_own", "is_strict", "is_raised", "after", "previous", "free",
-                 "bounds", "first_bounds", "scale")
+                 "bounds", "first_bounds", "scale", "solved")
 
     def __init__(self, check: Balance, state: State | None, last: Estimated | None, is_own: bool, is_strict: bool,
                  previous: Joined | None = None, free: State | None = None) -> None:
@@ -73,6 +76,9 @@ class Joined:
 
         self.scale: Scale | None = None
         """Of its cgroup, where it is in one."""
+
+        self.solved: tuple[Solved | None] | None = None
+        """What gives its rate by its cgroup's own domain, once that is solved: `cgroups.solved`."""
 
 
 @dataclass

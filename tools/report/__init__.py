@@ -6,7 +6,7 @@
     of_journal      the report of a trace and its journal
     journal_causes  which cause a check of a journal has
     of_kernel       the report of a kernel's text
-    kernel_why      which cause a check of a kernel has, and what is said of it
+    kernel_why      what is shown of a check of a kernel: what `wb kernel explain` says of it, and its numbers
     script          plotly's script
     page            the file: page.html with page.css, page.js, the content and plotly's script in it
     words           the word of `tools/wb`

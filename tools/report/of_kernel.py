@@ -7,15 +7,15 @@ from collections.abc import Iterator, Sequence
 from dataclasses import dataclass, field, replace
 
 from kernel import comparing
-from kernel.joining import Joined, Story
+from kernel.joining import Story
 from kernel.numbers import Kind, Number, Verdict
 from kernel.reads import limits_of
 from kernel.tracepoints import State
 from laws.limits import Limits, freerun_of, setpoint_of
 
-from . import kernel_why
 from .causes import Causes
 from .content import Axis, Bars, CheckText, Dots, Line, Panel, Report, Table, put_together
+from .kernel_why import Told, is_of_machine, lines_of, spans, told_of
 from .thinning import CHECK_RULE, CURVE_RULE, MOST_BINS, Peaks, Thinned
 
 MICRO = 1_000_000
@@ -31,24 +31,12 @@ HALVES = ("The pauses of the kernel stand above the middle of a row, and those o
           "length, so that short ones show beside long ones.")
 
 
-@dataclass(frozen=True)
-class SeenCheck:
-    """A check, and its numbers beside those of the laws."""
-
-    joined: Joined
-    numbers: tuple[Number, ...]
-
-    def number(self, kind: Kind) -> Number | None:
-        """The number of a kind."""
-        return next((number for number in self.numbers if number.kind is kind), None)
-
-
 @dataclass
 class Seen:
     """What the parts are made of: the checks that are shown, and how wide the bins of the widest curve are."""
 
     story: Story
-    shown: list[SeenCheck]
+    shown: list[Told]
     first: float
     last: float
     widths: list[int] = field(default_factory=list)
@@ -68,7 +56,7 @@ class Seen:
             return Line(name, role, [], [])
         return Line(name, role, [*(place / MICRO for place in places), max(self.last, places[-1] / MICRO)], [*values, values[-1]])
 
-    def of(self, disk: str) -> list[tuple[int, SeenCheck]]:
+    def of(self, disk: str) -> list[tuple[int, Told]]:
         """The checks of a disk, each with its number."""
         return [(number, seen) for number, seen in enumerate(self.shown) if seen.joined.check.disk == disk]
 
@@ -80,12 +68,13 @@ def report_of(story: Story, title: str) -> Report:
     for number in comparing.numbers(story):
         found.setdefault(number.line, []).append(number)
         tally.take(number)
-    causes, kept = Causes("ms"), Peaks[SeenCheck]([lambda it: it.joined.check.pause, lambda it: it.joined.check.dirty])
+    clock, causes, kept = story.text.clock, Causes("ms"), Peaks[Told]([lambda it: it.joined.check.pause, lambda it: it.joined.check.dirty])
     first = story.checks[0].check.time
     for joined in story.checks:
-        check, cause = joined.check, kernel_why.cause_of(joined, story.text.clock)
+        check, it = joined.check, told_of(joined, found.get(joined.check.line, ()), clock)
+        cause = it.cause
         causes.take(check.task, cause, check.pause)
-        kept.add((check.task, cause.decision), round((check.time - first) * MICRO), SeenCheck(joined, tuple(found.get(check.line, ()))))
+        kept.add((check.task, cause.decision), round((check.time - first) * MICRO), it)
     shown = kept.all()
     seen = Seen(story, shown, first, round(max(line.time for line in story.text.lines) - first, 6))
     panels = list(panels_of(seen))
@@ -106,12 +95,17 @@ def facts_of(story: Story) -> list[str]:
             f"{text.clock.second} ticks a second", *lost]
 
 
-def text_of(seen: Seen, it: SeenCheck) -> CheckText:
+def text_of(seen: Seen, it: Told) -> CheckText:
     """What is said of a check."""
     check, clock = it.joined.check, seen.story.text.clock
-    pause = kernel_why.spans(check.pause, clock) if check.pause > 0 else "none"
+    pause = spans(check.pause, clock) if check.pause > 0 else "none"
     head = f"{check.task} on disk {check.disk}, pause: {pause}; at {seen.place(check.time):.4f} s, line {check.line} of the text"
-    return CheckText(head, kernel_why.sentence_of(it.joined, clock), list(kernel_why.lines_of(it.joined, it.numbers, clock)))
+    return CheckText(head, it.sentence, list(lines_of(it)))
+
+
+def number_of(it: Told, kind: Kind) -> Number | None:
+    """The number of a kind of a check."""
+    return next((number for number in it.numbers if number.kind is kind), None)
 
 
 def beside_table(tally: comparing.Tally) -> Table:
@@ -120,7 +114,7 @@ def beside_table(tally: comparing.Tally) -> Table:
     return Table("Numbers of the kernel beside those of the laws", ["number", *(verdict.value for verdict in Verdict)], rows, is_open=False)
 
 
-def notes_of(seen: Seen, kept: Peaks[SeenCheck]) -> Iterator[str]:
+def notes_of(seen: Seen, kept: Peaks[Told]) -> Iterator[str]:
     """How the report is to be read."""
     yield HALVES
     if max(seen.widths) > 1:
@@ -159,9 +153,9 @@ def domain_panel(seen: Seen) -> Panel:
         of("background threshold", "background", lambda it: it.background, "dot"),
         of("under writeback", "other", lambda it: it.writeback),
         of("dirty or under writeback", "count", lambda it: it.count)]
-    read = [(number, it) for number, it in enumerate(seen.shown) if it.joined.check.disk == it.joined.check.device]
+    read = [(number, it) for number, it in enumerate(seen.shown) if is_of_machine(it.joined)]
     dots = dots_of(seen, "count that checks read", "read", [(number, it, it.joined.check.dirty) for number, it in read])
-    had = [max(limits_of(it).hard, it.check.dirty) for it in seen.story.checks if kernel_why.has_limits(it)]
+    had = [max(limits_of(it).hard, it.check.dirty) for it in seen.story.checks if is_of_machine(it)]
     return Panel("pages of the global domain", "pages", 270, put_together(lines), [dots] if dots.x else [],
                  top=round(1.06 * max(had, default=0)))
 
@@ -188,9 +182,9 @@ def pauses_panel(seen: Seen) -> Panel:
     clock = seen.story.text.clock
     tasks = sorted({it.joined.check.task for it in seen.shown}, key=lambda name: (len(name), name))
     rows = {task: row for row, task in enumerate(tasks)}
-    by_laws = {number: found.laws for number, it in enumerate(seen.shown) if (found := it.number(Kind.PAUSE))}
+    by_laws = {number: found.laws for number, it in enumerate(seen.shown) if (found := number_of(it, Kind.PAUSE))}
     longest = max([1, *by_laws.values(), *(it.joined.check.pause for it in seen.shown)])
-    panel = Panel(f"pauses of tasks: kernel above, laws below; the highest bar has {kernel_why.spans(longest, clock)}", "",
+    panel = Panel(f"pauses of tasks: kernel above, laws below; the highest bar has {spans(longest, clock)}", "",
                   max(110, 64 * len(tasks) if len(tasks) <= 8 else 32 * len(tasks)), rows=[*tasks])
 
     def bars(name: str, role: str, side: int, pauses: list[tuple[int, int]]) -> None:
@@ -201,7 +195,7 @@ def pauses_panel(seen: Seen) -> Panel:
                 [rows[check.task] for _, check, _ in told], [round(side * ROW * (pause / longest) ** 0.5, 4) for *_, pause in told],
                 [number for number, *_ in told]))
 
-    kinds = [kernel_why.cause_of(it.joined, clock).decision for it in seen.shown]
+    kinds = [it.cause.decision for it in seen.shown]
     for kind, name in (("go", "paused at its rate, kernel"), ("wait", "paused at a rate of 0, kernel")):
         bars(name, kind, 1, [(number, it.joined.check.pause) for number, it in enumerate(seen.shown) if kinds[number] == kind])
     bars("paused by the laws", "laws", -1, list(by_laws.items()))
@@ -218,7 +212,7 @@ def rates_panel(seen: Seen, disk: str) -> Panel:
     checks = [it.check for it in seen.story.checks if it.check.disk == disk]
     lines = [replace(seen.curve("rate limit", "other", [(it.time, it.ratelimit) for it in checks]), width=1.8),
              replace(seen.curve("average bandwidth", "background", [(it.time, it.average) for it in samples]), dash="dot")]
-    rates = [(number, it, found) for number, it in seen.of(disk) if (found := it.number(Kind.RATE))]
+    rates = [(number, it, found) for number, it in seen.of(disk) if (found := number_of(it, Kind.RATE))]
     dots = [replace(dots_of(seen, "task rate limit, kernel", "kernel", [(number, it, found.kernel) for number, it, found in rates]),
                     symbol="circle-open"),
             dots_of(seen, "task rate limit, laws", "laws", [(number, it, found.laws) for number, it, found in rates])]
@@ -227,7 +221,7 @@ def rates_panel(seen: Seen, disk: str) -> Panel:
     return Panel(f"rates of disk {disk}", "pages/s", 240, put_together(lines), [it for it in dots if it.x], is_log=is_log)
 
 
-def dots_of(seen: Seen, name: str, role: str, values: Sequence[tuple[int, SeenCheck, float]]) -> Dots:
+def dots_of(seen: Seen, name: str, role: str, values: Sequence[tuple[int, Told, float]]) -> Dots:
     """A point for each check, with its number and its value."""
     return Dots(name, role, [seen.place(it.joined.check.time) for _, it, _ in values], [value for *_, value in values],
                 [number for number, *_ in values])

@@ -109,6 +109,13 @@ class OneCheck(WithDirectory):
         self.assertEqual(out, printed("kernel", "explain", "--longest", "1", THREE)[1])
         self.assertEqual(printed("kernel", "explain", "--longest", "3", THREE)[1].count("a pause of 200 ms"), 3)
 
+    def test_a_check_of_a_cgroup_is_told_the_same_however_it_is_asked_for(self) -> None:
+        own = [joined.check for joined, found in found_in(CGROUP) if found and found.by is By.CGROUP and joined.check.pause > 0]
+        last = max(own, key=lambda check: check.line)
+        out = printed("kernel", "explain", "--longest", "9999", CGROUP)[1]
+        for check in (own[0], last):
+            self.assertIn(printed("kernel", "explain", CGROUP, str(check.line))[1], f"{out}\n", check.line)
+
     def test_each_number_stands_where_it_says(self) -> None:
         with open(THREE, encoding="ascii") as file:
             lines = file.read().splitlines()

@@ -4,6 +4,7 @@ from __future__ import annotations
 import contextlib
 import io
 import os
+import re
 import unittest
 from unittest import mock
 
@@ -14,7 +15,7 @@ from kernel.tracepoints import State, read_common, read_line
 from program.errors import Cause, Fault, OtherWords
 
 from .given import TESTS_TEXTS, WithDirectory
-from .test_kernel import CHECK, STATE, THREE, line_of, printed
+from .test_kernel import CHECK, STATE, THREE, TWO, line_of, printed
 
 AT = "  1021.718208"
 
@@ -63,6 +64,26 @@ class HeadsOfLines(unittest.TestCase):
         self.assertTrue(all(it.previous for it in story.checks[3:]))
 
 
+class OtherPrograms(WithDirectory):
+    def test_a_text_of_each_says_the_same(self) -> None:
+        with open(TWO, encoding="ascii") as file:
+            lines = [re.match(r"\s*(\S+)-(\d+)\s+(\[\d+\])\s+\S+\s+(\d+\.\d+): (\w+): (.*)", line) for line in file.readlines()[:700]]
+        heads = {"perf": "{0:>16} {1:>6} {2} {3:>12}: {4:>33}: {5}\n", "trace-cmd": "{6:>24} {2} {3:>12}: {4:<20} {5}\n",
+                 "tracefs": "{6:>16}  {2} ..... {3:>12}: {4}: {5}\n"}
+        found = {}
+        for program, head in heads.items():
+            text = "cpus=4\n" * (program == "trace-cmd")
+            for line in filter(None, lines):
+                name, number, cpu, time, event, fields = line.groups()
+                event = {"perf": f"writeback:{event}", "trace-cmd": f"{event}:", "tracefs": event}[program]
+                text += head.format(name, number, cpu, time, event, fields, f"{name}-{number}")
+            story = story_of(self.file(program, text))
+            found[program] = [(it.check[1:], it.state and it.state[1:], it.before and it.before[1:]) for it in story.checks]
+        self.assertGreater(len(found["tracefs"]), 80)
+        self.assertEqual(found["perf"], found["tracefs"])
+        self.assertEqual(found["trace-cmd"], found["tracefs"])
+
+
 class Damaged(WithDirectory):
     def fault_of(self, *lines: str) -> Fault:
         """The fault of a text of these lines, before which a check and its state stand."""
@@ -99,7 +120,8 @@ class Damaged(WithDirectory):
             self.assertEqual((fault.line, fault.cause), (3, Cause.BAD_LINE), head)
 
     def test_what_is_missing_in_a_line(self) -> None:
-        self.assertIn("line 3: bad line: balance_dirty_pages without setpoint", str(self.fault_of(line_of("balance_dirty_pages", "bdi 7:0: limit=1"))))
+        fault = self.fault_of(line_of("balance_dirty_pages", "bdi 7:0: limit=1"))
+        self.assertIn("line 3: bad line: balance_dirty_pages without setpoint", str(fault))
 
     def test_time_that_runs_backwards(self) -> None:
         for cpu, time in (("000", "1021.718207"), ("001", "1021.700000")):

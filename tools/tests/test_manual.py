@@ -9,6 +9,7 @@ import subprocess
 import unittest
 from importlib import import_module
 
+from jobs import options as of_jobs
 from program.statuses import MEANINGS
 from program.words import WORDS
 
@@ -60,6 +61,18 @@ def parsers() -> dict[str, argparse.ArgumentParser]:
     return found
 
 
+def long_options(parser: argparse.ArgumentParser) -> set[str]:
+    """Its options, but for that of the help."""
+    return {name for action in parser._actions for name in action.option_strings if name.startswith("--")} - {"--help"}
+
+
+def jobs_parser() -> argparse.ArgumentParser:
+    """One that has the options of jobs alone."""
+    parser = argparse.ArgumentParser()
+    of_jobs.add(parser)
+    return parser
+
+
 class ManualOfTools(unittest.TestCase):
     def setUp(self) -> None:
         self.text = content("docs", "wb.1")
@@ -71,10 +84,12 @@ class ManualOfTools(unittest.TestCase):
         self.assertEqual(sorted(self.words), sorted(parsers()))
 
     def test_it_has_each_option_in_its_word(self) -> None:
-        """But for those of many words, which stand at its head."""
+        """But for those of many words, which stand at its head, and those of jobs, which have a part of their own."""
+        told_of_jobs = set(re.findall(r"\n\.It Fl -([a-z-]+)", self.text.partition(".Ss Options of jobs")[2].partition(".Ss ")[0]))
+        self.assertEqual({f"--{name}" for name in told_of_jobs}, long_options(jobs_parser()))
         for word, parser in parsers().items():
-            options = {name for action in parser._actions for name in action.option_strings if name.startswith("--")}
-            options -= {"--help", "--force"}
+            options = long_options(parser) - {"--force"}
+            options -= long_options(jobs_parser()) if word in ("sweep", "study", "nearest") else set()
             told = {f"--{name}" for name in re.findall(r"Fl -([a-z]+(?:-[a-z]+)*)", self.words[word])}
             self.assertLessEqual(options, told, word)
 

@@ -19,9 +19,8 @@ from journals.reasons import Reasons, rates_of
 from journals.sentences import Sentences
 from journals.trace import Trace
 from journals.trace_reader import read_trace
-from kernel.joining import join
+from kernel.joining import story_of
 from kernel.numbers import Kind
-from kernel.reading import read_text
 from kernel.tracepoints import Balance, State
 from program.main import main
 from report import of_journal, of_kernel, page, script
@@ -88,7 +87,7 @@ def page_content(name: str) -> Any:
 @cache
 def kernel_content(path: str, *disks: str) -> Any:
     """That of a kernel's text, of which these disks are strict."""
-    return read_back(of_kernel.report_of(join(read_text(path), disks), "kernel"))
+    return read_back(of_kernel.report_of(story_of(path, None, disks), "kernel"))
 
 
 def panel_of(content: Any, title: str) -> Any:
@@ -227,19 +226,19 @@ class OfJournals(WithDirectory):
 
 class OfKernels(WithDirectory):
     def test_the_pages_are_those_of_the_text(self) -> None:
-        text = read_text(THREE)
+        text = story_of(THREE).text
         panel = panel_of(kernel_content(THREE), "pages of the global domain")
         counts = [line.count for line in text.lines if isinstance(line, State)]
         y = part_of(panel, "lines", "dirty or under writeback")["y"]
         self.assertTrue(is_within(y[:-1], counts))
         self.assertEqual((max(y), min(y), y[-1]), (max(counts), min(counts), counts[-1]))
         self.assertEqual(max(part_of(panel, "lines", "hard limit")["y"]), 849784)
-        had = max(max(line.limit, line.dirty) for line in text.balances)
+        had = max(max(line.limit, line.dirty) for line in text.lines if isinstance(line, Balance))
         self.assertEqual(panel["top"], round(1.06 * had), "a limit that no check had doesn't squeeze the others")
 
     def test_each_pause_is_a_bar_above_and_below(self) -> None:
-        first = next(line for line in read_text(THREE).lines if isinstance(line, Balance)).time
-        checks = [line for line in read_text(THREE).lines if isinstance(line, Balance)]
+        first = next(line for line in story_of(THREE).text.lines if isinstance(line, Balance)).time
+        checks = [line for line in story_of(THREE).text.lines if isinstance(line, Balance)]
         panel = panel_of(kernel_content(THREE), "pauses of tasks")
         rows = {name: row for row, name in enumerate(panel["rows"])}
         of_kernel_ = sorted((x, foot, length) for of in panel["bars"] if "kernel" in of["name"]
@@ -253,13 +252,13 @@ class OfKernels(WithDirectory):
         content = kernel_content(THREE)
         found = next(check for check in content["checks"] if "line 3066 of the text" in check["head"])
         self.assertTrue(found["head"].startswith("writer-1 on disk 7:0, pause: 12 ms (3 ticks); at 5.8016 s"))
-        self.assertIn("46689 pages in the domain, of a hard limit of 51200 and a setpoint of 44800", found["sentence"])
+        self.assertTrue(found["sentence"].startswith("its disk's rate limit is 5908 pages/s for each writer, and 96 pages were dirtied"))
+        self.assertIn("pages                     46689 in the domain, of a hard limit of 51200 and a setpoint of 44800", found["why"])
         self.assertIn("task rate limit           5348 pages/s          equal by the laws", found["why"])
 
     def test_the_table_of_causes(self) -> None:
         rows = kernel_content(STRICT, "7:0")["tables"][0]["rows"]
-        why = "its strict disk is at its own threshold or above: its rate is 0, so the longest pause"
-        self.assertEqual(rows[0][:5], ["wait", why, "21", "21", "4164"])
+        self.assertEqual(rows[0][:5], ["wait", "strict disk at its own threshold", "21", "21", "4164"])
 
     def test_a_disk_of_a_cgroup_has_a_part(self) -> None:
         check = CHECK.replace("limit=51200 setpoint=44800 dirty=43964", "limit=500 setpoint=400 dirty=600")
@@ -271,7 +270,7 @@ class OfKernels(WithDirectory):
 
     def test_how_many_numbers_are_those_of_the_laws(self) -> None:
         table = kernel_content(THREE)["tables"][-1]
-        self.assertIn([Kind.PERIOD.value, "1981", "0", "0"], table["rows"])
+        self.assertIn([Kind.PERIOD.value, "1981", "0", "0", "0", "0", "0"], table["rows"])
 
 
 class Causing(unittest.TestCase):

@@ -8,8 +8,7 @@ import unittest
 from typing import Any
 
 from journals.trace_reader import read_trace
-from kernel.joining import join
-from kernel.reading import read_text
+from kernel.joining import story_of
 from report import of_journal, of_kernel, page, script
 from report.content import Report
 
@@ -31,7 +30,7 @@ SHOWN = "plot.data.filter(trace => trace.visible !== false).length"
 def report_of(name: str) -> Report:
     """That of an example: a journal, or a kernel's text."""
     if name.startswith("kernel/"):
-        return of_kernel.report_of(join(read_text(f"{EXAMPLES}/{name}.txt")), name)
+        return of_kernel.report_of(story_of(f"{EXAMPLES}/{name}.txt"), name)
     return of_journal.report_of(read_trace(f"{EXAMPLES}/{name}.trace"), f"{EXAMPLES}/{name}.journal", name)
 
 

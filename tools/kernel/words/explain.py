@@ -11,7 +11,7 @@ from program.errors import OtherWords
 from program.output import held_text
 from program.statuses import Status
 
-from ..causes import parts_of, sentence, shorter
+from ..causes import period_lines, sentence, shorter
 from ..explaining import Explained, Explaining, Sum, Wish
 from ..found import By, told_lines
 from ..joining import told
@@ -145,13 +145,10 @@ def explained(found: Explaining, one: Explained) -> Iterator[str]:
             yield row("think", ticks(verdict.think or 0, at.clock), f"line {check.line}: think={check.think}")
         elif name not in LEFT_OUT:
             yield line.replace("domain 0", DOMAINS[at.by]) + ("" if (name, at.by) == ("setpoint", By.CGROUP) else printed(name, check))
-    if parts := parts_of(at):
+    if parts := list(period_lines(at)):
         yield ""
         yield "where the period comes from:"
-        for part in parts:
-            yield row(part.name, f"{1000 * part.seconds:+.1f} ms", part.how)
-        if check.think:
-            yield row("already gone", f"{-check.think:+.1f} ms", f"since its last pause ended: think={check.think}")
+        yield from parts
     if shorter_ones := list(shorter(at)):
         yield ""
         yield "half as long or less, by each of these alone:"

@@ -24,7 +24,7 @@ TABLE, JOBS = "runs.csv", "jobs"
 
 def add(command: argparse.ArgumentParser) -> None:
     """A study, where its table goes, what runs it, and how."""
-    command.add_argument("study", metavar="STUDY", help="a file of TOML: traces, parameters over values, repeats (examples/README.md)")
+    command.add_argument("study", metavar="STUDY", help="a file of TOML: traces, parameters over values, repeats (docs/STUDIES.md)")
     add_directory(command)
     options.add_program(command)
     options.add(command)
