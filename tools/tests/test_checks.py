@@ -58,12 +58,15 @@ class Sums(WithDirectory):
         shutil.copy(os.path.join(TOOLS, "check"), os.path.join(self.directory, "tools"))
         self.file("examples/empty.trace", "")
         self.command("bin/python3", "exit 0")
+        self.command("bin/cc", "exit 0")
         self.command("kit/rt", "exit 0")
         self.command("wbsim", "echo 'wbsim: this run is not proved' >&2")
         self.command("tools/check-runs", '[ "$1" != --subjects ] || { echo one two; exit; }\necho "skipped: $*: x"\necho "1 passed, 0 failed, 1 skipped"')
         self.command("tools/check-layout", "echo '2 passed, 0 failed'")
         self.command("tools/check-tools", "echo '3 passed, 0 failed, 0 skipped'")
         self.command("tools/check-documents", "echo '4 passed, 0 failed'")
+        self.command("tools/check-c", "echo '6 passed, 0 failed, 0 skipped'")
+        self.command("tools/check-page", "echo '7 passed, 0 failed'")
         self.command("tools/wrong-rules", "echo noticed: a; echo \"with $*\"; echo '5 passed, 0 failed, 0 skipped'")
 
     def command(self, name: str, commands: str) -> None:
@@ -82,21 +85,21 @@ class Sums(WithDirectory):
         status, lines, said = self.check()
         self.assertEqual((status, lines), (0, [
             "runs:one: skipped: --unproved ../out/wbsim_unproved one: x", "runs:two: skipped: --unproved ../out/wbsim_unproved two: x",
-            "wrong-rules: with --quick --jobs 1", "16 passed, 0 failed, 2 skipped"]))
+            "wrong-rules: with --quick --jobs 1", "29 passed, 0 failed, 2 skipped"]))
         self.assertRegex(said, r"check: runs:two: 1 passed, 0 failed, 1 skipped \(\d+ s\)\n")
         self.assertRegex(said, r"check: \d+ s, and \d+ s of processors\n$")
 
     def test_with_the_proved_program_nothing_is_too_slow(self) -> None:
         self.command("wbsim", "exit 70")
         self.assertEqual(self.check("--proved")[1], [
-            "runs:one: skipped: one: x", "runs:two: skipped: two: x", "wrong-rules: with --jobs 1", "16 passed, 0 failed, 2 skipped"])
+            "runs:one: skipped: one: x", "runs:two: skipped: two: x", "wrong-rules: with --jobs 1", "29 passed, 0 failed, 2 skipped"])
 
     def test_what_fails_is_told_and_counted(self) -> None:
         self.command("tools/check-layout", "echo 'not laid out: a'; echo '1 passed, 2 failed'; exit 1")
         self.command("tools/check-tools", "echo '3 passed, 0 failed, 0 skipped'; exit 9")
         self.command("tools/check-documents", "echo it ends early")
         status, lines, _ = self.check()
-        self.assertEqual((status, lines[-1]), (1, "8 passed, 4 failed, 2 skipped"))
+        self.assertEqual((status, lines[-1]), (1, "21 passed, 4 failed, 2 skipped"))
         for line in ("layout: not laid out: a", "tools: failed: its status is 9", "documents: it ends early", "documents: failed: its status is 0"):
             self.assertIn(line, lines)
 
@@ -104,7 +107,7 @@ class Sums(WithDirectory):
         if shutil.which("rt", path="/usr/bin:/bin"):
             self.skipTest("rt is in /usr/bin: it can't be taken away")
         status, lines, _ = self.check(folders=("bin",))
-        self.assertEqual((status, lines[0], lines[-1]), (0, "layout: skipped: rt isn't there", "14 passed, 0 failed, 3 skipped"))
+        self.assertEqual((status, lines[0], lines[-1]), (0, "layout: skipped: rt isn't there", "27 passed, 0 failed, 3 skipped"))
 
     def test_there_is_no_program(self) -> None:
         self.command("wbsim", "echo wbsim: why >&2; exit 70")
