@@ -9,6 +9,7 @@ from dataclasses import dataclass, field, replace
 from kernel import comparing
 from kernel.joining import Story
 from kernel.numbers import Kind, Number, Verdict
+from kernel.raised import Plain
 from kernel.reads import limits_of
 from kernel.tracepoints import State
 from laws.limits import Limits, freerun_of, setpoint_of
@@ -29,6 +30,9 @@ PEAKS = 50
 
 HALVES = ("The pauses of the kernel stand above the middle of a row, and those of the laws below it. They are as high as the root of their "
           "length, so that short ones show beside long ones.")
+
+RAISED = ("A kernel raises both thresholds for a task of a real-time class. Curves show them as they are for others; the points of such a "
+          "task's checks were decided by the raised ones.")
 
 
 @dataclass
@@ -117,6 +121,8 @@ def beside_table(tally: comparing.Tally) -> Table:
 def notes_of(seen: Seen, kept: Peaks[Told]) -> Iterator[str]:
     """How the report is to be read."""
     yield HALVES
+    if any(it.is_raised for it in seen.story.checks):
+        yield RAISED
     if max(seen.widths) > 1:
         yield CURVE_RULE.format(bins=MOST_BINS, width=f"up to {max(seen.widths) / MICRO:.3g} s")
     if kept.width:
@@ -139,10 +145,13 @@ def panels_of(seen: Seen) -> Iterator[Panel]:
 
 
 def domain_panel(seen: Seen) -> Panel:
-    """The global domain, as each line of it tells. It is seen up to what checks had: a hard limit that was not yet followed lies far
-    above."""
-    def of(name: str, role: str, value: object, dash: str = "solid", width: float = 1.3) -> Line:
-        points = [(state.time, value(state)) for state in seen.story.text.states]  # type: ignore[operator]
+    """The global domain, as each line of it tells; its limits as those lines do that aren't of a real-time task. It is seen up to what
+    checks had: a hard limit that was not yet followed lies far above."""
+    told = seen.story.text.states
+    plain = plain_of(told)
+
+    def of(name: str, role: str, value: object, dash: str = "solid", width: float = 1.3, states: Sequence[State] = plain) -> Line:
+        points = [(state.time, value(state)) for state in states]  # type: ignore[operator]
         return replace(seen.curve(name, role, points), dash=dash, width=width)
 
     lines = [
@@ -151,13 +160,19 @@ def domain_panel(seen: Seen) -> Panel:
         of("setpoint", "setpoint", lambda it: setpoint_of(limits_in(it)), "dashdot"),
         of("freerun", "freerun", lambda it: freerun_of(limits_in(it))),
         of("background threshold", "background", lambda it: it.background, "dot"),
-        of("under writeback", "other", lambda it: it.writeback),
-        of("dirty or under writeback", "count", lambda it: it.count)]
+        of("under writeback", "other", lambda it: it.writeback, states=told),
+        of("dirty or under writeback", "count", lambda it: it.count, states=told)]
     read = [(number, it) for number, it in enumerate(seen.shown) if is_of_machine(it.joined)]
     dots = dots_of(seen, "count that checks read", "read", [(number, it, it.joined.check.dirty) for number, it in read])
     had = [max(limits_of(it).hard, it.check.dirty) for it in seen.story.checks if is_of_machine(it)]
     return Panel("pages of the global domain", "pages", 270, put_together(lines), [dots] if dots.x else [],
                  top=round(1.06 * max(had, default=0)))
+
+
+def plain_of(states: Sequence[State]) -> list[State]:
+    """Those whose thresholds aren't raised for a real-time task."""
+    plain = Plain()
+    return [state for state in states if not plain.is_raised(state)]
 
 
 def limits_in(state: State) -> Limits:

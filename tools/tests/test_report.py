@@ -35,6 +35,7 @@ from .test_kernel import CHECK, STATE, line_of
 LEFT_OUT = "plotly's script isn't there: reports are not made by the program"
 THREE = os.path.join(EXAMPLES, "kernel", "three-writers.txt")
 STRICT = os.path.join(EXAMPLES, "kernel", "strict-disk.txt")
+REALTIME = text_path("realtime.kernel.txt")
 ADDRESS = re.compile(r"https?:|//[a-z]|\b(?:src|href)\s*=|@import|url\(", re.IGNORECASE)
 """What could make a browser ask for another file."""
 
@@ -267,6 +268,14 @@ class OfKernels(WithDirectory):
         panel = panel_of(content, "pages of disk 7:0 of cgroup 77")
         self.assertEqual(part_of(panel, "lines", "hard limit of its domain")["y"], [500, 500])
         self.assertEqual(panel_of(content, "pages of the global domain")["dots"], [])
+
+    def test_limits_raised_for_a_real_time_task_are_no_part_of_curves(self) -> None:
+        content = kernel_content(REALTIME)
+        states = story_of(REALTIME).text.states
+        y = part_of(panel_of(content, "pages of the global domain"), "lines", "threshold")["y"]
+        self.assertEqual((set(y), {it.thresh for it in states}), ({25600}, {25600, 33024, 33025, 33027}))
+        self.assertIn(of_kernel.RAISED, content["notes"])
+        self.assertNotIn(of_kernel.RAISED, kernel_content(THREE)["notes"])
 
     def test_how_many_numbers_are_those_of_the_laws(self) -> None:
         table = kernel_content(THREE)["tables"][-1]
