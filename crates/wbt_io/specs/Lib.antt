@@ -4,3 +4,4 @@ pub mod Memory
 pub mod Moments
 pub mod Pages
 pub mod Told
+pub mod Gates

@@ -5,7 +5,7 @@ use Rattle.wbt_trace.specs.declared.trace.Trace.{Trace}
 use Rattle.wbt_journal.specs.Lawful as law
 use Rattle.wbt_journal.specs.Lawful.{ChecksAreRight, CountsStayFresh, CountsSumFolds, EndingIsRight, EstimatesAreUp, FlushersAreInTurn, FoldsAreUp, FoundWereDirtied, FractionsAreOfShares, LedgerIsEven, LeftIsBounded, LeftPagesAreThere, NamesAreOfEstimates, NamesStayNew, PeriodsStayNew, TimerFollows, TimerHasOpened, TriplesAreOfTimer, TriplesStayNew, WritesAreInOrder, WaitsAreInOrder, WaitsAreOwn}
 use Rattle.wbt_journal.specs.declared.journal.Ending.TheVariants as ending
-use Rattle.wbt_replay_order.specs.Claims.Bound.{IsBounded, IsCounted, PeaksArePrinted, PrintsBound, HasEnded}
+use Rattle.wbt_replay_order.specs.Claims.Bound.{IsBounded, IsBoundedCloser, IsCounted, PeaksArePrinted, PrintsBound, HasEnded}
 use Rattle.wbt_replay_order.specs.Claims.Cleaned.{AreCleaned}
 use Rattle.wbt_replay_order.specs.Claims.Decided.{AreDecided}
 use Rattle.wbt_replay_order.specs.Claims.Ending.{EndsSo}
@@ -62,6 +62,9 @@ module _ (trace : Trace) (lawful : IsLawful trace) where
 
   pub bounded : IsBounded (journal_of trace)
   bounded = claims.bounded trace lawful sound followed
+
+  pub bounded_closer : IsBoundedCloser trace
+  bounded_closer = claims.bounded_closer trace lawful sound followed
 
   pub prints_bound : PrintsBound trace
   prints_bound = claims.prints_bound trace lawful sound followed

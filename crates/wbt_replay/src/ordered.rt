@@ -3,7 +3,7 @@
 ghost use Rattle.std.specs.Prelude.{◌≡◌, true, ◌≤◌, ◌<◌, ◌^◌, length, map, [], ◌∷◌, IfOk, OnOk};
 ghost use Rattle.wbt_trace.specs.Lawful.{IsLawful, IsAction, writers_after};
 ghost use Rattle.wbt_replay_order.specs.Claims.Ages.{AgedWereDue};
-ghost use Rattle.wbt_replay_order.specs.Claims.Bound.{IsBounded, IsCounted, PeaksArePrinted, PrintsBound, HasEnded};
+ghost use Rattle.wbt_replay_order.specs.Claims.Bound.{IsBounded, IsBoundedCloser, IsCounted, PeaksArePrinted, PrintsBound, HasEnded};
 ghost use Rattle.wbt_replay_order.specs.Claims.Cleaned.{AreCleaned};
 ghost use Rattle.wbt_replay_order.specs.Claims.Complete.{CompletesAll};
 ghost use Rattle.wbt_replay_order.specs.Claims.Decided.{AreDecided};
@@ -66,6 +66,10 @@ pub fn replay(alloc: Global, trace: &Trace) -> Result<Journal, NoMemory>
 
     // Each count that the text prints is at most the bound that it prints beside it.
     ensures bounded { IsBounded (spec.journal_of trace.now) }
+
+    // At each moment the exact count of each domain is at most the closer bound, which is twice the error less where the hard limit with the
+    // batches is at least twice the error.
+    ensures bounded_closer { IsBoundedCloser trace.now }
 
     // Each context of a strict device has its line, which tells the greatest exact count that the context had, and the bound of the
     // context, within which it stayed at each moment.

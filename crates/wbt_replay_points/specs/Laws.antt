@@ -4,7 +4,7 @@ use Rattle.wbt_trace.specs.Lawful.{IsLawful}
 use Rattle.wbt_trace.specs.declared.trace.Trace.{Trace}
 use Rattle.wbt_journal.specs.Lawful as law
 use Rattle.wbt_journal.specs.declared.journal.Ending.TheVariants as ending
-use Rattle.wbt_replay_order.specs.Claims.Bound.{HasEnded, IsBounded, IsCounted, PrintsBound}
+use Rattle.wbt_replay_order.specs.Claims.Bound.{HasEnded, IsBounded, IsBoundedCloser, IsCounted, PrintsBound}
 use Rattle.wbt_replay_order.specs.Claims.Complete.{CompletesAll}
 use Rattle.wbt_replay_order.specs.Claims.Decided.{AreDecided}
 use Rattle.wbt_replay_order.specs.Claims.Path.{IsFollowed}
@@ -30,6 +30,7 @@ ChecksDecideByTheLaw = (trace : Trace) → IsLawful trace → RunsWell trace →
 
 abbrev pub CountsAreBounded : Type 0
 CountsAreBounded = (trace : Trace) → IsLawful trace → RunsWell trace → IsCounted trace × PrintsBound trace × IsBounded (journal_of trace)
+    × IsBoundedCloser trace
 
 abbrev pub StrictContextsAreBounded : Type 0
 StrictContextsAreBounded = (trace : Trace) → IsLawful trace → RunsWell trace → StaysWithinStrict trace

@@ -4,7 +4,7 @@
 ghost use Rattle.wbt_replay_points.specs.Laws.{ChecksDecideByTheLaw, CountsAreBounded, JournalsAreLawful, JournalsAreLegal, StrictContextsAreBounded};
 
 /// Each count that the journal prints is the exact count of the book after its step, and at most the bound beside it, which is the domain's
-/// own.
+/// own; and at each moment at most the closer bound.
 pub fn counts_are_bounded()
     ensures { CountsAreBounded }
 {}

@@ -8,6 +8,7 @@
 
 mod age;
 mod flusher;
+pub mod laws;
 mod limits;
 mod moments;
 mod read;

@@ -1,6 +1,7 @@
 //! A gate at which three CPUs meet: where threads run beside each other all three come to it.
 
 ghost use Rattle.std.specs.Prelude.{◌≡◌, true};
+ghost use Rattle.wbt_io.specs.Gates.{both_are};
 
 use std::sync::atomic::{AtomicBool, Ordering};
 use std::thread;
@@ -63,6 +64,8 @@ impl MeetingGate {
 
 impl Gate for MeetingGate {
     ghost said = { λ _ _ _ answer. answer ≡ true };
+
+    ghost one_answer = { λ gate cpu steps a b. both_are a b true };
 
     fn may_step(&self, cpu: u32, steps: u64) -> bool
         ensures { result ≡ true }

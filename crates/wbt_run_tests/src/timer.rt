@@ -1,6 +1,7 @@
 //! The timer takes a turn after the opening, beside the CPUs.
 
-ghost use Rattle.std.specs.Prelude.{◌≡◌, true};
+ghost use Rattle.std.specs.Prelude.{◌≡◌, ◌==◌, not, true};
+ghost use Rattle.wbt_io.specs.Gates.{both_are};
 
 use std::sync::atomic::{AtomicBool, AtomicU64, Ordering};
 use std::test::Fail;
@@ -81,6 +82,8 @@ impl LateGate<'_> {
 impl Gate for LateGate<'_> {
     ghost said = { λ _ _ _ answer. answer ≡ true };
 
+    ghost one_answer = { λ gate cpu steps a b. both_are a b true };
+
     fn may_step(&self, cpu: u32, _steps: u64) -> bool
         ensures { result ≡ true }
     {
@@ -141,9 +144,13 @@ struct TimerStops {
 }
 
 impl Gate for TimerStops {
-    ghost said = { λ _ _ _ _. Unit {0} };
+    ghost said = { λ gate cpu _ answer. answer ≡ not (cpu == gate.cpus) };
 
-    fn may_step(&self, cpu: u32, _steps: u64) -> bool {
+    ghost one_answer = { λ gate cpu steps a b. both_are a b (not (cpu == gate.cpus)) };
+
+    fn may_step(&self, cpu: u32, _steps: u64) -> bool
+        ensures { result ≡ not (cpu == self.now.cpus) }
+    {
         if cpu == self.cpus {
             self.stopped.store(true, Ordering::SeqCst);
             return false;

@@ -1,6 +1,7 @@
 //! Two threads that take turns: one is held before a step of its own, while the other does its work.
 
 ghost use Rattle.std.specs.Prelude.{◌≡◌, true};
+ghost use Rattle.wbt_io.specs.Gates.{both_are};
 
 use crate::waiting::comes_to;
 use std::sync::atomic::AtomicU64;
@@ -54,6 +55,8 @@ pub(super) struct LetsIn<'a> {
 
 impl<'a> Gate for LetsIn<'a> {
     ghost said = { λ _ _ _ answer. answer ≡ true };
+
+    ghost one_answer = { λ gate cpu steps a b. both_are a b true };
 
     fn may_step(&self, _cpu: u32, steps: u64) -> bool
         ensures { result ≡ true }

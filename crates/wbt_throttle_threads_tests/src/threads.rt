@@ -5,6 +5,7 @@ ghost use Rattle.std.specs.Thread.{IsSync};
 ghost use Rattle.wbt_table.specs.Layout.{setting};
 ghost use Rattle.wbt_table.specs.Seat.{IsAt};
 ghost use Rattle.wbt_table.specs.Callers.{StepsFor};
+ghost use Rattle.wbt_io.specs.Gates.{both_are};
 
 use crate::waiting::Meeting;
 use std::test::Fail;
@@ -48,6 +49,8 @@ struct Meets<'a> {
 
 impl<'a> Gate for Meets<'a> {
     ghost said = { λ _ _ _ answer. answer ≡ true };
+
+    ghost one_answer = { λ gate cpu steps a b. both_are a b true };
 
     fn may_step(&self, _cpu: u32, steps: u64) -> bool
         ensures { result ≡ true }

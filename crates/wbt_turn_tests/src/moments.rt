@@ -1,6 +1,7 @@
 //! When a check asks the clock.
 
 ghost use Rattle.std.specs.Prelude.{◌≡◌, true};
+ghost use Rattle.wbt_io.specs.Gates.{both_are};
 
 use crate::turns::{WRITES, take};
 use std::sync::atomic::{AtomicU64, Ordering};
@@ -39,6 +40,8 @@ struct StepGate<'c> {
 
 impl Gate for StepGate<'_> {
     ghost said = { λ _ _ _ answer. answer ≡ true };
+
+    ghost one_answer = { λ gate cpu steps a b. both_are a b true };
 
     fn may_step(&self, _cpu: u32, _steps: u64) -> bool
         ensures { result ≡ true }

@@ -5,6 +5,7 @@ use Rattle.wbt_num.specs.declared.most.TheConstants.{MOST_STEPS}
 use Rattle.wbt_trace.specs.declared.trace.Trace.{Trace}
 use Rattle.wbt_book.specs.Book.{Book}
 use Rattle.wbt_grant.specs.Bound.{bound}
+use Rattle.wbt_grant.specs.Closer.{closer_bound}
 use Rattle.wbt_grant.specs.State.{domain_count}
 use Rattle.wbt_journal.specs.Machine.{domains}
 use Rattle.wbt_journal.specs.Steps.{first_columns, columns_after, step_line, step_lines}
@@ -89,6 +90,11 @@ abbrev pub PrintsBound : (trace : Trace) → Type 0
 PrintsBound trace = (moves : ℕ)
     → map bound_in (printed_after (journal_of trace) (state_at trace moves).steps)
     ≡ bounds_at trace (state_at trace moves) (domains trace)
+
+-- At each moment of the trace's run the exact count of each domain is at most the closer bound, with the peaks of the moment.
+abbrev pub IsBoundedCloser : (trace : Trace) → Type 0
+IsBoundedCloser trace = (moves d : ℕ) → d < domains trace
+    → domain_count (setting_of trace) (state_at trace moves).book d ≤ closer_bound (setting_of trace) (λ e. (domain_of e (state_at trace moves)).peak) d
 
 -- the greatest hard limit that the timer has printed for a domain
 abbrev pub greatest_printed : (domain : ℕ) (entries : List TimerEntry) → ℕ

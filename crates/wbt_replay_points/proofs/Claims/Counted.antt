@@ -30,7 +30,7 @@ use Rattle.wbt_journal.specs.declared.timer.TimerEntry.{TimerEntry}
 use Rattle.wbt_journal.specs.declared.timer.TimerEntry.TheVariants as entry
 use Rattle.wbt_replay_moves.specs.Definition.State.{State, domain_of}
 use Rattle.wbt_rules.specs.Things.{context_of, group_of}
-use Rattle.wbt_replay_order.specs.Claims.Bound.{columns_at, printed_after, bound_in, ArePrinted, AreWithin, AreWithinAfter, IsBounded, exact_counts, IsCounted, bounds_at, PrintsBound}
+use Rattle.wbt_replay_order.specs.Claims.Bound.{columns_at, printed_after, bound_in, ArePrinted, AreWithin, AreWithinAfter, IsBounded, exact_counts, IsCounted, bounds_at, PrintsBound, IsBoundedCloser}
 use Rattle.wbt_replay_order.specs.Claims.Path.{tells, IsFollowed}
 use Rattle.wbt_replay_order.specs.Claims.Setting.{setting_of, inode_with, writers_in, writer_at}
 use Rattle.wbt_replay_order.specs.Definition.Opening.{first_limits, first_entries, opening_moment}
@@ -258,6 +258,17 @@ module _ (trace : Trace) (ok : IsSetting (setting_of trace)) (followed : IsFollo
   prints_bound moves =
       ap (λ (cs : List Column). map bound_in cs) (printed_is moves)
       ∙ bounds_are trace (state_of trace followed moves) (state_at trace moves) (domains trace) (λ d less. (followed.made moves).1.shows.peak d less)
+
+  pub bounded_closer : IsBoundedCloser trace
+  bounded_closer moves d less =
+      let set : Setting = setting_of trace in
+      let made = followed.made moves in
+      let holds = always_holds set (take made.0 followed.steps) ok made.1.allowed in
+      let few = holds.bounded_closer d in
+      let low = holds.hard_under_peak d in
+      let peak = made.1.shows.peak d less in
+      let book = ap (λ (b : Book). domain_count set b d) made.1.shows.book in
+      omega (arith, few, low, peak, book)
 
   printed_within : (moves : ℕ) → AreWithin (printed_after (journal_of trace) (state_at trace moves).steps)
   printed_within moves = subst AreWithin (sym (printed_is moves)) (within_bounds trace (state_of trace followed moves) (rule_at moves) 0 (domains trace))

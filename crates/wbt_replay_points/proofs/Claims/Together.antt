@@ -2,7 +2,7 @@
 use Rattle.std.proofs.Common.{◌≡◌, ℕ, ◌<◌, length}
 use Rattle.wbt_trace.specs.Lawful.{IsLawful}
 use Rattle.wbt_trace.specs.declared.trace.Trace.{Trace}
-use Rattle.wbt_replay_order.specs.Claims.Bound.{HasEnded, IsBounded, IsCounted, PeaksArePrinted, PrintsBound}
+use Rattle.wbt_replay_order.specs.Claims.Bound.{HasEnded, IsBounded, IsBoundedCloser, IsCounted, PeaksArePrinted, PrintsBound}
 use Rattle.wbt_replay_order.specs.Claims.Cleaned.{AreCleaned}
 use Rattle.wbt_journal.specs.Lawful.{CountsStayFresh, CountsSumFolds, FoundWereDirtied}
 use Rattle.wbt_journal.specs.Machine.{pages_of_task}
@@ -35,6 +35,9 @@ module _ (trace : Trace) (lawful : IsLawful trace) (sound : (moves : ℕ) → So
 
   pub bounded : IsBounded (journal_of trace)
   bounded = columns.bounded trace (setting_is trace lawful) followed
+
+  pub bounded_closer : IsBoundedCloser trace
+  bounded_closer = columns.bounded_closer trace (setting_is trace lawful) followed
 
   pub prints_bound : PrintsBound trace
   prints_bound = columns.prints_bound trace (setting_is trace lawful) followed

@@ -43,6 +43,12 @@ returns-in-Ok-clause-bounded c = run.bounded c.args.trace.now c.requires.lawful
 pub returns-in-Err-clause-bounded : goal.returns-in-Err-clause-bounded
 returns-in-Err-clause-bounded c = run.bounded c.args.trace.now c.requires.lawful
 
+pub returns-in-Ok-clause-bounded_closer : goal.returns-in-Ok-clause-bounded_closer
+returns-in-Ok-clause-bounded_closer c = run.bounded_closer c.args.trace.now c.requires.lawful
+
+pub returns-in-Err-clause-bounded_closer : goal.returns-in-Err-clause-bounded_closer
+returns-in-Err-clause-bounded_closer c = run.bounded_closer c.args.trace.now c.requires.lawful
+
 pub returns-in-Ok-clause-decided : goal.returns-in-Ok-clause-decided
 returns-in-Ok-clause-decided c = run.decided c.args.trace.now c.requires.lawful
 
