@@ -10,6 +10,18 @@
 //! pair     a throttle that two CPUs use, each by a seat of its own
 //! timed    a throttle that a CPU and the timer use, each by a seat of its own
 //! ```
+//!
+//! ```
+//! use throttle_in_use::pair::Pair;
+//! use wbt_table::{Claim, Dirtied};
+//!
+//! // A throttle of one page that two CPUs use. CPU 0 dirties the page, and pays all that it then owes.
+//! let mut pair = Pair::open(alloc, 1)?;
+//! assert_eq!(rt; pair.one_writes(), Some((Dirtied::Fresh, true)));
+//! // CPU 1 claims and completes it; CPU 0, which holds no page, may ask too.
+//! assert_eq!(rt; pair.two_claims(), Claim::Mine);
+//! assert_eq!(rt; (pair.one_completes(), pair.two_completes()), (false, true));
+//! ```
 #![tactic(auto)]
 
 pub mod calls;

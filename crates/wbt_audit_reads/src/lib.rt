@@ -1,6 +1,17 @@
 //! Whether what the entries of a journal tell as read is what was there: folds and counts, limits, fractions, estimates, and the timer's lines.
 //!
 //! Each `X_fault` is the first line at fault by one rule.
+//!
+//! ```
+//! use wbt_audit_reads::{counts::counts_fault, folds::folds_fault};
+//!
+//! // `trace` is one that `wbt_trace::read_trace` answered, `journal` one that `wbt_journal::read_journal` did.
+//! assert_eq!(rt; folds_fault(alloc, &trace, &journal)?, None);
+//! // Where a check tells a count that isn't the sum of the folds up to its version, the answer is the line that tells it.
+//! if let Some(line) = counts_fault(alloc, &trace, &journal)? {
+//!     println!(rt; "line {line}")?;
+//! }
+//! ```
 #![tactic(auto)]
 
 pub mod counts;

@@ -2,6 +2,17 @@
 //! ledger of each page, what is left, and the ending.
 //!
 //! Each `X_fault` is the first line at fault by one rule.
+//!
+//! ```
+//! use wbt_audit_turns::{ending::ending_fault, flights::flights_fault};
+//!
+//! // `trace` is one that `wbt_trace::read_trace` answered, `journal` one that `wbt_journal::read_journal` did.
+//! assert_eq!(rt; flights_fault(alloc, &trace, &journal)?, None);
+//! // Where the run didn't end as the journal says, the answer is the number of its line `end`.
+//! if let Some(line) = ending_fault(alloc, &trace, &journal)? {
+//!     println!(rt; "line {line}")?;
+//! }
+//! ```
 #![tactic(auto)]
 
 pub mod asked;

@@ -4,6 +4,19 @@
 //! the contract of its call: its result is pinned by the same definition. What the call requires the export tests: it answers a status, and
 //! where that isn't `OK` it has written nothing. So its contract has no `requires`. What remains for C to keep to is what a `&` and a `&mut`
 //! say: each pointer is that of one whole struct or number, aligned, and what is written through one is read through no other.
+//!
+//! ```text
+//! struct wbt_settings settings = { .ratio = 20, .bg_ratio = 10 };
+//! struct wbt_thresholds pair;
+//! uint64_t bound;
+//!
+//! /* The thresholds of 100000 available pages: 19995 and 9985. A status that isn't WBT_OK says what was out of range. */
+//! if (wbt_global_thresholds(100000, &settings, &pair) != WBT_OK)
+//!     return 1;
+//! /* The bound on one CPU, with one writer that has at most 1024 pages left, and one context: 21067 pages. */
+//! if (wbt_bound(pair.thresh, 1, 1, 1024, 1, &bound) != WBT_OK)
+//!     return 1;
+//! ```
 #![tactic(auto)]
 
 mod allowance;

@@ -14,6 +14,20 @@
 //! one history, and each word is the number that the history makes where everything is halved at once in each period: the
 //! laws say so in the words of `wbt_flex`. A seat has stakes, 2^32 in all, and who has them all has all notes; and rooms, so
 //! that no addition ever reaches the period's bits.
+//!
+//! ```
+//! use wbt_flex::Fraction;
+//! use wbt_fraction::Shares;
+//!
+//! // One domain with one context. `other` is for another thread, which completes ten pages of the context.
+//! let (shares, mut seat) = Shares::make(alloc, 1, &[0])?;
+//! let mut other = shares.split(alloc, &mut seat)?;
+//! assert_eq!(rt; shares.add(&mut other, 0, 0, 10), Ok(()));
+//! // A new period halves all events; Ok(false) would say that none began, Err(Again) that another thread came between.
+//! assert_eq!(rt; shares.new_period(&mut seat, 0, 1), Ok(true));
+//! assert_eq!(rt; shares.read(&mut seat, 0, 0), Ok(Fraction { period: 1, num: 5, den: 5 }));
+//! shares.join(&mut seat, other);
+//! ```
 #![tactic(auto)]
 
 pub mod domain;

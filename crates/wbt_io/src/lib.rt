@@ -8,6 +8,18 @@
 //! In memory: `MemSource`, `MemSink`, `ModelDisk` and `ModelRack`, `FaultyDisk` and `FaultyRack`, which fail at the calls that
 //! they are told, `HandClock`, `StillClock` and `JumpClock`, `FreeGate` and `HaltGate`. Over the machine: `StdSource` and
 //! `StdSink` stand over a reader and a writer, `RealClock` over its clock.
+//!
+//! ```
+//! use wbt_io::{MemSource, ReadEnd, read_all};
+//!
+//! // A source in memory gives at most two bytes a call, and fails at no call. `read_all` takes at most 8 bytes.
+//! let mut source = MemSource::make(b"cpus 4\n".to_vec(alloc)?, 2, Vec::new(alloc));
+//! match read_all(alloc, &mut source, 8) {
+//!     Ok(text) => assert_eq!(rt; text.as_slice(), b"cpus 4\n".as_slice()),
+//!     Err(ReadEnd::TooLong) => println!(rt; "more than 8 bytes")?,
+//!     Err(_) => println!(rt; "a failed read, or no memory")?,
+//! }
+//! ```
 #![tactic(auto)]
 
 mod calls;

@@ -7,6 +7,20 @@
 //!
 //! The layers above make a pass for each thread by `split`, which hands the right to publish for some contexts on, and
 //! bring passes together by `join`.
+//!
+//! ```
+//! use wbt_estimate::{Estimate, first_estimate};
+//! use wbt_published::Published;
+//!
+//! // One context, at moment 1. CPU 1 owns it: its pass gets the right to publish.
+//! let (published, mut pass) = Published::make(alloc, 1, 1)?;
+//! let mut other = published.split(&rt, alloc, &mut pass, &[1], 1)?;
+//! let next = Estimate { version: 1, ..first_estimate(201) };
+//! published.publish(&rt, &mut other, 0, next);
+//! // Every pass reads it whole.
+//! assert_eq!(rt; published.read(&rt, &mut pass, 0), next);
+//! published.join(&rt, &mut pass, other);
+//! ```
 #![tactic(auto)]
 
 mod each;

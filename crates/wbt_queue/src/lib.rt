@@ -17,6 +17,19 @@
 //!
 //! The layers above make a pass for each thread by `split`, which hands it a stake, and bring passes together by `join`: the
 //! lists of both are known then, each apart, and the stakes of both.
+//!
+//! ```
+//! use wbt_queue::Queues;
+//!
+//! // One device, whose queue holds two inode numbers; `pass` is this thread's, `other` for another thread.
+//! let (queues, mut pass) = Queues::make(alloc, &[2])?;
+//! let mut other = queues.split(&rt, alloc, &mut pass)?;
+//! assert!(rt; queues.put(&rt, &mut pass, 0, 7).is_ok());
+//! assert_eq!(rt; queues.take(&rt, &mut other, 0), Some(7));
+//! assert_eq!(rt; queues.take(&rt, &mut other, 0), None);
+//! // Both threads have ended: one pass knows that 7 was put and taken.
+//! queues.join(&rt, &mut pass, other);
+//! ```
 #![tactic(auto)]
 
 mod each;

@@ -3,6 +3,17 @@
 //! The layer above calls `replay` for the journal of a trace, whose text `wbt_journal::print` writes. What the run is stands in
 //! `wbt_replay_order`; its laws are shown of that definition, in the layers between, and `replay` hands them on. `wbt_replay_worked` has
 //! runs worked out byte for byte.
+//!
+//! ```
+//! use wbt_replay::replay;
+//! use wbt_journal::Ending;
+//!
+//! // A trace as `wbt_trace::read_trace` answers it: one task that writes two pages.
+//! let journal = replay(alloc, &trace)?;
+//! assert_eq!(rt; journal.ending, Ending::Done);
+//! // The run made 23 steps, each with its count and the bound, and left no page.
+//! assert_eq!(rt; (journal.steps.as_slice().len(), journal.left.as_slice().len()), (23, 0));
+//! ```
 #![tactic(auto)]
 
 mod clock;

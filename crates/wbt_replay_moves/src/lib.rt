@@ -2,6 +2,18 @@
 //!
 //! The layer above says whose turn it is, takes the items of a turn one after another, and calls `make_step` and `make_move`, or
 //! `make_timer_step` and `make_timer_move`, with each; it begins turns with `begin_turn` and `begin_timer`.
+//!
+//! ```
+//! use wbt_replay_moves::{Todo, Whose};
+//!
+//! // CPU 0 begins a turn of task 0, whose items then stand in `todo`, and makes the first: a silent move or a step.
+//! machine.begin_turn(&trace, 0, Whose::Task { task: 0 })?;
+//! match machine.cpus[0].todo.pop_front() {
+//!     Some(Todo::Silent(item)) => machine.make_move(&trace, 0, item)?,
+//!     Some(Todo::Step(step)) => machine.make_step(&trace, 0, step)?,
+//!     None => {}
+//! }
+//! ```
 #![tactic(auto)]
 
 mod age;

@@ -4,6 +4,17 @@
 //!
 //! The layers above call these wherever a turn needs them, and their definitions cite those that stand here. No call takes
 //! memory, and none keeps anything for the next.
+//!
+//! ```
+//! use wbt_limits::Pair;
+//! use wbt_rules::{chunk_of, limits_after};
+//!
+//! // A device writes 25600 pages a second, and the hard limit is 19995: a flusher claims at most 3072 pages before it hands them over.
+//! assert_eq!(rt; chunk_of(25600, 19995), 3072);
+//! // Memory went: the threshold is 9997, the hard limit was 19995, and 9000 pages are dirty. It comes down by a 32nd of the way.
+//! let limits = limits_after(Pair { thresh: 9997, bg: 4992 }, 19995, 9000);
+//! assert_eq!(rt; (limits.thresh, limits.hard), (9997, 19683));
+//! ```
 #![tactic(auto)]
 
 mod age;

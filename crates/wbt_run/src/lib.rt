@@ -15,6 +15,19 @@
 //!
 //! No fact spans two seats before they are joined. What each worker did is told by its log; after the join one record says where the sides
 //! of all CPUs stand, the drain and the sweep keep it, and from it the journal is lawful.
+//!
+//! ```
+//! use wbt_io::{FreeGate, ModelRack, RealClock};
+//! use wbt_run::{RunEnd, run};
+//!
+//! // A lawful trace, a clock, a gate that stops nobody, and a rack of disks. Where it returns, the journal is lawful for the trace.
+//! let mut rack = ModelRack::make();
+//! match run(&rt, alloc, &trace, &clock, &FreeGate, &mut rack) {
+//!     RunEnd::Finished(journal) => println!(rt; "{:?}, {} pages written", journal.ending, rack.pages)?,
+//!     RunEnd::Faulted(_) | RunEnd::Spent(_) => println!(rt; "a disk or a CPU came to its end")?,
+//!     RunEnd::NoMemory => println!(rt; "no memory")?,
+//! }
+//! ```
 #![tactic(auto)]
 
 mod beside;

@@ -18,6 +18,19 @@
 //! ```
 //!
 //! The layer above runs the workers, and states of them that they have worked so; with the closed throttle the law follows.
+//!
+//! ```
+//! use wbt_run_drain::{drain::drain, ending::{all_ended, ending_of}, sweep::sweep};
+//!
+//! // All tasks ended: `sides` are those of all CPUs, in order, and `seats` hold all. The flushers clean what is left; where each was done,
+//! // each inode is looked at once more.
+//! drain(&hands, &trace, &mut seats, &mut sides);
+//! if all_ended(&sides) {
+//!     sweep(&hands, &trace, &mut seats, &mut sides);
+//! }
+//! // Done, halted, spent or faulted; an error where memory was refused.
+//! println!(rt; "{:?}", ending_of(&sides)?)?;
+//! ```
 #![tactic(auto)]
 
 pub mod drain;

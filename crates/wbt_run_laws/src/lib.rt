@@ -13,6 +13,18 @@
 //! ```
 //!
 //! The layers above state a turn's contract by these, and cite the laws.
+//!
+//! ```text
+//! ghost use Rattle.wbt_run_laws.specs.Laws.{WorkedIsLawful};
+//!
+//! // From the turns of all workers, the joined notes and the closed table: the journal is lawful. The call does nothing: its contract is
+//! // the law.
+//! fn cited()
+//!     ensures { WorkedIsLawful }
+//! {
+//!     wbt_run_laws::laws::points::worked_is_lawful();
+//! }
+//! ```
 #![tactic(auto)]
 
 pub mod laws;

@@ -10,6 +10,16 @@
 //! make  ->  split_each  ->  turns on each part   ->  join_each  ->  turns on what came together  ->  close, left_in
 //!           what is left    turns of the timer   ->  join
 //! ```
+//!
+//! ```
+//! use wbt_run_seats::{join_each, split_each};
+//!
+//! // `trace` has one CPU; `kit` and `seats` are those of `Kit::make`. A thread takes each part, and what is left has the timer.
+//! let parts = split_each(&rt, alloc, &kit, &mut seats, 1)?;
+//! assert_eq!(rt; (parts.len(), seats.cpu.holds(0)), (1, false));
+//! join_each(&rt, &kit, &mut seats, parts);
+//! assert_eq!(rt; seats.cpu.holds(0), true);
+//! ```
 #![tactic(auto)]
 
 mod apart;

@@ -13,6 +13,20 @@
 //! put_or_wait  puts an inode into its device's queue, or lets it wait
 //! give_back    gives a page back, and tells it
 //! ```
+//!
+//! ```
+//! use wbt_run_steps::{Pen, may_step, settle};
+//!
+//! // A turn of CPU 0, with its kit, seats, gate and log. Room for three entries is made before its first step.
+//! let mut pen = Pen::open(alloc, &mut log);
+//! pen.reserve(3, 0, 0)?;
+//! if may_step(0, &seats, &gate) {
+//!     // What the CPU owes to counters is paid, and each fold told. True where all is paid, false where the gate said no before.
+//!     let paid = settle(0, &kit, &mut seats, &gate, &mut pen);
+//!     println!(rt; "{paid}")?;
+//! }
+//! pen.close(&mut log);
+//! ```
 #![tactic(auto)]
 
 mod back;

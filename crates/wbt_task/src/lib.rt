@@ -15,6 +15,20 @@
 //! checks with what they decided, tasks that ended. That no page is counted twice or lost there, that a CPU doesn't go on
 //! long without a check, and that no page is written that isn't left are laws of `laws`. The layers above keep a `CpuLocal`
 //! for each CPU and a `Task` for each writer, and let `wbt_pause::decide` make the check.
+//!
+//! ```
+//! use wbt_task::{CpuLocal, Due, first_task, page_done};
+//!
+//! // A new writer may dirty 32 pages before its check. Each page that it dirties is counted, with `left` pages that it still may dirty.
+//! let (mut local, mut task) = (CpuLocal { since_check: 0, leaks: 0 }, first_task());
+//! for left in [31, 30] {
+//!     // It isn't marked exceeded, and its CPU asks for a check at least after each 300 pages.
+//!     assert_eq!(rt; page_done(&mut local, &mut task, left, false, 300), Due::No);
+//! }
+//! assert_eq!(rt; (task.nr_dirtied, local.since_check), (2, 2));
+//! // A check is due where no page is left.
+//! assert_eq!(rt; page_done(&mut local, &mut task, 0, false, 300), Due::Check);
+//! ```
 #![tactic(auto)]
 
 mod allowance;

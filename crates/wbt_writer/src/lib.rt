@@ -24,6 +24,20 @@
 //!
 //! After each entry the tasks and counts are the side that a journal shows there (`side_of`). A task that has no page left to write
 //! and no check due ends there, unless it rests last: then it ends with that rest.
+//!
+//! ```
+//! use wbt_kit::Turn;
+//! use wbt_writer::WriterCpu;
+//!
+//! // The writers of CPU 0, where a task has two pages to write. `first` are the first limits of the global domain, and `hands` has the
+//! // kit, the clock and the gate; `seats` are the CPU's own, and `log` is its log.
+//! let mut writers = WriterCpu::make(alloc, &trace, 0, &first)?;
+//! match writers.turn(&hands, &mut seats, &mut log) {
+//!     Turn::Stepped => println!(rt; "{} entries", log.entries.as_slice().len())?,
+//!     Turn::Resting { now, until } => println!(rt; "{} ticks of rest", until - now)?,
+//!     _ => println!(rt; "no further turn, or no memory")?,
+//! }
+//! ```
 #![tactic(auto)]
 
 mod check;
