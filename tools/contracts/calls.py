@@ -1,4 +1,4 @@
-"""Reads a crate's .rt files, which stand in the layout of `rt fmt`: its modules, and their calls with their comments and `ensures` clauses.
+"""Reads a crate's .rt files, which stand in the layout of `rt fmt`: its modules, and their calls with their comments and contracts.
 
 Nothing is compiled: an item begins in the column of its module or impl, and its contract ends at its body.
 """
@@ -14,6 +14,9 @@ BLOCK = re.compile(PUB + r"(?P<word>mod|trait|impl)\b(?P<rest>.*)")
 DECLARED = re.compile(PUB + r"(?:struct|enum|trait|type|union) (?P<name>\w+)")
 USE = re.compile(PUB + r"use (?P<tree>[^;]*);")
 CLAUSE = re.compile(r"ensures(?: (?P<name>\w+))? \{(?: (?P<definition>[A-Z]\w*) \}$)?")
+DEMAND = re.compile(r"requires(?: \w+)? \{")
+GHOST = re.compile(r"ghost use Rattle\.(?P<crate>\w+)\.specs\.[\w.]+(?:\.\{(?P<names>.*)\}| as (?P<alias>\w+));")
+REQUIRES = "Requires: "
 
 
 @dataclass
@@ -28,12 +31,17 @@ class Clause:
 
 @dataclass
 class Call:
-    """A function. Its name is that in its module, as `Type::name`; `of` is the trait that an impl gives, if it stands in one."""
+    """A function. Its name is that in its module, as `Type::name`; `of` is the trait that an impl gives, if it stands in one. `demands` has
+    the texts of its `requires` clauses, and `requires` what its comment says of them. `homes` has the crate of each definition that its
+    file names."""
     name: str
     comment: str
     clauses: list[Clause]
     is_open: bool
     of: str
+    demands: list[str]
+    requires: str
+    homes: dict[str, str]
 
 
 @dataclass
@@ -82,6 +90,22 @@ def first_paragraph(lines: list[str]) -> str:
     return " ".join(words)
 
 
+def required(lines: list[str]) -> str:
+    """What a paragraph of comment lines says that the call requires, as one line."""
+    at = next((at for at, line in enumerate(lines) if line.startswith(REQUIRES)), len(lines))
+    return first_paragraph(lines[at:]).removeprefix(REQUIRES)
+
+
+def ghost_homes(lines: list[str]) -> dict[str, str]:
+    """The crate of each definition, and of each file of definitions, that a file names."""
+    found: dict[str, str] = {}
+    for line in lines:
+        given = GHOST.match(line.strip())
+        for name in (given["names"] or given["alias"]).split(",") if given else ():
+            found[name.split(" as ")[-1].strip()] = given["crate"]
+    return found
+
+
 def split_tree(tree: str) -> list[tuple[str, str]]:
     """The paths that a `use` names, each with the name that it is given: `a::{b, c as d}` has `a::b` as b and `a::c` as d."""
     tree = tree.strip()
@@ -120,6 +144,7 @@ class Reader:
     def __init__(self, path: str, folder: str, parent: Module | None = None) -> None:
         with open(path, encoding="utf-8") as source:
             self.lines = source.read().split("\n")
+        self.homes = ghost_homes(self.lines)
         self.folder = folder
         self.at = 0
         self.module = Module(parent)
@@ -150,7 +175,7 @@ class Reader:
                 if tested:
                     self.skip_item()
                 else:
-                    self.item(owner, of, all_open, first_paragraph(comment))
+                    self.item(owner, of, all_open, comment)
                 comment, tested = [], False
 
     def skip_attribute(self) -> None:
@@ -168,7 +193,7 @@ class Reader:
             if depth <= 0 and plain(self.lines[self.at - 1]).endswith(("}", ";")):
                 return
 
-    def item(self, owner: str, of: str, all_open: bool, comment: str) -> None:
+    def item(self, owner: str, of: str, all_open: bool, comment: list[str]) -> None:
         text = self.lines[self.at].strip()
         function, block, declared, use = (kind.match(text) for kind in (FUNCTION, BLOCK, DECLARED, re.compile(PUB + "use ")))
         if declared and not owner:
@@ -218,9 +243,10 @@ class Reader:
         self.at += 1
 
     # A function: its clauses with the comments above them, and its body.
-    def function(self, match: re.Match[str], owner: str, of: str, all_open: bool, comment: str) -> None:
+    def function(self, match: re.Match[str], owner: str, of: str, all_open: bool, comment: list[str]) -> None:
         indent = column(self.lines[self.at])
         clauses: list[Clause] = []
+        demands: list[str] = []
         above: list[str] = []
         sentence, run, depth = "", 0, 0
         while True:
@@ -237,6 +263,8 @@ class Reader:
                 above = []
                 if clause:
                     clauses.append(Clause(clause["name"] or "", sentence, run, clause["definition"] or ""))
+                elif text.startswith("requires"):
+                    demands.append(self.demand())
             depth += balance(line)
             if not depth and (plain(line).endswith(";") or not inside and plain(line).endswith("}")):
                 break
@@ -246,7 +274,17 @@ class Reader:
             self.at += 1
         self.at += 1
         name = f"{owner}::{match['name']}" if owner else match["name"]
-        self.module.calls.append(Call(name, comment, clauses, all_open or match["pub"] == "pub ", of))
+        is_open = all_open or match["pub"] == "pub "
+        self.module.calls.append(Call(name, first_paragraph(comment), clauses, is_open, of, demands, required(comment), self.homes))
+
+    # The text of the `requires` clause that begins in this line.
+    def demand(self) -> str:
+        words, depth, at = [], 0, self.at
+        while not words or depth > 0:
+            words.append(self.lines[at].strip())
+            depth += balance(self.lines[at])
+            at += 1
+        return DEMAND.sub("", " ".join(words), count=1).strip().removesuffix("}").strip()
 
     # To the line that closes the body, in the function's own column.
     def skip_body(self, indent: int) -> None:

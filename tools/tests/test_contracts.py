@@ -165,7 +165,7 @@ class Contracts(unittest.TestCase):
         self.assertEqual(self.rows()[:8], [
             "| `Sized::wide` | | How wide it is. |",
             "| `Shape::wide`, as `Sized` | `said` | As it is said. |",
-            "| `Shape::open` | `value` | Opens it: see `{`. |",
+            "| `Shape::open` | `value` | Opens it: see `{`. *Requires* `at < 3`. |",
             "| | `stays`, `full`, `alone` | It stays, whatever was in it. |",
             "| `open_box` | `wide` | Opens a box. |",
             "| `laws::boxes_are_wide` | | Boxes are wide. |",
@@ -195,8 +195,8 @@ class Contracts(unittest.TestCase):
         ])
 
     def test_what_is_not_there_is_told_by_name(self) -> None:
-        house = self.house("boxes::Shape::close: No.\nboxes::Shape::open shut: No.\nboxes::IsWhole low.none: No.\nbags::open: No.\n"
-                           "boxes::Answers Shut: No.\nno sentence\nboxes::open_box wide: One.\nboxes::open_box wide: Two.\n")
+        house = self.house("boxes::Shape::close; boxes::Shape::open shut; boxes::IsWhole low.none; bags::open: No.\n"
+                           "boxes::Answers Shut: None.\n\n\n\nno sentence\nboxes::open_box wide: One.\nboxes::open_box wide: Two.\n")
         self.assertEqual(house.wrong, [
             "line 6 is no sentence: no sentence",
             "boxes::Shape::close: there is no such call or definition",
@@ -206,6 +206,42 @@ class Contracts(unittest.TestCase):
             "boxes::Answers Shut: the definition has no Shut",
             "boxes::open_box wide: wide has two sentences",
         ])
+
+    def test_a_sentence_of_several_calls_stands_once(self) -> None:
+        rows = self.rows("boxes::Shape::open full; boxes::open_box wide: What was in it is there still, and nothing else is.\n")
+        self.assertIn("| | `full` | As `open_box`, `wide`. |", rows)
+        self.assertIn("| | `wide` | What was in it is there still, and nothing else is. |", rows)
+        house = self.house("boxes::Shape::open full: It stays.\nboxes::open_box wide: It stays.\n")
+        self.assertEqual(house.wrong, ["line 2 has the sentence of line 1: It stays."])
+
+    def test_a_part_of_a_text_is_named_where_a_row_before_it_has_it(self) -> None:
+        rows = self.rows("boxes::Shape::open full: What was in it is there still.\n"
+                         "boxes::open_box wide: What was in it is there still. It is wide.\n")
+        self.assertIn("| | `wide` | As `Shape::open`, `full`. It is wide. |", rows)
+
+    def test_a_sentence_of_the_call_speaks_for_its_clause(self) -> None:
+        self.assertIn("| `open_box` | `wide` | Opens a box. |", self.rows("boxes::open_box wide: Opens a box.\n"))
+
+    def test_a_call_in_another_crate_is_named_with_a_link(self) -> None:
+        self.put("crates/low/src/lib.rt", "//! What is low.\n\n/// Opens whatever is closed.\npub fn open_any()\n    ensures told { A }\n{}\n")
+        self.assertIn("| `laws::same` | `told` | As [`low::open_any`](#low), `told`. |", self.with_law(
+            "/// Opens whatever is closed.\npub fn same()\n    ensures told { A }\n{}\n"))
+
+    def with_law(self, law: str) -> list[str]:
+        self.put("crates/boxes/src/laws.rt", "//! Laws.\n\nghost use Rattle.low.specs.Words.{Told};\n\n" + law)
+        return self.rows()
+
+    def test_what_a_call_requires_stands_in_words_or_as_it_is(self) -> None:
+        rows = self.with_law("/// Two.\n///\n/// Requires: one that\n/// is there.\npub fn two(n: u64)\n    requires { Told n }\n{}\n\n"
+                             "/// Three.\npub fn three(n: u64)\n    requires { n < 3\n        × n < 4 }\n    requires told { Told n }\n"
+                             "    ensures { A }\n{}\n")
+        self.assertIn("| `laws::three` | | Three. *Requires* `n < 3 × n < 4`; `Told n`. |", rows)
+
+    def test_a_long_precondition_is_named_by_its_definitions(self) -> None:
+        self.put("crates/low/specs/Words.antt", "-- a word that was told\n" + LOW)
+        rows = self.with_law("/// Two.\npub fn two(n: u64)\n    requires { Told " + "n " * 40 + "}\n    ensures { A }\n{}\n")
+        self.assertIn("| `laws::two` | | Two. *Requires* [`Told`](#low). |", rows)
+        self.assertIn("| `Told` of `specs/Words.antt` | | A word that was told. |", rows)
 
     def test_clauses_without_a_sentence_are_counted(self) -> None:
         self.put("crates/boxes/src/laws.rt", LAWS + "\npub fn more()\n    ensures one { A }\n    ensures two { B }\n{}\n")

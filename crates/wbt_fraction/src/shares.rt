@@ -54,6 +54,8 @@ impl Model for ShareSeat {
 impl Shares {
     /// So many domains, of which the first is the global one, and the contexts, each with its domain. The seat has all
     /// stakes and all room.
+    ///
+    /// Requires: 1 to 9 domains, at most 64 contexts, and for each context a domain that exists.
     pub fn make(
         alloc: Global,
         domains: u32,
@@ -88,6 +90,8 @@ impl Shares {
     }
 
     /// Moves one stake and 2^33 of each room to a seat for a further thread. Without memory the seat is as it was.
+    ///
+    /// Requires: a seat at these shares with two stakes, and 2^33 of each room, at least.
     pub fn split(&self, alloc: Global, seat: &mut ShareSeat) -> Result<ShareSeat, NoMemory>
         requires seat { IsSeatOf self.now seat.old }
         requires room { HasRoom seat.old.domains × HasTotalRoom self.now.totals seat.old.totals }
@@ -107,6 +111,8 @@ impl Shares {
     }
 
     /// Brings two seats together: notes, stakes and rooms. With all stakes the seat has all notes.
+    ///
+    /// Requires: two seats at these shares.
     pub fn join(&self, into: &mut ShareSeat, from: ShareSeat)
         requires { IsSeatOf self.now into.old × IsSeatOf self.now from }
         ensures seat { IsSeatOf self.now into.new }
@@ -121,6 +127,9 @@ impl Shares {
 
     /// Adds `n` events to the context's part of the domain, and then to the domain. Again comes where another thread
     /// changed the part between two looks: then nothing was added.
+    ///
+    /// Requires: a seat at these shares with room for `n` events in the domain. The domain and the context exist, and the domain is the
+    /// global one or the context's own.
     pub fn add(&self, seat: &mut ShareSeat, domain: u32, wb: u32, n: u64) -> Result<(), Again>
         requires seat { IsSeatOf self.now seat.old }
         requires domain { domain < length self.now.domains }
@@ -138,6 +147,8 @@ impl Shares {
 
     /// The context's fraction of the domain, as it was in one period. Again comes where a period began between the two
     /// looks at the domain.
+    ///
+    /// Requires: a seat at these shares. The domain and the context exist, and the domain is the global one or the context's own.
     pub fn read(&self, seat: &mut ShareSeat, domain: u32, wb: u32) -> Result<Fraction, Again>
         requires seat { IsSeatOf self.now seat.old }
         requires domain { domain < length self.now.domains }
@@ -154,6 +165,8 @@ impl Shares {
 
     /// Begins `k` periods of the domain at once. False comes exactly where the word that was loaded has nothing to halve,
     /// or no period is left; Again where another thread changed the word before the exchange.
+    ///
+    /// Requires: a seat at these shares, and at least one period. The domain exists.
     pub fn new_period(&self, seat: &mut ShareSeat, domain: u32, k: u64) -> Result<bool, Again>
         requires seat { IsSeatOf self.now seat.old }
         requires domain { domain < length self.now.domains }
@@ -168,6 +181,8 @@ impl Shares {
     }
 
     /// Counts `n` pages into what the context wrote.
+    ///
+    /// Requires: a seat at these shares with room for `n` pages of the context. The context exists.
     pub fn wrote(&self, seat: &mut ShareSeat, wb: u32, n: u64)
         requires seat { IsSeatOf self.now seat.old }
         requires context { wb < length self.now.homes }
@@ -182,6 +197,8 @@ impl Shares {
     }
 
     /// What the context wrote in all, which never goes back for a seat.
+    ///
+    /// Requires: a seat at these shares. The context exists.
     pub fn written(&self, seat: &mut ShareSeat, wb: u32) -> u64
         requires seat { IsSeatOf self.now seat.old }
         requires context { wb < length self.now.homes }

@@ -16,6 +16,10 @@ use wbt_position::{DomainRead, position};
 
 /// What a check decides about a writer from its reads, the context's estimate and the writer's numbers, at a moment. The
 /// kernel's `balance_dirty_pages`, one round.
+///
+/// Requires: lawful limits of each domain, 1 to 64 CPUs, a cap of at least a page, and fewer than 2^33 pages of the context; an average
+/// bandwidth from 1 to below 2^44 and a rate limit of at least 1 page a second; fewer than 2^52 pages dirtied, and an allowance below 2^52;
+/// a moment below 2^62.
 pub fn decide(reads: &Reads, estimate: &Estimate, task: Task, now: u64) -> Decision
     requires readable { IsReadable reads.now }
     requires usable { IsUsable estimate.now }

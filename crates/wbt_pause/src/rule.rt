@@ -29,6 +29,9 @@ pub struct Rule {
 
 /// What a check decides about a writer by a rule, from its context's pages, `wb_dirty`, the context's estimate and the writer's numbers,
 /// at a moment. At most `cap` pages are left to the writer. The kernel's `balance_dirty_pages`, once the position ratio is known.
+///
+/// Requires: what `decide` does of pages, CPUs, cap, estimate, task and moment; of the rule a poll interval of at least a page, and a ratio
+/// below 2^32.
 pub fn finish(
     rule: &Rule,
     wb_dirty: u64,

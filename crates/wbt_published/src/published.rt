@@ -62,6 +62,8 @@ impl Published {
 
     /// A pass for a further thread. The right to publish goes to it for each context that this CPU owns, where the old
     /// pass had it. Without memory the old pass is as it was.
+    ///
+    /// Requires: a pass to these estimates, and an owner for each context.
     pub fn split<R: Wait>(
         &self,
         _rt: &R,
@@ -83,6 +85,8 @@ impl Published {
 
     /// Brings two passes together, with what both know and the rights of both. It may wait for a thread that is about to
     /// publish.
+    ///
+    /// Requires: two passes to these estimates.
     pub fn join<R: Wait>(&self, rt: &R, into: &mut EstPass, from: EstPass)
         requires { IsPassOf self.now into.old × IsPassOf self.now from }
         ensures { into.new ≡ record into.old { known = all_joined into.old.known from.known } }
@@ -92,6 +96,9 @@ impl Published {
     }
 
     /// Publishes the context's next estimate. It may wait for a thread that is about to read.
+    ///
+    /// Requires: a pass to these estimates that has the right to publish the context's; a sound estimate, whose version follows the last
+    /// one that the pass knows. The context exists.
     pub fn publish<R: Wait>(&self, rt: &R, pass: &mut EstPass, wb: u32, estimate: Estimate)
         requires pass { IsPassOf self.now pass.old }
         requires context { wb < length self.now.names }
@@ -106,6 +113,8 @@ impl Published {
 
     /// The context's newest estimate at a moment of the call, whole. Its version isn't below any that the pass saw. It may
     /// wait for a thread that is about to publish.
+    ///
+    /// Requires: a pass to these estimates. The context exists.
     pub fn read<R: Wait>(&self, rt: &R, pass: &mut EstPass, wb: u32) -> Estimate
         requires pass { IsPassOf self.now pass.old }
         requires context { wb < length self.now.names }

@@ -44,6 +44,8 @@ impl Model for QueuePass {
 
 impl Queues {
     /// An empty queue for each size, and the one pass to them.
+    ///
+    /// Requires: sizes of at least 1.
     pub fn make(alloc: Global, sizes: &[u32]) -> Result<(Queues, QueuePass), NoMemory>
         requires { All (λ size. 1 ≤ size) sizes.now }
         ensures sizes { IfOk result (λ made. made.0.sizes ≡ sizes.now) }
@@ -58,6 +60,8 @@ impl Queues {
     /// A pass for a further thread. It knows nothing yet, and gets a stake of each queue; the old one knows what it knew, and
     /// keeps the other stakes. One that has a single stake loses it, and then nobody has all again. Without memory the old pass
     /// is as it was.
+    ///
+    /// Requires: a pass to these queues.
     pub fn split<R: Wait>(
         &self,
         _rt: &R,
@@ -75,6 +79,8 @@ impl Queues {
     }
 
     /// Brings two passes together: the one knows then what both knew, each part apart, and has the stakes of both.
+    ///
+    /// Requires: two passes to these queues.
     pub fn join<R: Wait>(&self, _rt: &R, into: &mut QueuePass, from: QueuePass)
         requires { IsPassOf self.now into.old × IsPassOf self.now from }
         ensures { into.new ≡ record into.old { known = all_joined into.old.known from.known } }
@@ -85,6 +91,8 @@ impl Queues {
 
     /// Puts an inode number behind all that wait for the device's flushers. Full comes only where the queue was full at a
     /// moment of the call. It may wait for a thread that is stopped in the middle of its own put or take.
+    ///
+    /// Requires: a pass to these queues. The device exists.
     pub fn put<R: Wait>(
         &self,
         rt: &R,
@@ -106,6 +114,8 @@ impl Queues {
     /// Takes the inode number that waited longest for the device's flushers. None comes only where the queue was empty at
     /// a moment of the call: to a pass with all stakes it says that each number that was put was taken. It may wait for a
     /// thread that is stopped in the middle of its own put or take.
+    ///
+    /// Requires: a pass to these queues. The device exists.
     pub fn take<R: Wait>(&self, rt: &R, pass: &mut QueuePass, device: u32) -> Option<u32>
         requires pass { IsPassOf self.now pass.old }
         requires device { device < length self.now.sizes }

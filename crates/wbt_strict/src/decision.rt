@@ -21,6 +21,8 @@ use wbt_pause::{
 /// middle of the context's background threshold and its threshold, and from there on goes as `strict_position` says. The kernel's
 /// `balance_dirty_pages` of a device with BDI_CAP_STRICTLIMIT, one round; that nobody is free above a domain's hard limit is asked for
 /// besides.
+///
+/// Requires: what `decide` of `wbt_pause` does, and no threshold of the context above that of its domain.
 pub fn strict_decide(reads: &Reads, estimate: &Estimate, task: Task, now: u64) -> Decision
     requires readable { IsReadable reads.now }
     requires parts { ArePartsWithin reads.now }
@@ -62,6 +64,8 @@ pub fn strict_decide(reads: &Reads, estimate: &Estimate, task: Task, now: u64) -
 
 /// What a check decides about a writer of a context, from its reads, the context's estimate and the writer's numbers, at a moment: as
 /// `strict_decide` does where the context is one of a strict device, and else as `decide` does.
+///
+/// Requires: what `strict_decide` does, whichever rule decides.
 #[tactic(auto, unfolding(crate::specs::Decision::decision_for))]
 pub fn decide_for(
     strict: bool,

@@ -17,6 +17,8 @@ pub const FEW_PAGES: u64 = 8;
 /// context's own pages allow: the polynomial between the middle of its background threshold and its threshold, and the threshold. With
 /// fewer than 8 pages the context goes twice as fast as the domain's pages allow. `wb_dirty` is the context's dirty pages, those
 /// under writeback among them. The kernel's `wb_position_ratio` of a device with BDI_CAP_STRICTLIMIT.
+///
+/// Requires: lawful limits, and a threshold of the context of at most that of its domain.
 #[tactic(auto, unfolding(crate::specs::Position::strict_ratio))]
 pub fn strict_position(read: &DomainRead, wb_dirty: u64) -> u64
     requires lawful { IsLawful read.now.limits }

@@ -55,6 +55,8 @@ impl Model for Census {
 
 impl Throttle {
     /// Whether a seat of the throttle holds all CPUs and the timer, as who closes it must.
+    ///
+    /// Requires: a seat of this throttle.
     pub fn holds_all(&self, seat: &CpuSeat) -> bool
         requires { IsAt self.now seat.now }
         ensures { IsTrue result ↔ HoldsAll seat.now }
@@ -68,6 +70,8 @@ impl Throttle {
     }
 
     /// Ends the throttle. The seat holds all CPUs and the timer.
+    ///
+    /// Requires: a seat of this throttle that holds every CPU and the timer (`holds_all`): all seats have been joined.
     pub fn close(self, seat: CpuSeat) -> Census
         requires seat { IsAt self seat }
         requires all { HoldsAll seat }
@@ -103,6 +107,8 @@ impl Throttle {
 
 impl Census {
     /// The two bits of a page: bit 0 is dirty, bit 1 is writeback.
+    ///
+    /// Requires: the page exists.
     pub fn page(&self, page: u32) -> u64
         requires there { page < (setting self.now.layout).pages }
         ensures value { result ≡ page_words.bits_of (word_at self.now (layout.page_at page)) page }
@@ -112,6 +118,8 @@ impl Census {
     }
 
     /// The version and the count in a counter's shared word.
+    ///
+    /// Requires: the counter is that of a domain or a context that exists.
     pub fn shared(&self, counter: Counter) -> Count
         requires there { HasCounter self.now.layout counter }
         ensures { result ≡ calls.count_of (word_at self.now (layout.shared_at self.now.layout counter)) }
@@ -124,6 +132,8 @@ impl Census {
     }
 
     /// A CPU's own number of a counter, in pages.
+    ///
+    /// Requires: the CPU exists, and the counter is that of a domain or a context that exists.
     pub fn local(&self, cpu: u32, counter: Counter) -> i64
         requires there { HasCounter self.now.layout counter }
         requires cpu { cpu < self.now.layout.cpus }
@@ -135,6 +145,8 @@ impl Census {
 
     /// What a CPU still owes to a counter. A counter's exact count is its shared value and, over all CPUs, `local` plus `event`
     /// less `clear`.
+    ///
+    /// Requires: the CPU exists.
     pub fn owed(&self, cpu: u32, counter: Counter) -> Owed
         requires cpu { cpu < self.now.layout.cpus }
         ensures event { result.event ≡ amount (debt_at self.now cpu counter) }

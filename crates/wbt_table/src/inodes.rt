@@ -15,6 +15,8 @@ use wbt_book::is_marked;
 impl Throttle {
     /// Marks an inode (the step `mark`), which pays the CPU's owed mark and its owed rescans of the inode's pages. Whether the
     /// mark was clear before. Where it was, and a seat that holds all owed the inode nothing, no page of the inode is dirty.
+    ///
+    /// Requires: a seat of this throttle that holds the CPU. The inode exists.
     pub fn mark_inode(&self, seat: &mut CpuSeat, cpu: u32, inode: u32) -> bool
         requires seat { IsAt self.now seat.old }
         requires there { inode < length self.now.layout.inodes }
@@ -31,6 +33,8 @@ impl Throttle {
     }
 
     /// Clears the mark of an inode (the step `unmark`). From then on the CPU owes a rescan of each page of the inode.
+    ///
+    /// Requires: a seat of this throttle that holds the CPU. The inode exists.
     pub fn clear_inode(&self, seat: &mut CpuSeat, cpu: u32, inode: u32)
         requires seat { IsAt self.now seat.old }
         requires there { inode < length self.now.layout.inodes }

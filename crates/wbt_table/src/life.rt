@@ -27,7 +27,12 @@ use wbt_limits::{pack_hard, pack_thresh};
 use wbt_num::{Limits, NoMemory};
 
 impl Throttle {
-    /// A throttle, and a seat that holds all CPUs and the timer. The first limits of each domain stand published.
+    /// A throttle, and a seat that holds all CPUs and the timer. The first limits of each domain stand published. Each writer has 32 pages
+    /// left, or `cap` where that is less.
+    ///
+    /// Requires: a layout of 1 to 64 CPUs, a cap of 1 to 1024 pages, at least one page step and one domain, and lawful first limits; numbers
+    /// of page steps, domains, contexts, inodes, pages and writers up to the limits of the product (`wbt_num`). Contexts, inodes and writers
+    /// name only domains, contexts and CPUs that exist, and each inode begins where the one before it ends.
     pub fn make(alloc: Global, layout: Layout) -> Result<(Throttle, CpuSeat), NoMemory>
         requires layout { IsLayout layout }
         ensures layout { IfOk result (λ t. t.0.layout ≡ layout) }
@@ -68,6 +73,8 @@ impl Throttle {
     }
 
     /// Moves a CPU, or the timer, into a seat of its own. Where memory is refused the seat is as it was.
+    ///
+    /// Requires: a seat of this throttle that holds the CPU, or the timer.
     pub fn split(&self, alloc: Global, seat: &mut CpuSeat, cpu: u32) -> Result<CpuSeat, NoMemory>
         requires seat { IsAt self.now seat.old }
         requires held { IsHeld seat.old cpu }
@@ -106,6 +113,8 @@ impl Throttle {
     }
 
     /// Brings the CPUs of two seats together, with all that they owe and hold.
+    ///
+    /// Requires: two seats of this throttle.
     pub fn join(&self, into: &mut CpuSeat, from: CpuSeat)
         requires seats { IsAt self.now into.old × IsAt self.now from }
         ensures { into.new ≡ joined_seat into.old from }

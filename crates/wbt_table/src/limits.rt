@@ -39,6 +39,9 @@ impl Throttle {
     /// step. Fresh where the limits stood whole: no version that the CPU has loaded of the domain is later, and the CPU holds them from
     /// now on. Again where the sequence word changed between the steps, or has an odd sequence: the answer is what the CPU holds still.
     /// In either case a writer keeps the limits that its CPU holds. Stopped where the gate answered false before one.
+    ///
+    /// Requires: a seat of this throttle that holds the CPU which loads: that of the writer, or the CPU itself. The timer loads no limits.
+    /// The domain exists.
     pub fn load_limits<G: Gate>(
         &self,
         seat: &mut CpuSeat,
@@ -63,6 +66,9 @@ impl Throttle {
 
     /// Loads the version and the count of a counter (the step `count`). The version isn't below any that this CPU has loaded or
     /// folded of it before. A writer keeps the reading.
+    ///
+    /// Requires: a seat of this throttle that holds who loads: the CPU of the writer, the CPU itself, or the timer. The counter is that of
+    /// a domain or a context that exists.
     pub fn load_count(&self, seat: &mut CpuSeat, who: Who, counter: Counter) -> Count
         requires seat { IsAt self.now seat.old }
         requires there { HasCounter self.now.layout counter }
@@ -82,6 +88,10 @@ impl Throttle {
 
     /// Grants a writer the pages of a decision, which no Wait has. It makes no step: what the writer loaded last lets it
     /// through in each of its domains, and is used up.
+    ///
+    /// Requires: a seat of this throttle that holds the CPU of the writer, which exists; a decision other than Wait with 1 to `cap` pages; and
+    /// for each domain of the writer's context, loaded since its last grant and its last fresh dirtying, either the limits and a count of the
+    /// domain of at most the hard limit, or a count of the context of at most the error.
     pub fn grant(&self, seat: &mut CpuSeat, writer: u32, decision: &Decision)
         requires seat { IsAt self.now seat.old }
         requires no_wait { decision.now.kind ≢ Wait }
@@ -101,6 +111,8 @@ impl Throttle {
     }
 
     /// Raises the peak of a domain to `hard` pages at least (the step `peak`). The seat holds the timer.
+    ///
+    /// Requires: a seat of this throttle that holds the timer. The domain exists.
     pub fn raise_peak(&self, seat: &mut CpuSeat, domain: u32, hard: u64)
         requires seat { IsAt self.now seat.old }
         requires there { domain < domains self.now.layout }
@@ -115,6 +127,9 @@ impl Throttle {
     /// timer raised last for it. The seat holds the timer, and the gate is asked before each step, by the number of the timer. Where
     /// the sequence is odd, since the last publication was stopped, `unseal` is left out. Stopped where the gate answered false: then
     /// the words are as the steps left them. Last where the domain's sequence is the last one: then nothing changed.
+    ///
+    /// Requires: a seat of this throttle that holds the timer; lawful limits, whose hard limit is at most the peak that the timer raised last
+    /// for the domain. The domain exists.
     pub fn publish<G: Gate>(&self, seat: &mut CpuSeat, domain: u32, limits: Limits, gate: &G) -> Put
         requires seat { IsAt self.now seat.old }
         requires there { domain < domains self.now.layout }
@@ -260,6 +275,8 @@ impl Throttle {
     }
 
     /// The limits of a domain that a CPU holds: those that it read whole last, or the first ones. It makes no step.
+    ///
+    /// Requires: a seat of this throttle that holds the CPU. The domain exists.
     pub fn held_limits(&self, seat: &CpuSeat, cpu: u32, domain: u32) -> Triple
         requires seat { IsAt self.now seat.now }
         requires there { domain < domains self.now.layout }

@@ -21,6 +21,9 @@ impl Throttle {
     /// Dirties a page for a writer (the step `dirty`). Fresh where the page wasn't dirty: the writer then has a page less left,
     /// and its CPU owes an event to each counter of the page. Spent where the CPU has made as many page steps as it may;
     /// then nothing changed.
+    ///
+    /// Requires: a seat of this throttle that holds the writer's CPU; the writer exists; the page exists, and is in the writer's context; the
+    /// writer has a page left (`left`); and its CPU owes no counter anything (`owes`), since `settle` has paid for its page before.
     pub fn dirty(&self, seat: &mut CpuSeat, writer: u32, page: u32) -> Result<Dirtied, Spent>
         requires seat { IsAt self.now seat.old }
         requires may { Holds seat.old.cpus ((setting self.now.layout).seat writer) (CanDirty (setting self.now.layout) writer page) }
@@ -34,6 +37,8 @@ impl Throttle {
 
     /// Completes a page that the CPU holds (the step `complete`): it is no longer under writeback, and the CPU owes an event to
     /// each counter of the page. Spent where the CPU has made as many page steps as it may; then nothing changed.
+    ///
+    /// Requires: a seat of this throttle that holds the CPU, which holds the page since its claim, and owes no counter anything (`settle`).
     pub fn complete(&self, seat: &mut CpuSeat, cpu: u32, page: u32) -> Result<(), Spent>
         requires seat { IsAt self.now seat.old }
         requires may { Holds seat.old.cpus cpu (CanComplete (setting self.now.layout) page) }
@@ -56,6 +61,8 @@ impl Throttle {
     /// Claims a page (the steps `look` and `claim`): where it is dirty and not under writeback, it is then under writeback and no
     /// longer dirty, and the CPU holds it, which it didn't before. NotDirty where the loaded word says otherwise, Missed where the word changed between
     /// the two steps, Stopped where the gate answered false before one. None of these three changes a word.
+    ///
+    /// Requires: a seat of this throttle that holds the CPU. The page exists.
     pub fn claim<G: Gate>(&self, seat: &mut CpuSeat, cpu: u32, page: u32, gate: &G) -> Claim
         requires seat { IsAt self.now seat.old }
         requires page { page < (setting self.now.layout).pages }
@@ -86,6 +93,8 @@ impl Throttle {
     /// owes an event of -1 to each counter of the page. Missed where the word changed between the two steps, Stopped where the gate answered
     /// false before one. Neither changes a word, and the CPU holds the page still. Spent where the CPU has made as many page steps as it may;
     /// then nothing changed, and no step was made.
+    ///
+    /// Requires: a seat of this throttle that holds the CPU, which holds the page since its claim, and owes no counter anything (`settle`).
     pub fn give_back<G: Gate>(
         &self,
         seat: &mut CpuSeat,

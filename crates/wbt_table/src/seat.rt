@@ -80,6 +80,8 @@ impl CpuSeat {
     }
 
     /// How many pages a writer has left. Its CPU is one that the seat holds.
+    ///
+    /// Requires: the writer exists, and the seat holds its CPU.
     pub fn left(&self, writer: u32) -> u64
         requires there { writer < length self.now.layout.writers }
         requires held { (r : _) × Has self.now.cpus ((setting self.now.layout).seat writer) r }
@@ -89,6 +91,8 @@ impl CpuSeat {
     }
 
     /// Whether a CPU that the seat holds owes a counter an event, a fold or a clear.
+    ///
+    /// Requires: the seat holds the CPU.
     pub fn owes(&self, cpu: u32) -> bool
         requires held { (r : _) × Has self.now.cpus cpu r }
         ensures { Holds self.now.cpus cpu (λ r. IsTrue result ↔ (r.debts ≢ [])) }
@@ -98,6 +102,8 @@ impl CpuSeat {
     }
 
     /// How many steps a CPU that the seat holds has made, or the timer.
+    ///
+    /// Requires: the seat holds the CPU, or the timer.
     pub fn steps(&self, cpu: u32) -> u64
         requires held { IsHeld self.now cpu }
         ensures cpu { (r : _) → Has self.now.cpus cpu r → result ≡ r.steps }

@@ -29,6 +29,8 @@ impl Throttle {
     /// Pays what the CPU owes to the context's counter, then to the global domain's, then to the cgroup's: each time an `add`
     /// and, where the batch is reached, a `fold` and a `clear`. The gate is asked before each step, and where it says false
     /// the call ends, with the rest still owed. A fold that was made is told in any case. Where nothing is owed no step is made.
+    ///
+    /// Requires: a seat of this throttle that holds the CPU.
     pub fn settle<G: Gate>(&self, seat: &mut CpuSeat, cpu: u32, gate: &G) -> Settled
         requires seat { IsAt self.now seat.old }
         requires held { (r : _) × Has seat.old.cpus cpu r }
