@@ -2,7 +2,7 @@
  * The laws of dirty page throttling, for callers in C. Link with libwbt.a, which tools/make-c makes.
  *
  * Units: a page has 4096 bytes; a tick is a millisecond; rates are pages a second; a position ratio is a number of 1024ths.
- * docs/LAWS.md has each formula, and crates/wbt_c/src the contract of each call.
+ * docs/LAWS.md has each formula, and crates/wbt_c/src the contract of each call: when it returns WBT_OK, and what it then has written.
  *
  * A call takes no memory, keeps nothing between calls, blocks nowhere, and may be made by any thread. It tests what it is given: it returns
  * WBT_OK and has written its result, or it returns another status, of the first test that fails, and has written nothing.
@@ -38,7 +38,10 @@ enum wbt_status {
 	WBT_BAD_WRITERS = 13,	/* more than 1024 writers */
 	WBT_BAD_CONTEXTS = 14,	/* more than 64 contexts */
 	WBT_BAD_LIMIT = 15,	/* a limit above 4294967295 */
-	WBT_TOO_EARLY = 16	/* fewer than 200 ticks since the estimate */
+	WBT_TOO_EARLY = 16,	/* fewer than 200 ticks since the estimate */
+	WBT_BAD_FRACTION = 17,	/* den isn't 1 to 2^41 - 1, or num is greater */
+	WBT_BAD_SHARES = 18,	/* sum_min or max is above 100, or min above max */
+	WBT_BAD_PAGES = 19	/* filepages or headroom is above 2^40 */
 };
 
 enum wbt_kind {
@@ -90,6 +93,12 @@ struct wbt_thresholds {
 	uint64_t thresh, bg;		/* pages */
 };
 
+struct wbt_share {
+	uint64_t num, den;		/* the context's fraction of completed writes, num / den */
+	uint64_t sum_min;		/* the least shares of all devices together, percent */
+	uint64_t min, max;		/* the least and the greatest share of the context's device, percent */
+};
+
 struct wbt_estimate {
 	uint64_t version;
 	uint64_t bw, avg, ratelimit, balanced;		/* pages a second */
@@ -121,6 +130,17 @@ uint32_t wbt_strict_decide(const struct wbt_check *check, struct wbt_decision *o
 /* Thresholds of the global domain, and of a cgroup's where the machine has global_avail pages. The first hard limit is thresh. */
 uint32_t wbt_global_thresholds(uint64_t avail, const struct wbt_settings *settings, struct wbt_thresholds *out);
 uint32_t wbt_cgroup_thresholds(uint64_t avail, uint64_t global_avail, const struct wbt_settings *settings, struct wbt_thresholds *out);
+
+/*
+ * Available pages of a cgroup: its file pages, of which so many are dirty, and of the machine's clean pages elsewhere as many as may still be
+ * charged to it.
+ */
+uint32_t wbt_cgroup_available(uint64_t filepages, uint64_t headroom, uint64_t dirty, uint64_t global_avail,
+			      uint64_t global_dirty, uint64_t *out);
+
+/* The part of a context in the threshold of its domain, and in the background threshold bg: as context_thresh is to thresh. */
+uint32_t wbt_context_threshold(uint64_t thresh, const struct wbt_share *share, uint64_t *out);
+uint32_t wbt_context_background(uint64_t context_thresh, uint64_t bg, uint64_t thresh, uint64_t *out);
 
 /* The hard limit that follows limit; up to which page writers are free; and where the control holds the domain. No number is refused. */
 uint64_t wbt_followed_limit(uint64_t limit, uint64_t thresh, uint64_t dirty);

@@ -1,9 +1,8 @@
 //! The laws for callers in C: what `include/wbt.h` declares.
 //!
-//! Each export is one call of a crate below, with plain numbers in structs that C has too. It takes no memory, keeps nothing, and hands on
-//! the contract of its call: its result is pinned by the same definition. What the call requires the export tests: it answers a status, and
-//! where that isn't `OK` it has written nothing. So its contract has no `requires`. What remains for C to keep to is what a `&` and a `&mut`
-//! say: each pointer is that of one whole struct or number, aligned, and what is written through one is read through no other.
+//! Each export `wbt_X` hands on the call `X` of `wbt_calls`, with its contract: numbers in structs that C has too, a status that is `OK` exactly
+//! where the numbers are taken, and nothing written where it isn't. So it has no `requires`. What remains for C to keep to is what a `&` and
+//! a `&mut` say: each pointer is that of one whole struct or number, aligned, and what is written through one is read through no other.
 //!
 //! ```text
 //! struct wbt_settings settings = { .ratio = 20, .bg_ratio = 10 };
@@ -20,22 +19,21 @@
 #![tactic(auto)]
 
 mod allowance;
-mod bound;
+mod bounds;
 mod check;
 mod estimate;
 mod limits;
+mod parts;
 mod pauses;
-mod ranges;
-mod ratio;
-mod status;
-mod types;
+mod ratios;
 
 pub use allowance::{wbt_end_writer, wbt_first_writer, wbt_page_done, wbt_ratelimit_pages};
-pub use bound::{wbt_bound, wbt_error, wbt_strict_context_bound};
+pub use bounds::{wbt_bound, wbt_error, wbt_strict_context_bound};
 pub use check::{wbt_decide, wbt_strict_decide};
 pub use estimate::{wbt_first_estimate, wbt_update_estimate};
 pub use limits::{
     wbt_cgroup_thresholds, wbt_followed_limit, wbt_freerun, wbt_global_thresholds, wbt_setpoint,
 };
+pub use parts::{wbt_cgroup_available, wbt_context_background, wbt_context_threshold};
 pub use pauses::{wbt_least_pause, wbt_longest_pause, wbt_poll_interval};
-pub use ratio::{wbt_ratio, wbt_strict_ratio};
+pub use ratios::{wbt_ratio, wbt_strict_ratio};

@@ -1,36 +1,23 @@
 //! The limits of a domain.
 
-ghost use Rattle.std.specs.Prelude.{◌≡◌, ◌≢◌, ◌≤◌, None, Some};
+ghost use Rattle.std.specs.Prelude.{◌≡◌, ◌≢◌, ◌↔◌, None, Some};
 ghost use Rattle.wbt_limits.specs.Limits.{freerun as freerun_of, setpoint as setpoint_of};
 ghost use Rattle.wbt_limits.specs.Thresholds.{followed_limit, thresholds_of};
-ghost use Rattle.wbt_c.specs.Crossing as crossing;
-ghost use Rattle.wbt_c.specs.Settings as spec;
+ghost use Rattle.wbt_calls.specs.Crossing as crossing;
+ghost use Rattle.wbt_calls.specs.Settings as spec;
+ghost use Rattle.wbt_calls.specs.declared.status.TheConstants.{OK};
 
-use crate::check::read_of;
-use crate::status::{BAD_SETTINGS, OK};
-use crate::types::{Domain, Knobs, Thresholds};
-use wbt_limits::{Pair, follow_limit, freerun, thresholds};
-use wbt_num::Settings;
-use wbt_position::setpoint;
-
-/// The greatest percentage.
-pub const MOST_PERCENT: u64 = 100;
-
-/// The most bytes of a setting: 2^48.
-pub const MOST_BYTES: u64 = 281474976710656;
+use wbt_calls::{Domain, Knobs, Thresholds};
 
 /// The thresholds of the global domain, with so many available pages.
 #[unsafe(no_mangle)]
 pub extern "C" fn wbt_global_thresholds(avail: u64, knobs: &Knobs, out: &mut Thresholds) -> u32
     ensures status { result ≡ spec.status_of_settings knobs.now }
+    ensures taken { result ≡ OK ↔ spec.AreTaken knobs.now }
     ensures value { result ≡ OK → out.new ≡ crossing.thresholds_in (thresholds_of avail (crossing.settings_of knobs.now) None) }
     ensures refused { result ≢ OK → out.new ≡ out.old }
 {
-    if are_bad(knobs) {
-        return BAD_SETTINGS;
-    }
-    *out = thresholds_in(thresholds(avail, &settings_of(knobs), None));
-    OK
+    wbt_calls::global_thresholds(avail, knobs, out)
 }
 
 /// The thresholds of a cgroup's domain, with so many available pages, where the whole machine has `global_avail`.
@@ -42,14 +29,11 @@ pub extern "C" fn wbt_cgroup_thresholds(
     out: &mut Thresholds,
 ) -> u32
     ensures status { result ≡ spec.status_of_settings knobs.now }
+    ensures taken { result ≡ OK ↔ spec.AreTaken knobs.now }
     ensures value { result ≡ OK → out.new ≡ crossing.thresholds_in (thresholds_of avail (crossing.settings_of knobs.now) (Some global_avail)) }
     ensures refused { result ≢ OK → out.new ≡ out.old }
 {
-    if are_bad(knobs) {
-        return BAD_SETTINGS;
-    }
-    *out = thresholds_in(thresholds(avail, &settings_of(knobs), Some(global_avail)));
-    OK
+    wbt_calls::cgroup_thresholds(avail, global_avail, knobs, out)
 }
 
 /// The limit that follows a threshold, after `limit`.
@@ -57,7 +41,7 @@ pub extern "C" fn wbt_cgroup_thresholds(
 pub extern "C" fn wbt_followed_limit(limit: u64, thresh: u64, dirty: u64) -> u64
     ensures { result ≡ followed_limit limit thresh dirty }
 {
-    follow_limit(limit, thresh, dirty)
+    wbt_calls::followed_limit(limit, thresh, dirty)
 }
 
 /// Up to this many pages of the domain writers run free.
@@ -65,7 +49,7 @@ pub extern "C" fn wbt_followed_limit(limit: u64, thresh: u64, dirty: u64) -> u64
 pub extern "C" fn wbt_freerun(domain: &Domain) -> u64
     ensures { result ≡ freerun_of (crossing.limits_in domain.now) }
 {
-    freerun(&read_of(domain).limits)
+    wbt_calls::freerun(domain)
 }
 
 /// Where the control holds the domain, in pages.
@@ -73,36 +57,5 @@ pub extern "C" fn wbt_freerun(domain: &Domain) -> u64
 pub extern "C" fn wbt_setpoint(domain: &Domain) -> u64
     ensures { result ≡ setpoint_of (crossing.limits_in domain.now) }
 {
-    setpoint(&read_of(domain).limits)
-}
-
-fn are_bad(knobs: &Knobs) -> bool
-    ensures { result ≡ spec.are_bad knobs.now }
-{
-    knobs.ratio > MOST_PERCENT
-        || knobs.bg_ratio > MOST_PERCENT
-        || knobs.bytes > MOST_BYTES
-        || knobs.bg_bytes > MOST_BYTES
-}
-
-fn settings_of(knobs: &Knobs) -> Settings
-    requires ratio { knobs.now.ratio ≤ MOST_PERCENT }
-    requires bg_ratio { knobs.now.bg_ratio ≤ MOST_PERCENT }
-    ensures { result ≡ crossing.settings_of knobs.now }
-{
-    Settings {
-        ratio: knobs.ratio as u32,
-        bg_ratio: knobs.bg_ratio as u32,
-        bytes: knobs.bytes,
-        bg_bytes: knobs.bg_bytes,
-    }
-}
-
-fn thresholds_in(pair: Pair) -> Thresholds
-    ensures { result ≡ crossing.thresholds_in pair }
-{
-    Thresholds {
-        thresh: pair.thresh,
-        bg: pair.bg,
-    }
+    wbt_calls::setpoint(domain)
 }

@@ -2,6 +2,7 @@ pub mod Crossing
 pub mod Ranges
 pub mod Ratios
 pub mod Settings
+pub mod Parts
 pub mod Sampling
 pub mod Pausing
 pub mod Allowances

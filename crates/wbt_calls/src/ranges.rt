@@ -1,11 +1,11 @@
 //! Which numbers are taken.
 
-ghost use Rattle.std.specs.Prelude.{◌≡◌, ◌^◌, ◌<◌, ◌≤◌, false};
+ghost use Rattle.std.specs.Prelude.{◌≡◌, ◌↔◌, false};
 ghost use Rattle.wbt_num.specs.Limits.{IsLawful};
-ghost use Rattle.wbt_pause.specs.Reads.{IsCounted, IsReadable, IsUsable};
+ghost use Rattle.wbt_pause.specs.Reads.{IsCounted};
 ghost use Rattle.wbt_strict.specs.Claims.{ArePartsWithin};
-ghost use Rattle.wbt_c.specs.Crossing.{limits_in, rates_of, reads_of, task_of};
-ghost use Rattle.wbt_c.specs.Ranges as spec;
+ghost use Rattle.wbt_calls.specs.Crossing.{limits_in, reads_of, task_of};
+ghost use Rattle.wbt_calls.specs.Ranges as spec;
 
 use crate::status::{
     BAD_CAP, BAD_CGROUP, BAD_CONTEXT, BAD_CPUS, BAD_DOMAIN, BAD_ESTIMATE, BAD_FLAG, BAD_NOW,
@@ -39,7 +39,7 @@ pub fn is_out(n: u64, most: u64) -> bool
 /// Whether the limits of a domain aren't lawful.
 pub fn is_unlawful(domain: &Domain) -> bool
     ensures value { result ≡ spec.is_unlawful domain.now }
-    ensures lawful { result ≡ false → IsLawful (limits_in domain.now) }
+    ensures lawful { result ≡ false ↔ IsLawful (limits_in domain.now) }
 {
     domain.bg > domain.thresh || domain.thresh > domain.hard || domain.hard > MAX_LIMIT
 }
@@ -47,7 +47,7 @@ pub fn is_unlawful(domain: &Domain) -> bool
 /// Whether a writer's counts leave no room.
 pub fn is_overfull(writer: &Writer) -> bool
     ensures value { result ≡ spec.is_overfull writer.now }
-    ensures counted { result ≡ false → IsCounted (task_of writer.now) }
+    ensures counted { result ≡ false ↔ IsCounted (task_of writer.now) }
 {
     writer.nr_dirtied > MOST_DIRTIED || writer.nr_dirtied_pause > MOST_DIRTIED
 }
@@ -55,10 +55,7 @@ pub fn is_overfull(writer: &Writer) -> bool
 /// The status of a check.
 pub fn status_of(check: &Check) -> u32
     ensures value { result ≡ spec.status_of check.now }
-    ensures readable { result ≡ OK → IsReadable (reads_of check.now) }
-    ensures usable { result ≡ OK → IsUsable (rates_of check.now.avg check.now.ratelimit) }
-    ensures counted { result ≡ OK → IsCounted (task_of check.now.writer) }
-    ensures moment { result ≡ OK → check.now.moment < 2 ^ 62 }
+    ensures taken { result ≡ OK ↔ spec.IsTaken check.now }
 {
     let status = status_of_reads(check);
     if status == OK {
@@ -71,11 +68,7 @@ pub fn status_of(check: &Check) -> u32
 /// The status of a check in a context of a strict device.
 pub fn strict_status_of(check: &Check) -> u32
     ensures value { result ≡ spec.strict_status_of check.now }
-    ensures readable { result ≡ OK → IsReadable (reads_of check.now) }
-    ensures parts { result ≡ OK → ArePartsWithin (reads_of check.now) }
-    ensures usable { result ≡ OK → IsUsable (rates_of check.now.avg check.now.ratelimit) }
-    ensures counted { result ≡ OK → IsCounted (task_of check.now.writer) }
-    ensures moment { result ≡ OK → check.now.moment < 2 ^ 62 }
+    ensures taken { result ≡ OK ↔ spec.IsStrictlyTaken check.now }
 {
     if is_part_above(check) {
         return BAD_PART;
@@ -86,7 +79,7 @@ pub fn strict_status_of(check: &Check) -> u32
 // Whether the context's threshold is above its domain's, in some domain.
 fn is_part_above(check: &Check) -> bool
     ensures value { result ≡ spec.is_part_above check.now }
-    ensures parts { result ≡ false → ArePartsWithin (reads_of check.now) }
+    ensures parts { result ≡ false ↔ ArePartsWithin (reads_of check.now) }
 {
     check.global.wb_thresh > check.global.thresh
         || (check.has_cgroup != 0 && check.cgroup.wb_thresh > check.cgroup.thresh)
@@ -95,7 +88,7 @@ fn is_part_above(check: &Check) -> bool
 // Of its machine and its domains.
 fn status_of_reads(check: &Check) -> u32
     ensures value { result ≡ spec.status_of_reads check.now }
-    ensures readable { result ≡ OK → IsReadable (reads_of check.now) }
+    ensures taken { result ≡ OK ↔ spec.AreReadsTaken check.now }
 {
     if is_out(check.cpus, MOST_CPUS as u64) {
         BAD_CPUS
@@ -117,9 +110,7 @@ fn status_of_reads(check: &Check) -> u32
 // Of the writer, the rates and the moment.
 fn status_of_rest(check: &Check) -> u32
     ensures value { result ≡ spec.status_of_rest check.now }
-    ensures usable { result ≡ OK → IsUsable (rates_of check.now.avg check.now.ratelimit) }
-    ensures counted { result ≡ OK → IsCounted (task_of check.now.writer) }
-    ensures moment { result ≡ OK → check.now.moment < 2 ^ 62 }
+    ensures taken { result ≡ OK ↔ spec.IsRestTaken check.now }
 {
     if is_overfull(&check.writer) {
         BAD_WRITER

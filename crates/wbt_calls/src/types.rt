@@ -151,3 +151,19 @@ pub struct Counts {
     /// Pages of writers that ended.
     pub leaks: u64,
 }
+
+/// What decides about a context's part of a threshold.
+#[repr(C)]
+#[derive(Clone, Copy)]
+pub struct Share {
+    /// The numerator of the context's fraction of completed writes.
+    pub num: u64,
+    /// Its denominator.
+    pub den: u64,
+    /// The sum of all devices' least shares, in percent.
+    pub sum_min: u64,
+    /// The least share of the context's device, in percent.
+    pub min: u64,
+    /// Its greatest share, in percent.
+    pub max: u64,
+}

@@ -1,12 +1,15 @@
--- Which numbers an export takes, and by which status it refuses others: that of the first test that fails.
-use Rattle.std.specs.Prelude.{ℕ, Bool, ◌&&◌, ◌||◌, if◌then◌else◌, ◌==◌, nat_lt}
+-- Which checks are taken: by which status one is refused, that of the first test that fails, and what holds of one that is answered.
+use Rattle.std.specs.Prelude.{ℕ, ◌^◌, ◌<◌, ◌≤◌, Bool, ◌&&◌, ◌||◌, if◌then◌else◌, ◌==◌, nat_lt}
 use Rattle.wbt_num.specs.declared.limits.TheConstants.{MAX_LIMIT}
 use Rattle.wbt_num.specs.declared.most.TheConstants.{MOST_CPUS}
-use Rattle.wbt_c.specs.declared.ranges.TheConstants.{MOST_LEFT, MOST_DIRTIED, MOST_DIRTY, MOST_MOMENT, MOST_RATE}
-use Rattle.wbt_c.specs.declared.status.TheConstants.{OK, BAD_CPUS, BAD_CAP, BAD_NOW, BAD_WRITER, BAD_ESTIMATE, BAD_CONTEXT, BAD_DOMAIN, BAD_FLAG, BAD_CGROUP, BAD_PART}
-use Rattle.wbt_c.specs.declared.types.Check.{Check}
-use Rattle.wbt_c.specs.declared.types.Domain.{Domain}
-use Rattle.wbt_c.specs.declared.types.Writer.{Writer}
+use Rattle.wbt_pause.specs.Reads.{IsCounted, IsReadable, IsUsable}
+use Rattle.wbt_strict.specs.Claims.{ArePartsWithin}
+use Rattle.wbt_calls.specs.Crossing.{rates_of, reads_of, task_of}
+use Rattle.wbt_calls.specs.declared.ranges.TheConstants.{MOST_LEFT, MOST_DIRTIED, MOST_DIRTY, MOST_MOMENT, MOST_RATE}
+use Rattle.wbt_calls.specs.declared.status.TheConstants.{OK, BAD_CPUS, BAD_CAP, BAD_NOW, BAD_WRITER, BAD_ESTIMATE, BAD_CONTEXT, BAD_DOMAIN, BAD_FLAG, BAD_CGROUP, BAD_PART}
+use Rattle.wbt_calls.specs.declared.types.Check.{Check}
+use Rattle.wbt_calls.specs.declared.types.Domain.{Domain}
+use Rattle.wbt_calls.specs.declared.types.Writer.{Writer}
 
 -- whether a number isn't 1 to so many
 abbrev pub is_out : (n most : ℕ) → Bool
@@ -51,3 +54,24 @@ is_part_above check =
 -- of a check in a context of a strict device
 abbrev pub strict_status_of : (check : Check) → ℕ
 strict_status_of check = if is_part_above check then BAD_PART else status_of check
+
+-- a check whose machine and domains are taken: such reads as a decision requires, a cap in range, and a flag
+pub record AreReadsTaken (check : Check) : Type 0 where
+  pub readable : IsReadable (reads_of check)
+  pub cap : check.cap ≤ MOST_LEFT
+  pub flag : check.has_cgroup ≤ 1
+
+-- one whose writer, rates and moment are such as a decision requires
+pub record IsRestTaken (check : Check) : Type 0 where
+  pub usable : IsUsable (rates_of check.avg check.ratelimit)
+  pub counted : IsCounted (task_of check.writer)
+  pub moment : check.moment < 2 ^ 62
+
+-- one that is answered, and one that is answered in a context of a strict device
+pub record IsTaken (check : Check) : Type 0 where
+  pub reads : AreReadsTaken check
+  pub rest : IsRestTaken check
+
+pub record IsStrictlyTaken (check : Check) : Type 0 where
+  pub taken : IsTaken check
+  pub parts : ArePartsWithin (reads_of check)

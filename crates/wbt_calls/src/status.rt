@@ -1,4 +1,4 @@
-//! What an export answers. `include/wbt.h` has the same numbers.
+//! What a call answers. The header of `wbt_c` has the same numbers.
 
 /// All was in range, and the result is written.
 pub const OK: u32 = 0;
@@ -50,3 +50,12 @@ pub const BAD_LIMIT: u32 = 15;
 
 /// Fewer than 200 ticks passed since the estimate.
 pub const TOO_EARLY: u32 = 16;
+
+/// The fraction isn't one: its denominator isn't 1 to 2^41 - 1, or its numerator is greater.
+pub const BAD_FRACTION: u32 = 17;
+
+/// A share of a device is above 100 percent, or the least one above the greatest.
+pub const BAD_SHARES: u32 = 18;
+
+/// A cgroup's file pages or its headroom are above 2^40.
+pub const BAD_PAGES: u32 = 19;

@@ -15,16 +15,16 @@ use Rattle.wbt_pause.specs.declared.reads.Task.{Task}
 use Rattle.wbt_task.specs.declared.allowance.CpuLocal.{CpuLocal}
 use Rattle.wbt_task.specs.declared.allowance.Due.{Due}
 use Rattle.wbt_task.specs.declared.allowance.Due.TheVariants.{No, Check as IsDue}
-use Rattle.wbt_c.specs.declared.types.Check.{Check}
-use Rattle.wbt_c.specs.declared.types.Counts.{Counts}
-use Rattle.wbt_c.specs.declared.types.Decided.{Decided}
-use Rattle.wbt_c.specs.declared.types.Domain.{Domain}
-use Rattle.wbt_c.specs.declared.types.Knobs.{Knobs}
-use Rattle.wbt_c.specs.declared.types.Least.{Least}
-use Rattle.wbt_c.specs.declared.types.Measured.{Measured}
-use Rattle.wbt_c.specs.declared.types.Rates.{Rates}
-use Rattle.wbt_c.specs.declared.types.Thresholds.{Thresholds}
-use Rattle.wbt_c.specs.declared.types.Writer.{Writer}
+use Rattle.wbt_calls.specs.declared.types.Check.{Check}
+use Rattle.wbt_calls.specs.declared.types.Counts.{Counts}
+use Rattle.wbt_calls.specs.declared.types.Decided.{Decided}
+use Rattle.wbt_calls.specs.declared.types.Domain.{Domain}
+use Rattle.wbt_calls.specs.declared.types.Knobs.{Knobs}
+use Rattle.wbt_calls.specs.declared.types.Least.{Least}
+use Rattle.wbt_calls.specs.declared.types.Measured.{Measured}
+use Rattle.wbt_calls.specs.declared.types.Rates.{Rates}
+use Rattle.wbt_calls.specs.declared.types.Thresholds.{Thresholds}
+use Rattle.wbt_calls.specs.declared.types.Writer.{Writer}
 
 -- a truth value is 0 or 1
 abbrev pub flag : (holds : Bool) → ℕ
