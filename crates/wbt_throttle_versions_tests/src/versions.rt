@@ -6,7 +6,6 @@ ghost use Rattle.wbt_num.specs.Limits.{IsLawful};
 ghost use Rattle.wbt_table.specs.Callers.{StepsFor};
 ghost use Rattle.throttle_in_use.specs.Seats.{Loads, Ticks};
 
-use crate::stage::{HELD, LET_GO, LetsIn, Stage};
 use std::alloc::Global;
 use std::test::Fail;
 use std::thread;
@@ -15,6 +14,7 @@ use throttle_in_use::calls::layout;
 use throttle_in_use::seats::{
     Four, Two, four_seats, load_under, loads_for, opened, publish_under, timer_apart, two_seats,
 };
+use throttle_in_use::stage::{HELD, LET_GO, LetsIn, Stage};
 use throttle_in_use::unready::Unready;
 use wbt_io::FreeGate;
 use wbt_num::Limits;

@@ -7,49 +7,49 @@ use std::sync::atomic::AtomicU64;
 use std::sync::atomic::Ordering::SeqCst;
 use wbt_io::Gate;
 
-// How far both have come.
+/// How far both have come.
 #[derive(Drop)]
-pub(super) struct Stage {
+pub struct Stage {
     at: AtomicU64,
     // Not 0 where one went on before its turn.
     gave_up: AtomicU64,
 }
 
-// The first stands before its step.
-pub(super) const HELD: u64 = 1;
+/// The first stands before its step.
+pub const HELD: u64 = 1;
 
-// The second has done its work.
-pub(super) const LET_GO: u64 = 2;
+/// The second has done its work.
+pub const LET_GO: u64 = 2;
 
 impl Stage {
-    pub(super) fn make() -> Stage {
+    pub fn make() -> Stage {
         Stage {
             at: AtomicU64::new(0),
             gave_up: AtomicU64::new(0),
         }
     }
 
-    pub(super) fn wait_for(&self, stage: u64) {
+    pub fn wait_for(&self, stage: u64) {
         if !comes_to(&self.at, stage) {
             self.gave_up.store(1, SeqCst);
         }
     }
 
-    pub(super) fn come_to(&self, stage: u64) {
+    pub fn come_to(&self, stage: u64) {
         self.at.store(stage, SeqCst);
     }
 
-    // Whether nobody went on before its turn.
-    pub(super) fn was_kept(&self) -> bool {
+    /// Whether nobody went on before its turn.
+    pub fn was_kept(&self) -> bool {
         self.gave_up.load(SeqCst) == 0
     }
 }
 
-// Holds a CPU before the step that it asks for after so many, until the other thread lets it go.
+/// Holds a CPU before the step that it asks for after so many, until the other thread lets it go.
 #[derive(Clone, Copy)]
-pub(super) struct LetsIn<'a> {
-    pub(super) stage: &'a Stage,
-    pub(super) steps: u64,
+pub struct LetsIn<'a> {
+    pub stage: &'a Stage,
+    pub steps: u64,
 }
 
 impl<'a> Gate for LetsIn<'a> {
