@@ -1,5 +1,5 @@
 use Rattle.wbt_timer.proofs.Ready.{ready_at_first}
-use Rattle.wbt_kit_tests.proofs.timer.open_at_one.Goals as goal
+use Rattle.wbt_timer_tests.proofs.timer.open_at_one.Goals as goal
 
 pub returns-in-Ok-make : goal.returns-in-Ok-make
 returns-in-Ok-make c = let made = c.in-Ok.ensures in let side = c.in-Ok-make.ensures in
