@@ -1,13 +1,13 @@
 //! A flusher of a strict device, and one of another, while their domain is far below background.
 
-use crate::turns::{FLUSHES, Move, Taken, WRITES, take};
 use std::alloc::Global;
 use std::sync::Wait;
 use std::test::Fail;
+use turns_taken::moves::{FLUSHES, Move, WRITES};
+use turns_taken::taken::{Taken, take};
 use wbt_io::{FreeGate, ModelRack, StillClock};
 use wbt_journal::{CpuJournal, Entry};
 use wbt_kit::Turn;
-use wbt_trace::read_trace;
 
 const SIXTEEN_PAGES: &[u8] =
     b"cpus 1\navail 0 100000\ndevice 0 25600 0 100\ncontext 0 0 0\ninode 0 0 16\ntask 0 0\nflusher 0 0 0\nwrite 0 0 0 16\n";
@@ -22,12 +22,11 @@ const WRITES_AND_FLUSHES: [Move; 19] = [
 ];
 
 fn write_and_flush<H: Wait>(rt: &H, alloc: Global, text: &[u8]) -> Result<Taken, Fail> {
-    let trace = read_trace(alloc, text)?;
     let mut rack = ModelRack::make();
     let taken = take(
         rt,
         alloc,
-        &trace,
+        text,
         &StillClock::make(1),
         &FreeGate,
         &mut rack,

@@ -11,7 +11,7 @@ use Rattle.wbt_run_worker.specs.declared.side.Post.{Post}
 use Rattle.wbt_run_worker.proofs.Lists.{map_at}
 use Rattle.wbt_run_worker.proofs.Posts.{later_now}
 use Rattle.wbt_run_worker.proofs.Turning.{may_turn, side_after}
-use Rattle.wbt_turn_tests.proofs.turns.turn_flusher.Goals as goal
+use Rattle.turns_taken.proofs.turning.turn_flusher.Goals as goal
 
 some_there : {A B : Type 0} (f : A → B) (xs : List A) → (length xs == 0) ≡ false → 0 < length (map f xs)
 some_there f [] is = absurd (true≢false is)

@@ -1,13 +1,13 @@
 //! A flusher of an ageing device: what it notices, and when it writes that.
 
-use crate::turns::{DRAINS, FLUSHES, FLUSHES_AFTER_A_REST, Move, Taken, WRITES, take};
 use std::alloc::{AllocError, Global};
 use std::sync::Wait;
 use std::test::Fail;
+use turns_taken::moves::{DRAINS, FLUSHES, FLUSHES_AFTER_A_REST, Move, WRITES};
+use turns_taken::taken::{Taken, take};
 use wbt_io::{FreeGate, HandClock, ModelRack};
 use wbt_journal::{CpuJournal, Entry};
 use wbt_kit::Turn;
-use wbt_trace::read_trace;
 
 // An inode of one page, which is due a hundred ticks after it was noticed.
 const ONE_PAGE: &[u8] =
@@ -15,12 +15,11 @@ const ONE_PAGE: &[u8] =
 
 // The turns of the CPU of a trace, from an opening at 1 on.
 fn take_moves<H: Wait>(rt: &H, alloc: Global, text: &[u8], moves: &[Move]) -> Result<Taken, Fail> {
-    let trace = read_trace(alloc, text)?;
     let mut rack = ModelRack::make();
     let taken = take(
         rt,
         alloc,
-        &trace,
+        text,
         &HandClock::make(1),
         &FreeGate,
         &mut rack,

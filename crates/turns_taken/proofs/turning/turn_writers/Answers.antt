@@ -7,7 +7,7 @@ use Rattle.wbt_kit.specs.declared.kit.Kit.{Kit}
 use Rattle.wbt_kit.specs.declared.kit.Seats.{Seats}
 use Rattle.wbt_trace.specs.declared.trace.Trace.{Trace}
 use Rattle.wbt_run_worker.proofs.Writing.{writers_answer_by}
-use Rattle.wbt_turn_tests.proofs.turns.turn_writers.Goals as goal
+use Rattle.turns_taken.proofs.turning.turn_writers.Goals as goal
 
 -- the side is that of the trace and of the CPU still
 again : (kit : Kit) (team : Team) (seats : Seats) (was now : Trace) (cpu its : ℕ) → (now ≡ was) × (its ≡ cpu) → IsSide was cpu kit team seats → IsSide now its kit team seats

@@ -6,7 +6,7 @@ use Rattle.wbt_run_worker.specs.Team.{team_of}
 use Rattle.wbt_run_worker.specs.declared.worker.Worker.{Worker}
 use Rattle.wbt_run.specs.Lent.{IsFirstWorker}
 use Rattle.wbt_trace.specs.declared.trace.Trace.{Trace}
-use Rattle.wbt_turn_tests.proofs.turns.take.Goals as goal
+use Rattle.turns_taken.proofs.taken.take_of.Goals as goal
 
 some_there : {A : Type 0} (xs : List A) → (length xs == 0) ≡ false → 0 < length xs
 some_there [] is = absurd (true≢false is)

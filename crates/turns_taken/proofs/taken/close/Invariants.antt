@@ -1,4 +1,4 @@
-use Rattle.wbt_turn_tests.proofs.turns.close.Given as goal
+use Rattle.turns_taken.proofs.taken.close.Given as goal
 
 abbrev pub invariant-loop-worker : goal.invariant-loop-worker
 invariant-loop-worker g l = Unit {0}
