@@ -9,6 +9,8 @@
 //! lone     a throttle that one CPU uses
 //! pair     a throttle that two CPUs use, each by a seat of its own
 //! timed    a throttle that a CPU and the timer use, each by a seat of its own
+//! stage    two threads that take turns
+//! waiting  how a thread waits for others
 //! ```
 //!
 //! ```
@@ -30,5 +32,7 @@ pub mod inodes;
 pub mod lone;
 pub mod pair;
 pub mod seats;
+pub mod stage;
 pub mod timed;
 pub mod unready;
+pub mod waiting;

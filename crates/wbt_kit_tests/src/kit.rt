@@ -63,44 +63,75 @@ fn join_back<R: Wait>(rt: &R, kit: &Kit, seats: &mut Seats, new: Seats)
     kit.join(rt, seats, new);
 }
 
+// Whether seats hold CPU 0, whether they hold the timer, and whether they publish the estimates of the first context.
+fn held_by(seats: &Seats) -> [bool; 3]
+    requires { 0 < length seats.now.est.known }
+{
+    [
+        seats.cpu.holds(0),
+        seats.cpu.holds(1),
+        seats.est.publishes(0),
+    ]
+}
+
+// What the seats of CPU 0 hold after a split, what the others do, and what all do once they are together again.
+fn held_in_turn<R: Wait>(rt: &R, alloc: Global) -> Result<[[bool; 3]; 3], Fail> {
+    let (kit, mut seats) = kit_of(alloc, TWO_PAGES)?;
+    let new = split_first(rt, alloc, &kit, &mut seats)?;
+    let split = held_by(&new);
+    let left = held_by(&seats);
+    join_back(rt, &kit, &mut seats, new);
+    Ok([split, left, held_by(&seats)])
+}
+
 #[test]
 fn a_split_takes_the_cpu(rt: HostRuntime) -> Result<(), Fail> {
-    let (kit, mut seats) = kit_of(rt.alloc(), TWO_PAGES)?;
-    let new = split_first(&rt, rt.alloc(), &kit, &mut seats)?;
-    assert_eq!(rt; (new.cpu.holds(0), new.cpu.holds(1)), (true, false));
-    assert_eq!(rt; (seats.cpu.holds(0), seats.cpu.holds(1)), (false, true));
-    assert_eq!(rt;
-        (new.est.publishes(0), seats.est.publishes(0)),
-        (true, false)
-    );
-    join_back(&rt, &kit, &mut seats, new);
-    assert_eq!(rt; (seats.cpu.holds(0), seats.cpu.holds(1)), (true, true));
-    assert!(rt; seats.est.publishes(0));
+    let held = held_in_turn(&rt, rt.alloc())?;
+    let apart_and_together = [
+        [true, false, true],
+        [false, true, false],
+        [true, true, true],
+    ];
+    assert_eq!(rt; held, apart_and_together);
     Ok(())
+}
+
+// The task and the context of each writer, in order.
+fn writers_of(alloc: Global, text: &[u8]) -> Result<Vec<(u32, u32)>, Fail> {
+    let trace = read_trace(alloc, text)?;
+    let writers = writers_in_order(alloc, &trace)?;
+    let mut all = Vec::new(alloc);
+    for writer in writers.as_slice() {
+        all.push((writer.task, writer.context))?;
+    }
+    Ok(all)
 }
 
 #[test]
 fn writers_stand_by_task_and_context(rt: HostRuntime) -> Result<(), Fail> {
-    let trace = read_trace(rt.alloc(), TWO_TASKS)?;
-    let writers = writers_in_order(rt.alloc(), &trace)?;
-    let mut place = 0;
-    for writer in writers.as_slice() {
-        assert_eq!(rt; (writer.task, writer.context), (place / 2, place % 2));
-        place = (place + 1) % 8;
-    }
-    assert_eq!(rt; place, 4);
+    let writers = writers_of(rt.alloc(), TWO_TASKS)?;
+    assert_eq!(rt;
+        writers.as_slice(),
+        [(0, 0), (0, 1), (1, 0), (1, 1)].as_slice()
+    );
     Ok(())
+}
+
+// The first limits of a domain: threshold, background threshold and hard limit.
+fn first_of(alloc: Global, text: &[u8], domain: u32) -> Result<(u64, u64, u64), Fail> {
+    let trace = read_trace(alloc, text)?;
+    if domain > trace.cgroups.as_slice().len() as u32 {
+        return Err(Fail::from(NoMemory));
+    }
+    let first = first_limits(&trace, 1, domain);
+    Ok((first.thresh, first.bg, first.hard))
 }
 
 #[test]
 fn limits_begin_at_the_thresholds(rt: HostRuntime) -> Result<(), Fail> {
-    let trace = read_trace(rt.alloc(), TWO_TASKS)?;
-    for (domain, thresh, bg) in [(0, 19995, 9985), (1, 15996, 7988)] {
-        if domain > trace.cgroups.as_slice().len() as u32 {
-            return Err(Fail::from(NoMemory));
-        }
-        let first = first_limits(&trace, 1, domain);
-        assert_eq!(rt; (first.thresh, first.bg, first.hard), (thresh, bg, thresh));
-    }
+    let machine = first_of(rt.alloc(), TWO_TASKS, 0)?;
+    let cgroup = first_of(rt.alloc(), TWO_TASKS, 1)?;
+    let limits = [(19995, 9985, 19995), (15996, 7988, 15996)];
+    assert_eq!(rt; [machine, cgroup], limits);
     Ok(())
 }

@@ -1,9 +1,8 @@
-//! What tests show of the kit of a run, and of what uses it alone: the timer, and the pen by which steps are told.
+//! What tests show of the kit of a run, and of the pen by which steps are told.
 //!
 //! ```text
-//! kit       a split takes the CPU and its right to publish; writers and first limits stand as the trace says
-//! timer     the timer rests until its next moment; a limit follows its threshold
-//! steps     a fold is told, and none where none was made
+//! kit    a split takes the CPU and its right to publish; writers and first limits stand as the trace says
+//! steps  a fold is told, and none where none was made
 //! ```
 #![tactic(auto)]
 
@@ -11,5 +10,3 @@
 mod kit;
 #[cfg(test)]
 mod steps;
-#[cfg(test)]
-mod timer;

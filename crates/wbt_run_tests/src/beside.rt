@@ -1,12 +1,10 @@
 //! Workers run beside each other: each of three CPUs is held at its third step until all have come there.
 
+use crate::runs::{run_text, work_text};
 use std::test::Fail;
 use wbt_io::{HandClock, ModelRack};
 use wbt_journal::Ending;
-use wbt_kit::{Hands, Kit};
-use wbt_run::closing::close;
-use wbt_run::{MeetingGate, RunEnd, run, work};
-use wbt_trace::read_trace;
+use wbt_run::{MeetingGate, RunEnd};
 
 // Two tasks on CPUs of their own, and a flusher on a third.
 const THREE_CPUS: &[u8] =
@@ -14,32 +12,20 @@ const THREE_CPUS: &[u8] =
 
 #[test]
 fn workers_meet(rt: HostRuntime) -> Result<(), Fail> {
-    let trace = read_trace(rt.alloc(), THREE_CPUS)?;
-    let clock = HandClock::make(1);
     let gate = MeetingGate::make();
     let mut rack = ModelRack::make();
-    let (kit, mut seats) = Kit::make(rt.alloc(), &trace, 1)?;
-    let hands = Hands {
-        rt: &rt,
-        alloc: rt.alloc(),
-        kit: &kit,
-        clock: &clock,
-        gate: &gate,
-    };
-    let worked = work(&hands, &trace, 1, &mut seats, &mut rack)?;
-    let journal = close(rt.alloc(), &trace, kit, 1, seats, worked)?;
+    let parts = work_text(&rt, rt.alloc(), THREE_CPUS, &gate, &mut rack)?;
     assert!(rt; gate.has_met());
-    assert_eq!(rt; journal.ending, Ending::Done);
+    assert_eq!(rt; parts.journal.ending, Ending::Done);
     Ok(())
 }
 
 #[test]
 fn workers_of_a_run_meet(rt: HostRuntime) -> Result<(), Fail> {
-    let trace = read_trace(rt.alloc(), THREE_CPUS)?;
     let clock = HandClock::make(1);
     let gate = MeetingGate::make();
     let mut rack = ModelRack::make();
-    let end = run(&rt, rt.alloc(), &trace, &clock, &gate, &mut rack);
+    let end = run_text(&rt, rt.alloc(), THREE_CPUS, &clock, &gate, &mut rack)?;
     assert!(rt; gate.has_met());
     assert_eq!(rt; ending_of(&end), Some(Ending::Done));
     Ok(())

@@ -5,6 +5,7 @@
 //! rows    two pages, from their writes to an empty throttle
 //! beside  workers run beside each other
 //! timer   the timer takes a turn beside the CPUs
+//! runs    runs of texts: by one call, and by their parts
 //! ```
 #![tactic(auto)]
 
@@ -12,6 +13,8 @@
 mod beside;
 #[cfg(test)]
 mod rows;
+#[cfg(test)]
+mod runs;
 #[cfg(test)]
 mod sides;
 #[cfg(test)]

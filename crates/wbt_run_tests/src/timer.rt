@@ -3,14 +3,14 @@
 ghost use Rattle.std.specs.Prelude.{◌≡◌, ◌==◌, not, true};
 ghost use Rattle.wbt_io.specs.Gates.{both_are};
 
+use crate::runs::run_text;
 use std::sync::atomic::{AtomicBool, AtomicU64, Ordering};
 use std::test::Fail;
 use std::thread;
 use wbt_io::{Clock, Gate, ModelRack};
 use wbt_journal::{Ending, Journal, TimerEntry};
 use wbt_num::Limits;
-use wbt_run::{RunEnd, run};
-use wbt_trace::read_trace;
+use wbt_run::RunEnd;
 
 // Memory goes at tick 150, and the task writes after tick 300.
 const LESS_MEMORY: &[u8] =
@@ -114,7 +114,6 @@ fn second_limits(end: &RunEnd) -> Option<Limits> {
 
 #[test]
 fn the_timer_takes_a_turn(rt: HostRuntime) -> Result<(), Fail> {
-    let trace = read_trace(rt.alloc(), LESS_MEMORY)?;
     let clock = CountingClock::make();
     let gate = LateGate {
         clock: &clock,
@@ -122,7 +121,7 @@ fn the_timer_takes_a_turn(rt: HostRuntime) -> Result<(), Fail> {
         given_up: AtomicBool::new(false),
     };
     let mut rack = ModelRack::make();
-    let end = run(&rt, rt.alloc(), &trace, &clock, &gate, &mut rack);
+    let end = run_text(&rt, rt.alloc(), LESS_MEMORY, &clock, &gate, &mut rack)?;
     assert!(rt; gate.held.load(Ordering::SeqCst));
     assert!(rt; !gate.given_up.load(Ordering::SeqCst));
     assert_eq!(rt;
@@ -169,14 +168,13 @@ fn timer_lines(end: &RunEnd) -> Option<(Ending, usize)> {
 
 #[test]
 fn a_run_whose_timer_is_stopped_ends_as_its_cpus_do(rt: HostRuntime) -> Result<(), Fail> {
-    let trace = read_trace(rt.alloc(), LESS_MEMORY)?;
     let clock = CountingClock::make();
     let gate = TimerStops {
         cpus: 1,
         stopped: AtomicBool::new(false),
     };
     let mut rack = ModelRack::make();
-    let end = run(&rt, rt.alloc(), &trace, &clock, &gate, &mut rack);
+    let end = run_text(&rt, rt.alloc(), LESS_MEMORY, &clock, &gate, &mut rack)?;
     assert_eq!(rt; timer_lines(&end), Some((Ending::Done, 1)));
     Ok(())
 }

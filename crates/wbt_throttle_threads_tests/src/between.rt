@@ -5,7 +5,6 @@ ghost use Rattle.wbt_table.specs.Layout.{setting};
 ghost use Rattle.wbt_table.specs.Seat.{IsAt};
 ghost use Rattle.wbt_table.specs.Callers.{StepsFor, HasClaimed};
 
-use crate::stage::{HELD, LET_GO, LetsIn, Stage};
 use std::alloc::Global;
 use std::test::Fail;
 use std::thread;
@@ -16,6 +15,7 @@ use throttle_in_use::calls::{
 };
 use throttle_in_use::counts::{Left, bits_and_counts, left_by, pages_and_counts};
 use throttle_in_use::seats::{Two, two_seats};
+use throttle_in_use::stage::{HELD, LET_GO, LetsIn, Stage};
 use throttle_in_use::unready::Unready;
 use wbt_io::{FreeGate, Gate};
 use wbt_table::{Back, Claim, CpuSeat, Dirtied, Throttle};

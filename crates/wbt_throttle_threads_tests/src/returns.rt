@@ -5,7 +5,6 @@ ghost use Rattle.wbt_table.specs.Layout.{setting};
 ghost use Rattle.wbt_table.specs.Seat.{IsAt};
 ghost use Rattle.wbt_table.specs.Callers.{StepsFor, HasClaimed};
 
-use crate::waiting::Meeting;
 use std::test::Fail;
 use std::thread;
 use std::thread::Threads;
@@ -15,6 +14,7 @@ use throttle_in_use::calls::{
 };
 use throttle_in_use::counts::{left_by, pages_and_counts};
 use throttle_in_use::seats::{Two, two_seats};
+use throttle_in_use::waiting::Meeting;
 use wbt_io::FreeGate;
 use wbt_table::{Back, Claim, CpuSeat, Dirtied, Throttle};
 

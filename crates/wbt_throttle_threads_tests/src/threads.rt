@@ -7,7 +7,6 @@ ghost use Rattle.wbt_table.specs.Seat.{IsAt};
 ghost use Rattle.wbt_table.specs.Callers.{StepsFor};
 ghost use Rattle.wbt_io.specs.Gates.{both_are};
 
-use crate::waiting::Meeting;
 use std::test::Fail;
 use std::thread;
 use std::thread::Threads;
@@ -16,6 +15,7 @@ use throttle_in_use::calls::{
 };
 use throttle_in_use::counts::{left_by, pages_and_counts};
 use throttle_in_use::seats::{Four, Two, four_seats, two_seats};
+use throttle_in_use::waiting::Meeting;
 use wbt_io::{FreeGate, Gate};
 use wbt_table::{Claim, CpuSeat, Dirtied, Throttle};
 

@@ -1,12 +1,12 @@
 //! The first check of a writer of a strict device, and of one of another, while their domain is far below its thresholds.
 
-use crate::turns::{Move, WRITES, take};
 use std::alloc::{AllocError, Global};
 use std::sync::Wait;
 use std::test::Fail;
+use turns_taken::moves::{Move, WRITES};
+use turns_taken::taken::take;
 use wbt_io::{FreeGate, ModelRack, StillClock};
 use wbt_journal::{CpuJournal, Decision, Entry, Kind};
-use wbt_trace::read_trace;
 
 const FORTY_PAGES: &[u8] =
     b"cpus 1\navail 0 100000\ndevice 0 25600 0 100\ncontext 0 0 0\ninode 0 0 40\ntask 0 0\nflusher 0 0 0\nwrite 0 0 0 40\n";
@@ -50,13 +50,12 @@ fn first_check(log: &CpuJournal) -> Option<Checked> {
 }
 
 fn check_of<H: Wait>(rt: &H, alloc: Global, text: &[u8]) -> Result<Option<Checked>, Fail> {
-    let trace = read_trace(alloc, text)?;
     let mut rack = ModelRack::make();
     let moves = writes(alloc)?;
     let taken = take(
         rt,
         alloc,
-        &trace,
+        text,
         &StillClock::make(1),
         &FreeGate,
         &mut rack,

@@ -3,12 +3,12 @@
 ghost use Rattle.std.specs.Prelude.{◌≡◌, true};
 ghost use Rattle.wbt_io.specs.Gates.{both_are};
 
-use crate::turns::{WRITES, take};
 use std::sync::atomic::{AtomicU64, Ordering};
 use std::test::Fail;
+use turns_taken::moves::WRITES;
+use turns_taken::taken::take;
 use wbt_io::{Clock, Gate, ModelRack};
 use wbt_journal::CpuJournal;
-use wbt_trace::read_trace;
 
 // A writer may dirty one page before its check.
 const ONE_PAGE_A_CHECK: &[u8] =
@@ -62,7 +62,6 @@ fn first_moment(log: &CpuJournal) -> Option<u64> {
 // A page takes four steps, and then a check's loads take five: the clock shows 10 after them.
 #[test]
 fn a_check_asks_the_clock_after_its_loads(rt: HostRuntime) -> Result<(), Fail> {
-    let trace = read_trace(rt.alloc(), ONE_PAGE_A_CHECK)?;
     let mut rack = ModelRack::make();
     let clock = StepClock {
         shows: AtomicU64::new(1),
@@ -71,7 +70,7 @@ fn a_check_asks_the_clock_after_its_loads(rt: HostRuntime) -> Result<(), Fail> {
     let taken = take(
         &rt,
         rt.alloc(),
-        &trace,
+        ONE_PAGE_A_CHECK,
         &clock,
         &gate,
         &mut rack,

@@ -1,4 +1,0 @@
-use Rattle.wbt_kit_tests.proofs.timer.Opened.turn_under.Goals as goal
-
-pub returns : goal.returns
-returns g c = c.turn.ensures.ready c.args.self.now.trace c.requires
