@@ -1,33 +1,15 @@
 //! `wbsim`: what a machine's control of dirty pages does on a trace.
 //!
-//! The public calls are `route`, `plain_top`, `run_top` and `code`. `main` hands them the words, standard input and standard output,
-//! the machine's clock, a gate that stops nobody and a rack of disks that don't fail, and ends as they answer: what it returns is made by
-//! such a call alone.
+//! Its calls are those of `wbt_top`. `main` hands them the words, standard input and standard output, the machine's clock, a gate that
+//! stops nobody and a rack of disks that don't fail, and ends as they answer: what it returns is made by such a call alone.
 #![tactic(auto)]
 
-mod bulk;
-mod case;
-mod causes;
-mod cut;
-mod end;
-mod input;
-mod law;
-mod output;
-pub mod status;
-#[cfg(test)]
-mod tests;
-pub mod threads;
-pub mod top;
-mod words;
-
-use end::Ended;
-use status::{Route, Words};
 use std::alloc::{AllocError, Global};
 use std::io::ErrorKind;
 use std::{env, io};
-use top::route;
 use wbt_io::{FreeGate, ModelRack, RealClock, StdSink, StdSource};
 use wbt_num::Items;
+use wbt_top::{Ended, Route, Words, route};
 
 // The words after the program's name. Where one of them is no text, no command has them, and they are as none.
 fn words_of(rt: &HostRuntime, alloc: Global) -> Result<Words, AllocError> {

@@ -1,0 +1,109 @@
+//! What a run asks of disks and clocks, which no clause sees: the rate of each disk, how long the drain rests, and the unit of the machine's clock.
+
+use super::lines::{Batch, batches_of};
+use std::alloc::Global;
+use std::sync::Wait;
+use std::test::Fail;
+use std::thread::Threads;
+use std::time::Instant;
+use top_in_use::{call, calm};
+use wbt_io::{Clock, FaultyRack, FreeGate, HandClock, ModelRack, RealClock};
+use wbt_top::Status;
+
+// Device 0 writes a page in 50 ticks, and device 1 in one. Flusher 0 is that of device 1, which has two inodes, and flusher 1 that of device 0. So few
+// pages are written in the drain alone.
+const SLOW_AND_FAST: &str =
+    "cpus 2\navail 0 100000\ndevice 0 20 0 100\ndevice 1 1000 0 100\ncontext 0 0 0\ncontext 1 1 0\ninode 0 0 1\ninode 1 1 1\ninode 2 1 1\ntask 0 0\ntask 1 1\nflusher 0 1 0\nflusher 1 0 1\nwrite 0 0 0 1\nwrite 1 1 0 1\nwrite 1 2 0 1\n";
+
+// The batches of a flusher in a run over threads, by a clock that moves by rests alone.
+fn run_batches<H: Threads + Wait + Sync>(
+    rt: &H,
+    alloc: Global,
+    flusher: u64,
+) -> Result<Vec<Batch>, Fail> {
+    let done = call(
+        rt,
+        alloc,
+        &calm(&["run"], SLOW_AND_FAST),
+        &HandClock::make(1),
+        &FreeGate,
+        &mut ModelRack::make(),
+    )?;
+    if done.status != Status::Good {
+        return Ok(Vec::new(alloc));
+    }
+    Ok(batches_of(alloc, done.held.as_slice(), flusher)?)
+}
+
+#[test]
+fn each_disk_has_the_rate_of_its_device(rt: HostRuntime) -> Result<(), Fail> {
+    for (flusher, ticks, batches) in [(0, 1, 2), (1, 50, 1)] {
+        let told = run_batches(&rt, rt.alloc(), flusher)?;
+        assert_eq!(rt; told.len(), batches, "flusher {flusher}");
+        for batch in told.as_slice() {
+            assert_eq!(rt;
+                batch.until.saturating_sub(batch.now),
+                ticks,
+                "flusher {flusher}"
+            );
+        }
+    }
+    Ok(())
+}
+
+#[test]
+fn the_drain_rests_until_the_first_flusher_is_ready(rt: HostRuntime) -> Result<(), Fail> {
+    let told = run_batches(&rt, rt.alloc(), 0)?;
+    assert_eq!(rt; told.len(), 2);
+    if let (Some(first), Some(second)) = (told.first(), told.get(1)) {
+        assert_eq!(rt; second.now, first.until);
+    }
+    Ok(())
+}
+
+// Flusher 0 hands two batches over, and flusher 1 one. The first of these writes fails, and so many after it.
+#[test]
+fn a_run_is_faulted_exactly_where_a_disk_fails_eight_times(rt: HostRuntime) -> Result<(), Fail> {
+    let alloc = rt.alloc();
+    for (first, last, faults, status) in [
+        (1, 1, 2, Status::Good),
+        (2, 2, 1, Status::Good),
+        (3, 3, 0, Status::Good),
+        (1, 7, 14, Status::Good),
+        (2, 8, 7, Status::Good),
+        (1, 8, 16, Status::DiskFault),
+        (2, 9, 8, Status::DiskFault),
+    ] {
+        let mut fails = Vec::new(alloc);
+        for write in first..=last {
+            fails.push(write)?;
+        }
+        let mut rack = FaultyRack::make(fails);
+        let done = call(
+            &rt,
+            alloc,
+            &calm(&["run"], SLOW_AND_FAST),
+            &HandClock::make(1),
+            &FreeGate,
+            &mut rack,
+        )?;
+        assert_eq!(rt; done.status, status, "writes {first} to {last} fail");
+        assert_eq!(rt; rack.fault_count(), faults, "writes {first} to {last} fail");
+    }
+    Ok(())
+}
+
+#[test]
+fn a_tick_of_the_machine_is_a_millisecond(rt: HostRuntime) -> Result<(), Fail> {
+    let began = Instant::now(&rt)?;
+    let clock = RealClock::make(&rt);
+    clock.rest(20);
+    let shown = clock.now();
+    let most = began.elapsed(&rt)?.as_millis();
+    assert!(rt; 20 <= shown, "{shown} is shown after 20 ticks");
+    assert!(rt;
+        u128::from(shown) <= most.saturating_add(1),
+        "{shown} is shown after {most} milliseconds"
+    );
+    Ok(())
+}

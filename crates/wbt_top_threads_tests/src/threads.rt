@@ -1,0 +1,368 @@
+//! Runs over threads: what no clause says of them, that memory is enough and that all is done; and what each refusal leaves.
+
+use std::alloc::Global;
+use std::sync::Wait;
+use std::test::Fail;
+use std::thread::Threads;
+use top_in_use::{Input, Outcome, SlowClock, call, calm, words_of};
+use wbt_io::{FaultyRack, FreeGate, HaltGate, JumpClock, ModelRack};
+use wbt_run::MeetingGate;
+use wbt_top::{Route, Status, code, route};
+use wbt_trace::{Missing, TraceFault};
+
+// One CPU, one task that writes two pages.
+const TWO_PAGES: &str =
+    "cpus 1\navail 0 100000\ndevice 0 25600 0 100\ncontext 0 0 0\ninode 0 0 2\ntask 0 0\nflusher 0 0 0\nwrite 0 0 0 2\n";
+
+// Two tasks that write 32 pages each, each on a CPU of its own, and a flusher on a third.
+pub(super) const THREE_CPUS: &str =
+    "cpus 3\navail 0 100000\ndevice 0 25600 0 100\ncontext 0 0 0\ninode 0 0 64\ntask 0 0\ntask 1 1\nflusher 0 0 2\nwrite 0 0 0 32\nwrite 1 0 32 32\n";
+
+// One call at a clock that moves slowly, with a gate that stops nobody and disks that don't fail.
+fn run<H: Threads + Wait + Sync>(
+    rt: &H,
+    alloc: Global,
+    words: &[&str],
+    text: &str,
+) -> Result<Outcome, Fail> {
+    call(
+        rt,
+        alloc,
+        &calm(words, text),
+        &SlowClock::make(),
+        &FreeGate,
+        &mut ModelRack::make(),
+    )
+}
+
+// A text has this line.
+fn tells(text: &[u8], line: &str) -> bool {
+    text.split(|byte| *byte == b'\n')
+        .any(|found| found == line.as_bytes())
+}
+
+#[test]
+fn two_pages_are_written_and_cleaned(rt: HostRuntime) -> Result<(), Fail> {
+    let done = run(&rt, rt.alloc(), &["run"], TWO_PAGES)?;
+    assert_eq!(rt; done.status, Status::Good);
+    assert!(rt; done.held.ends_with(b"census 0 0\ntotals 2 2\nend done\n"));
+    Ok(())
+}
+
+#[test]
+fn a_clock_that_jumps_stops_nobody(rt: HostRuntime) -> Result<(), Fail> {
+    let alloc = rt.alloc();
+    let clock = JumpClock::make(alloc, [1, 500, 3, 0, 1000000000].to_vec(alloc)?)?;
+    let done = call(
+        &rt,
+        alloc,
+        &calm(&["run"], TWO_PAGES),
+        &clock,
+        &FreeGate,
+        &mut ModelRack::make(),
+    )?;
+    assert_eq!(rt; done.status, Status::Good);
+    assert!(rt; tells(done.held.as_slice(), "totals 2 2"));
+    assert!(rt; done.held.ends_with(b"end done\n"));
+    Ok(())
+}
+
+// How many lines of a text are this one.
+fn lines_like(text: &[u8], line: &str) -> u64 {
+    let mut lines: u64 = 0;
+    for found in text.split(|byte| *byte == b'\n') {
+        if found == line.as_bytes() {
+            lines = lines.saturating_add(1);
+        }
+    }
+    lines
+}
+
+// A text has this part.
+fn has_part(text: &[u8], part: &[u8]) -> bool {
+    for start in 0..=text.len() {
+        if let Some(rest) = text.get(start..) {
+            if rest.starts_with(part) {
+                return true;
+            }
+        }
+    }
+    false
+}
+
+// A run of the two pages over disks that fail at these writes.
+fn run_faulty<H: Threads + Wait + Sync>(
+    rt: &H,
+    alloc: Global,
+    rack: &mut FaultyRack,
+) -> Result<Outcome, Fail> {
+    call(
+        rt,
+        alloc,
+        &calm(&["run"], TWO_PAGES),
+        &SlowClock::make(),
+        &FreeGate,
+        rack,
+    )
+}
+
+#[test]
+fn a_disk_that_fails_once_has_its_pages_given_back(rt: HostRuntime) -> Result<(), Fail> {
+    let alloc = rt.alloc();
+    let mut rack = FaultyRack::make([1].to_vec(alloc)?);
+    let done = run_faulty(&rt, alloc, &mut rack)?;
+    assert_eq!(rt; done.status, Status::Good);
+    assert_eq!(rt; (rack.fault_count(), rack.page_count()), (1, 2));
+    assert!(rt;
+        has_part(
+            done.held.as_slice(),
+            b"claim 0 0\nclaim 0 1\nfault 0 2\nback 0 0 dirty\nback 0 1 dirty\nclaim 0 0\nclaim 0 1\nbatch 0 2 "
+        )
+    );
+    assert!(rt;
+        done.held.ends_with(b"done 0 0\ndone 0 1\nshare 0 0 2\ncensus 0 0\ntotals 2 2\nend done\n")
+    );
+    Ok(())
+}
+
+#[test]
+fn a_disk_that_fails_seven_times_writes_all_at_last(rt: HostRuntime) -> Result<(), Fail> {
+    let alloc = rt.alloc();
+    let mut rack = FaultyRack::make([1, 2, 3, 4, 5, 6, 7].to_vec(alloc)?);
+    let done = run_faulty(&rt, alloc, &mut rack)?;
+    assert_eq!(rt; done.status, Status::Good);
+    assert_eq!(rt; (rack.fault_count(), rack.page_count()), (7, 2));
+    assert_eq!(rt; lines_like(done.held.as_slice(), "fault 0 2"), 7);
+    assert!(rt; done.held.ends_with(b"census 0 0\ntotals 2 2\nend done\n"));
+    Ok(())
+}
+
+#[test]
+fn a_disk_that_fails_eight_times_is_told_with_what_is_left(rt: HostRuntime) -> Result<(), Fail> {
+    let alloc = rt.alloc();
+    let mut rack = FaultyRack::make([1, 2, 3, 4, 5, 6, 7, 8].to_vec(alloc)?);
+    let faulted = run_faulty(&rt, alloc, &mut rack)?;
+    assert_eq!(rt; faulted.status, Status::DiskFault);
+    assert_eq!(rt; code(&faulted.status), 5);
+    assert_eq!(rt; (rack.fault_count(), rack.page_count()), (8, 0));
+    assert_eq!(rt; lines_like(faulted.held.as_slice(), "fault 0 2"), 8);
+    assert_eq!(rt; lines_like(faulted.held.as_slice(), "back 0 0 dirty"), 7);
+    assert!(rt;
+        faulted.held.ends_with(
+            b"left 0 writeback\nleft 1 writeback\ncensus 0 2\ntotals 2 0\nend faulted\n"
+        )
+    );
+    Ok(())
+}
+
+#[test]
+fn a_bulk_run_over_disks_that_fail_cleans_all(rt: HostRuntime) -> Result<(), Fail> {
+    let alloc = rt.alloc();
+    let mut rack = FaultyRack::make([1, 3].to_vec(alloc)?);
+    let done = call(
+        &rt,
+        alloc,
+        &calm(&["bulk", "1000"], ""),
+        &SlowClock::make(),
+        &FreeGate,
+        &mut rack,
+    )?;
+    assert_eq!(rt; done.status, Status::Good);
+    assert_eq!(rt;
+        done.held.as_slice(),
+        b"bulk 1000 dirtied 1000 cleaned 1000 left 0\n".as_slice()
+    );
+    assert!(rt; 1 <= rack.fault_count());
+    Ok(())
+}
+
+#[test]
+fn a_cpu_that_is_stopped_leaves_its_page(rt: HostRuntime) -> Result<(), Fail> {
+    let halted = call(
+        &rt,
+        rt.alloc(),
+        &calm(&["run"], TWO_PAGES),
+        &SlowClock::make(),
+        &HaltGate { halt: 3 },
+        &mut ModelRack::make(),
+    )?;
+    assert_eq!(rt; halted.status, Status::Good);
+    assert!(rt;
+        halted
+            .held
+            .ends_with(b"left 0 dirty\ncensus 1 0\ntotals 1 0\nend halted\n")
+    );
+    Ok(())
+}
+
+#[test]
+fn a_bulk_run_cleans_what_it_dirties(rt: HostRuntime) -> Result<(), Fail> {
+    for (number, line) in [
+        ("4", "bulk 4 dirtied 4 cleaned 4 left 0\n"),
+        ("1000", "bulk 1000 dirtied 1000 cleaned 1000 left 0\n"),
+    ] {
+        let mut rack = ModelRack::make();
+        let done = call(
+            &rt,
+            rt.alloc(),
+            &calm(&["bulk", number], ""),
+            &SlowClock::make(),
+            &FreeGate,
+            &mut rack,
+        )?;
+        assert_eq!(rt; done.status, Status::Good);
+        assert_eq!(rt; done.held.as_slice(), line.as_bytes());
+    }
+    Ok(())
+}
+
+#[test]
+fn a_bulk_run_writes_to_disks(rt: HostRuntime) -> Result<(), Fail> {
+    let mut rack = ModelRack::make();
+    let done = call(
+        &rt,
+        rt.alloc(),
+        &calm(&["bulk", "1000"], ""),
+        &SlowClock::make(),
+        &FreeGate,
+        &mut rack,
+    )?;
+    assert_eq!(rt; done.status, Status::Good);
+    assert_eq!(rt; rack.pages, 1000);
+    Ok(())
+}
+
+#[test]
+fn words_that_are_no_command_of_runs_are_refused(rt: HostRuntime) -> Result<(), Fail> {
+    let alloc = rt.alloc();
+    let no_words: &[&str] = &[];
+    for words in [
+        no_words,
+        &["bulk"],
+        &["bulk", "3"],
+        &["bulk", "07"],
+        &["bulk", "+7"],
+        &["bulk", "0"],
+        &["bulk", ""],
+        &["bulk", " 7"],
+        &["bulk", "2097153"],
+        &["bulk", "18446744073709551620"],
+        &["bulk", "7", "7"],
+        &["bulks", "7"],
+        &["run", "x"],
+        &["Run"],
+        &["replay"],
+        &["check"],
+        &["law"],
+    ] {
+        let refused = run(&rt, alloc, words, TWO_PAGES)?;
+        assert_eq!(rt; refused.status, Status::BadWords);
+        assert!(rt; refused.held.is_empty());
+    }
+    Ok(())
+}
+
+#[test]
+fn words_go_to_the_call_that_serves_them(rt: HostRuntime) -> Result<(), Fail> {
+    let alloc = rt.alloc();
+    let one: &[&str] = &["run"];
+    for (words, call) in [
+        (one, Route::Threads),
+        (&["bulk", "4"], Route::Threads),
+        (&["bulk", "2097152"], Route::Threads),
+        (&["bulk", "2097153"], Route::Bad),
+        (&["bulk", "3"], Route::Bad),
+        (&["replay"], Route::Plain),
+        (&["check"], Route::Plain),
+        (&["law"], Route::Plain),
+        (&["audit"], Route::Plain),
+        (&["audit", "audit"], Route::Bad),
+    ] {
+        assert_eq!(rt; route(&words_of(alloc, words)?), call);
+    }
+    Ok(())
+}
+
+#[test]
+fn what_fails_is_told_and_nothing_more_is_written(rt: HostRuntime) -> Result<(), Fail> {
+    let alloc = rt.alloc();
+    for (words, text, read_fails, write_fails, status) in [
+        (["run"].as_slice(), TWO_PAGES, 1, 0, Status::ReadFault),
+        (&["run"], TWO_PAGES, 2, 0, Status::ReadFault),
+        (&["run"], TWO_PAGES, 0, 1, Status::WriteFault),
+        (&["bulk", "4"], TWO_PAGES, 1, 1, Status::WriteFault),
+        (
+            &["run"],
+            "",
+            0,
+            0,
+            Status::BadTrace(TraceFault::Missing {
+                what: Missing::Cpus,
+            }),
+        ),
+        (
+            &["run"],
+            "cpus 01\n",
+            0,
+            0,
+            Status::BadTrace(TraceFault::BadLine { line: 1 }),
+        ),
+    ] {
+        let input = Input {
+            words,
+            text,
+            read_fails,
+            write_fails,
+        };
+        let failed = call(
+            &rt,
+            alloc,
+            &input,
+            &SlowClock::make(),
+            &FreeGate,
+            &mut ModelRack::make(),
+        )?;
+        assert_eq!(rt; failed.status, status);
+        assert!(rt; failed.held.is_empty());
+    }
+    Ok(())
+}
+
+#[test]
+fn a_disk_that_fails_stands_before_a_sink_that_fails(rt: HostRuntime) -> Result<(), Fail> {
+    let alloc = rt.alloc();
+    let input = Input {
+        words: &["run"],
+        text: TWO_PAGES,
+        read_fails: 0,
+        write_fails: 1,
+    };
+    let faulted = call(
+        &rt,
+        alloc,
+        &input,
+        &SlowClock::make(),
+        &FreeGate,
+        &mut FaultyRack::make([1, 2, 3, 4, 5, 6, 7, 8].to_vec(alloc)?),
+    )?;
+    assert_eq!(rt; faulted.status, Status::DiskFault);
+    assert!(rt; faulted.held.is_empty());
+    Ok(())
+}
+
+#[test]
+fn workers_are_beside_each_other(rt: HostRuntime) -> Result<(), Fail> {
+    let gate = MeetingGate::make();
+    let done = call(
+        &rt,
+        rt.alloc(),
+        &calm(&["run"], THREE_CPUS),
+        &SlowClock::make(),
+        &gate,
+        &mut ModelRack::make(),
+    )?;
+    assert!(rt; gate.has_met());
+    assert_eq!(rt; done.status, Status::Good);
+    assert!(rt; done.held.ends_with(b"census 0 0\ntotals 64 64\nend done\n"));
+    Ok(())
+}
