@@ -1,4 +1,4 @@
-mod Bounding
+pub mod Bounding
 pub mod Machines
 pub mod Parting
 mod Summing

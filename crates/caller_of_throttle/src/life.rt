@@ -58,8 +58,8 @@ fn work_by_two<R: Threads, G: Gate + Sync>(
     all
 }
 
-// The pages of a CPU that has one writer.
-fn part(cpu: u32) -> Part
+/// The part of a CPU that has one writer: 32 pages of its own.
+pub fn part(cpu: u32) -> Part
     requires { cpu ≤ 1 }
     ensures { result ≡ record { cpu = cpu; writer = cpu; first = cpu * 32; pages = 32 } }
 {
