@@ -3,8 +3,11 @@ a small part of the time that an event for each would."""
 from __future__ import annotations
 
 import re
-from collections.abc import Iterator
-from dataclasses import dataclass
+from collections import namedtuple
+
+TYPE_CHECKING = False
+if TYPE_CHECKING:
+    from collections.abc import Iterator
 
 PIECE = 1 << 20
 """Bytes that are looked at at once, and to the end of the line."""
@@ -13,14 +16,10 @@ BEGIN, STEP = b"\nsteps\n", b"\nstep "
 LINE = re.compile(rb"step [0-9]+ (?:[0-9]+|timer) [a-z]+ ([0-9]+) ([0-9]+)(?: [0-9]+)*\n")
 
 
-@dataclass(frozen=True)
-class StepSums:
+class StepSums(namedtuple("StepSums", "steps greatest bound distance")):
     """How many steps there are; of the first domain the greatest exact count, the bound where it came first, and the least distance."""
 
-    steps: int
-    greatest: int
-    bound: int
-    distance: int
+    __slots__ = ()
 
 
 def cut(journal: bytes) -> tuple[bytes, bytes]:

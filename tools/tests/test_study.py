@@ -127,10 +127,9 @@ class Sums(unittest.TestCase):
             sums(b"step 1 0 dirty 1 9\nstep 2 0 dirty 1\nstep 3 0 dirty 1 9\n")
 
     def test_a_run_over_threads_has_no_steps(self) -> None:
-        trace = read_trace(os.path.join(EXAMPLES, "two-pages.trace"))
         lines, _ = cut(content(os.path.join(EXAMPLES, "two-pages.journal")).encode())
         text = lines.replace(b"steps\n", b"").replace(b"limits 0 1 ", b"limits 0 147 ").replace(b"batch 0 2 1 2", b"batch 0 2 317 318")
-        it = measured("run", trace, text)
+        it = measured("run", content(os.path.join(EXAMPLES, "two-pages.trace")), text)
         self.assertEqual((it.pages, it.ticks, it.greatest, it.bound, it.distance), (2, 172, 0, 21067, 21067))
 
 
