@@ -4,7 +4,6 @@ from __future__ import annotations
 import os
 from collections import namedtuple
 
-from journals.figures import figures
 from program.errors import NotThere
 
 TYPE_CHECKING = False
@@ -106,6 +105,8 @@ def content(file: BinaryIO) -> bytes:
 
 def measured(name: str, text: str, journal: bytes) -> Measured:
     """What a journal of a trace says of the global domain and of all tasks."""
+    from journals.figures import figures
+
     try:
         it = figures(text, journal)
     except ValueError as error:
