@@ -1,14 +1,15 @@
-"""What a table of runs needs of a journal, by a pattern over the bytes of its lines, in one pass. An event for each line says more and takes
-several times as long.
+"""What a table of runs needs of a journal, by patterns over its bytes. An event for each line says more, and takes as much as fifty times as
+long.
 
-Each line is to be one of a journal. The order of parts, and whether the trace has what a line names, is not looked at: `reader` does that.
+A journal is to begin and end as one. Of its entries just those lines are read that tell something here, but where a task rests: there each line
+has its place, and is to be one of a journal. `reader` looks at all of it.
 """
 from __future__ import annotations
 
 import re
 from collections import namedtuple
 
-from .step_sums import cut, sums
+from .step_sums import steps_of, sums
 
 TYPE_CHECKING = False
 if TYPE_CHECKING:
@@ -44,7 +45,13 @@ ENTRY = re.compile(
     + form("done (N) N") + b"(?:" + form(r"done \9 N") + b")*|"
     + b"(?:est N N N N N N N N|notice N N|age N N N)".replace(b"N", N) + form(" (N)") + b"|"
     + form("cpu (N)"))
-TAIL = re.compile(b"(?:" + form("steps") + b")?(?:" + form("left N (?:dirty|writeback|both)") + b")*" + form("census N N")
+CHECKS = re.compile(rb"\ncheck ([0-9]+) [0-9]+ ([0-9]+) [0-9]+ ([a-z]+) ([0-9]+) ")
+BATCHES = re.compile(rb"\nbatch ([0-9]+) [0-9]+ ([0-9]+) ([0-9]+)")
+MOMENTS = [re.compile(rb"\n" + form) for form in (rb"est (?:[0-9]+ ){8}([0-9]+)", rb"notice [0-9]+ [0-9]+ ([0-9]+)",
+                                                 rb"age [0-9]+ [0-9]+ [0-9]+ ([0-9]+)")]
+LEFT = re.compile(rb"\n(?=left |census )|\Z")
+STEPS = b"steps\n"
+TAIL = re.compile(b"(?:" + form("left N (?:dirty|writeback|both)") + b")*" + form("census N N")
                   + form("totals N (N)") + b"(?:" + form("strict N N N") + b")*" + form("end (done|halted|spent|faulted)"))
 
 
@@ -94,28 +101,50 @@ def plans_of(trace: str) -> list[Plan]:
 
 def figures(trace: str, journal: bytes) -> Figures:
     """What a journal of a trace comes to. Raises `ValueError` where a line isn't one of a journal."""
-    text, steps = cut(journal)
-    head = HEAD.match(text)
-    limits = LIMITS.findall(text, 0, head.end()) if head else []
+    first, end = steps_of(journal)
+    head = HEAD.match(journal)
+    limits = LIMITS.findall(journal, 0, head.end()) if head else []
     if not limits:
         raise ValueError("it doesn't begin with limits")
-    checks, latest, at = walk(text, head.end(), plans_of(trace), max(int(now) for _, now, _ in limits))
-    tail = TAIL.fullmatch(text, at)
+    plans, latest = plans_of(trace), max(int(now) for _, now, _ in limits)
+    steps = sums(journal, first, end)
+    after = first - len(STEPS) if steps else LEFT.search(journal, head.end() - 1).end()
+    if any(rest for plan in plans for _, rest in plan.actions):
+        checks, latest = walk(journal, head.end(), after, plans, latest)
+    else:
+        checks, latest = look(journal, head.end() - 1, after, latest)
+    tail = TAIL.fullmatch(journal, end if steps else after)
     if not tail:
-        raise ValueError(f"{line_at(text, at)} where entries end")
-    sums_of_steps = sums(steps)
-    read = max((int(count) for count in READS.findall(text)), default=0) if sums_of_steps is None else 0
+        raise ValueError("it doesn't end with totals")
+    read = 0 if steps else max((int(count) for count in READS.findall(journal)), default=0)
     pauses = [pause for pause, _ in checks if pause]
     return Figures(len(pauses), sum(pauses), max(pauses, default=0), sum(is_wait for _, is_wait in checks), int(tail[1]), latest,
-                   int(limits[0][1]), tail[2].decode("ascii"), sums_of_steps,
+                   int(limits[0][1]), tail[2].decode("ascii"), steps,
                    max(int(hard) for domain, _, hard in limits if domain == b"0"), read)
 
 
-def walk(text: bytes, at: int, plans: list[Plan], latest: int) -> tuple[list[tuple[int, bool]], int, int]:
-    """The pause of each check and whether it is a wait, the latest moment, and where the entries end. The moments are those of
-    `entry_moments`: a write comes at the end of its task's pause or rest, or later, and a completion at the end of its flight, or later."""
+def look(text: bytes, at: int, end: int, latest: int) -> tuple[list[tuple[int, bool]], int]:
+    """The pause of each check and whether it is a wait, and the latest moment, where no task rests. Checks, batches and estimates tell their
+    moments, and of pauses and flights just each last one may end later than all that: where a write or a completion follows it."""
+    checks, until = [], {}
+    for it in CHECKS.finditer(text, at, end):
+        task, now, decision, pause = it.groups()
+        checks.append((int(pause), decision == b"wait"))
+        latest = max(latest, int(now))
+        until[b"\nwrite %b " % task] = it.end(), int(now) + int(pause)
+    for it in BATCHES.finditer(text, at, end):
+        flusher, now, landing = it.groups()
+        latest = max(latest, int(now))
+        until[b"\ndone %b " % flusher] = it.end(), int(landing)
+    latest = max([latest, *(int(now) for form in MOMENTS for now in form.findall(text, at, end))])
+    return checks, max([latest, *(moment for line, (place, moment) in until.items() if moment > latest and text.find(line, place, end) >= 0)])
+
+
+def walk(text: bytes, at: int, end: int, plans: list[Plan], latest: int) -> tuple[list[tuple[int, bool]], int]:
+    """The same where tasks rest. The moments are those of `entry_moments`: a write comes at the end of its task's pause or rest, or later, and
+    a completion at the end of its flight, or later."""
     checks, landing, known = [], {}, OPENING
-    scan = ENTRY.scanner(text, at).match
+    scan = ENTRY.scanner(text, at, end).match
     try:
         while found := scan():
             kind = found.lastindex
@@ -139,7 +168,9 @@ def walk(text: bytes, at: int, plans: list[Plan], latest: int) -> tuple[list[tup
             at = found.end()
     except IndexError:
         raise ValueError(f"{line_at(text, at)}: the trace has no such task") from None
-    return checks, max(latest, known), at
+    if at != end:
+        raise ValueError(f"{line_at(text, at)} among the entries")
+    return checks, max(latest, known)
 
 
 def line_at(text: bytes, at: int) -> str:

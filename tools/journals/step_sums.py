@@ -1,19 +1,16 @@
-"""What the steps of a journal come to, by a pattern over its bytes. A journal has millions of steps and few that differ, so that this takes
-a small part of the time that an event for each would."""
+"""What the steps of a journal come to, by a pattern over its bytes. A journal has millions of steps, and a count grows at few of them: an event
+for each step would take longer than the run."""
 from __future__ import annotations
 
 import re
 from collections import namedtuple
-
-TYPE_CHECKING = False
-if TYPE_CHECKING:
-    from collections.abc import Iterator
-
-PIECE = 1 << 20
-"""Bytes that are looked at at once, and to the end of the line."""
+from operator import sub
 
 BEGIN, STEP = b"\nsteps\n", b"\nstep "
-LINE = re.compile(rb"step [0-9]+ (?:[0-9]+|timer) [a-z]+ ([0-9]+) ([0-9]+)(?: [0-9]+)*\n")
+LINE = re.compile(rb"step ([0-9]+) (?:[0-9]+|timer) [a-z]+ ([0-9]+) ([0-9]+)(?: [0-9]+)*\n")
+GROWING = re.compile(rb" dirty ([0-9]*) ?([0-9]*)")
+"""The only kind of step after which a count is greater than before. A bound never falls, so they come nearest to each other there, or at the
+first step."""
 
 
 class StepSums(namedtuple("StepSums", "steps greatest bound distance")):
@@ -22,39 +19,26 @@ class StepSums(namedtuple("StepSums", "steps greatest bound distance")):
     __slots__ = ()
 
 
-def cut(journal: bytes) -> tuple[bytes, bytes]:
-    """A journal without the lines of its steps, and those."""
+def steps_of(journal: bytes) -> tuple[int, int]:
+    """Where the lines of the steps begin and end; both are the end of the journal where there are none."""
     begin = journal.find(BEGIN)
     if begin < 0:
-        return journal, b""
+        return len(journal), len(journal)
     first = begin + len(BEGIN)
     last = journal.rfind(STEP, first - 1)
-    end = journal.find(b"\n", last + 1) + 1 if last >= 0 else first
-    return journal[: begin + 1] + journal[end:], journal[first:end]
+    return first, journal.find(b"\n", last + 1) + 1 if last >= 0 else first
 
 
-def sums(steps: bytes) -> StepSums | None:
-    """What these lines come to; nothing where there is none. Raises `ValueError` where a line is no step."""
-    many, pairs = 0, set()
-    for piece in pieces(steps):
-        found = LINE.findall(piece)
-        if len(found) != piece.count(b"\n"):
-            raise ValueError("a line among the steps is none")
-        many += len(found)
-        pairs.update(found)
-    if not many:
+def sums(journal: bytes, first: int, end: int) -> StepSums | None:
+    """What these lines come to; nothing where there is none. Raises `ValueError` where a line that is read is no step."""
+    if first == end:
         return None
-    numbers = [(int(count), int(bound)) for count, bound in pairs]
-    greatest = max(count for count, _ in numbers)
-    # A bound never falls, so the least one with the greatest count is that of its first step.
-    return StepSums(many, greatest, min(bound for count, bound in numbers if count == greatest), min(bound - count for count, bound in numbers))
-
-
-def pieces(text: bytes) -> Iterator[bytes]:
-    """The text in pieces of whole lines."""
-    at = 0
-    while at < len(text):
-        end = text.find(b"\n", at + PIECE)
-        end = len(text) if end < 0 else end + 1
-        yield text[at:end]
-        at = end
+    one, last = LINE.match(journal, first, end), LINE.match(journal, journal.rfind(b"\n", first, end - 1) + 1 or first, end)
+    if not one or not last or one[1] != b"1":
+        raise ValueError("a line among the steps is none")
+    try:
+        counts, bounds = (list(map(int, numbers)) for numbers in zip(one.groups()[1:], *GROWING.findall(journal, first, end)))
+    except ValueError:
+        raise ValueError("a line among the steps is none") from None
+    greatest = max(counts)
+    return StepSums(int(last[1]), greatest, bounds[counts.index(greatest)], min(map(sub, bounds, counts)))

@@ -16,7 +16,7 @@ from unittest import mock
 from jobs import engine
 from journals import picture
 from journals.reader import Reader
-from journals.step_sums import cut, sums
+from journals.step_sums import steps_of, sums
 from journals.summary import Summary
 from journals.trace_reader import read_trace, trace_of
 from journals.whole_text import WholeText
@@ -112,8 +112,8 @@ class Sums(unittest.TestCase):
             summary = Summary(read_trace(trace))
             for event in Reader(journal, summary.trace).events():
                 summary.take(event)
-            _, steps = cut(content(journal).encode())
-            found, domain = sums(steps), summary.domains[0]
+            text = content(journal).encode()
+            found, domain = sums(text, *steps_of(text)), summary.domains[0]
             if summary.steps:
                 self.assertEqual((found.steps, found.greatest, found.bound, found.distance),
                                  (summary.steps, domain.greatest, domain.bound_there, domain.least_distance), journal)
@@ -124,11 +124,13 @@ class Sums(unittest.TestCase):
 
     def test_a_line_that_is_no_step(self) -> None:
         with self.assertRaises(ValueError):
-            sums(b"step 1 0 dirty 1 9\nstep 2 0 dirty 1\nstep 3 0 dirty 1 9\n")
+            text = b"step 1 0 dirty 1 9\nstep 2 0 dirty 1\nstep 3 0 dirty 1 9\n"
+            sums(text, 0, len(text))
 
     def test_a_run_over_threads_has_no_steps(self) -> None:
-        lines, _ = cut(content(os.path.join(EXAMPLES, "two-pages.journal")).encode())
-        text = lines.replace(b"steps\n", b"").replace(b"limits 0 1 ", b"limits 0 147 ").replace(b"batch 0 2 1 2", b"batch 0 2 317 318")
+        text = content(os.path.join(EXAMPLES, "two-pages.journal")).encode()
+        first, end = steps_of(text)
+        text = (text[:first] + text[end:]).replace(b"steps\n", b"").replace(b"limits 0 1 ", b"limits 0 147 ").replace(b"batch 0 2 1 2", b"batch 0 2 317 318")
         it = measured("run", content(os.path.join(EXAMPLES, "two-pages.trace")), text)
         self.assertEqual((it.pages, it.ticks, it.greatest, it.bound, it.distance), (2, 172, 0, 21067, 21067))
 
