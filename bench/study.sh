@@ -9,7 +9,7 @@
 # chooses unless given.
 #
 # The replays are made by themselves, and as a study from its start to its table, with GNU parallel. By themselves they are the same program
-# with the same inputs: a loop of a shell on each processor, which starts a process for each replay and has its journal written to a file. A
+# with the same inputs: a loop of a shell on each processor, which starts a process for each replay and has its journal written to a file in memory. A
 # study of repeats has one trace, one of settings changes the rate of device 0 at each replay. A line for each: the seconds by themselves, as a
 # study, and the ratio, each of the least of all rounds, in which the two take turns. Then what a study of one replay takes, and what each
 # further one costs a processor beside itself. The status is 1 where a row is missing. Nothing here is proved, and no claim is made of speed.
@@ -27,7 +27,8 @@ done
 python=$(python3 -c 'import sys; print(sys.executable)') || exit 70
 
 work=$(mktemp -d) || exit 70
-trap 'rm -rf "$work"' EXIT
+memory=$(mktemp -d -p /dev/shm 2> /dev/null) || memory=$work
+trap 'rm -rf "$work" "$memory"' EXIT
 trap 'exit 1' HUP INT TERM
 failed=0
 
@@ -48,7 +49,7 @@ least() {
 alone() {
     for list in "$work"/list-*; do
         while read -r trace; do
-            "$binary" replay < "$trace" > "$work/journal-${list##*-}"
+            "$binary" replay < "$trace" > "$memory/journal-${list##*-}"
         done < "$list" &
     done
     wait

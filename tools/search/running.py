@@ -8,9 +8,13 @@ from program.errors import NotThere
 
 TYPE_CHECKING = False
 if TYPE_CHECKING:
+    from mmap import mmap
     from typing import Any, BinaryIO
 
     from journals.trace import Trace
+
+LONG = 1 << 20
+"""Bytes of the longest journal that is copied."""
 
 SPENT = 7
 """The status of a run that had made the most steps: its journal is whole."""
@@ -52,8 +56,8 @@ def read(name: str, text: str) -> Trace:
 
 
 class Runner:
-    """Runs traces, one after another, by one program: these were read before, so that the program refuses none. A journal that came before of
-    the same trace isn't read again."""
+    """Runs traces, one after another, by one program: these were read before, so that the program refuses none. A short journal that came before
+    of the same trace isn't read again."""
 
     def __init__(self, words: list[str]) -> None:
         self.words = words
@@ -62,7 +66,7 @@ class Runner:
         self.known: tuple[bytes, Measured] | None = None
         self.environment = dict(os.environb)
 
-    def run(self, name: str, text: str) -> tuple[Measured, bytes]:
+    def run(self, name: str, text: str) -> tuple[Measured, bytes | mmap]:
         """What the run of a trace came to, and its journal."""
         if text != self.text:
             self.text, self.known = text, None
@@ -71,12 +75,14 @@ class Runner:
             self.given.write(text.encode("latin-1"))
         status = self.spawned()
         if status not in (0, SPENT):
-            said = content(self.said).decode("latin-1").strip().splitlines()
+            said = content(self.said)[:].decode("latin-1").strip().splitlines()
             raise NotThere(f"{name}: {self.words[0]} ended with {status}: {said[-1] if said else 'it said nothing'}")
         journal = content(self.journal)
-        if self.known is None or self.known[0] != journal:
-            self.known = journal, measured(name, text, journal)
-        return self.known[1], journal
+        if isinstance(journal, bytes):
+            if self.known is None or self.known[0] != journal:
+                self.known = journal, measured(name, text, journal)
+            return self.known[1], journal
+        return measured(name, text, journal), journal
 
     def spawned(self) -> int:
         """The status of the program, whose texts are files: a pipe would have to be served."""
@@ -97,8 +103,13 @@ def in_memory(name: str) -> BinaryIO:
     return open(os.memfd_create(name), "w+b", buffering=0)
 
 
-def content(file: BinaryIO) -> bytes:
-    """What a program has written into a file."""
+def content(file: BinaryIO) -> bytes | mmap:
+    """What a program has written into a file. What is long isn't copied, and is there until the file is written again."""
+    size = file.seek(0, os.SEEK_END)
+    if size > LONG:
+        import mmap
+
+        return mmap.mmap(file.fileno(), size, access=mmap.ACCESS_READ)
     file.seek(0)
     return file.read()
 

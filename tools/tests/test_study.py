@@ -14,14 +14,17 @@ from importlib.util import find_spec
 from unittest import mock
 
 from jobs import engine
-from journals import picture
+from journals import picture, step_sums
+from journals.events import Decision
+from journals.figures import figures
 from journals.reader import Reader
 from journals.step_sums import steps_of, sums
 from journals.summary import Summary
 from journals.trace_reader import read_trace, trace_of
 from journals.whole_text import WholeText
-from program.errors import Error, OtherWords
-from search.running import measured
+from program.errors import Error, Fault, OtherWords
+from search.editing import parameter
+from search.running import measured, read
 from study.grid import changed, name_of, point_of, settings
 from study.reading import Refused, read_study, runs_of, study_of
 from study.spread import Spread, at, spreads
@@ -121,6 +124,48 @@ class Sums(unittest.TestCase):
                 self.assertIsNone(found)
             compared += 1
         self.assertGreater(compared, 20)
+
+    def test_they_are_the_same_where_steps_are_passed_over(self) -> None:
+        for trace, journal in examples():
+            text = content(journal).encode()
+            whole = sums(text, *steps_of(text))
+            with mock.patch.object(step_sums, "LEAF", 64):
+                self.assertEqual(sums(text, *steps_of(text)), whole, journal)
+
+    def test_what_is_measured_is_what_the_events_say(self) -> None:
+        for trace, journal in examples():
+            if os.path.getsize(journal) > 60_000:
+                continue
+            summary = Summary(read_trace(trace))
+            for event in Reader(journal, summary.trace).events():
+                summary.take(event)
+            it, tasks = figures(content(trace), content(journal).encode()), summary.tasks
+            self.assertEqual((it.pauses, it.paused, it.longest, it.waits), (
+                sum(task.pauses for task in tasks), sum(task.paused for task in tasks), max((task.longest_pause for task in tasks), default=0),
+                sum(task.checks[Decision.WAIT] for task in tasks)), journal)
+            self.assertEqual((it.pages, it.latest, it.ending, it.hard), (
+                summary.totals.done, summary.latest, summary.ending.value, summary.domains[0].greatest_hard), journal)
+
+    def test_what_is_no_journal(self) -> None:
+        text = content(os.path.join(EXAMPLES, "fold.journal"))
+        for other in ("", text[:-5], text.replace("timer\n", "", 1), text.replace("\nstep 1 ", "\nstep 2 ")):
+            with self.assertRaises(ValueError):
+                figures(content(FOLD), other.encode())
+
+    def test_the_values_that_a_trace_may_have_stand_together(self) -> None:
+        for name in ("cpus", "tasks", "cap", "avail", "device-0", "expire-0", "dirty_ratio", "dirty_bytes"):
+            reads = []
+            for value in (0, 1, 2, 3, 64, 65, 100, 101, 256, 257, 1024, 2000, 100000, 100001, 2**20, 2**20 + 1, 2**40, 2**48, 2**49):
+                if name == "tasks" and value > 257:
+                    break
+                try:
+                    read("trace", parameter(name).changed(content(FOLD), value))
+                    reads.append(True)
+                except Fault:
+                    reads.append(False)
+            changes = sum(one != other for one, other in zip(reads, reads[1:]))
+            self.assertLessEqual(changes, 2 - reads[0], name)
+            self.assertIn(True, reads)
 
     def test_a_line_that_is_no_step(self) -> None:
         with self.assertRaises(ValueError):
