@@ -175,7 +175,8 @@ class Sums(unittest.TestCase):
     def test_a_run_over_threads_has_no_steps(self) -> None:
         text = content(os.path.join(EXAMPLES, "two-pages.journal")).encode()
         first, end = steps_of(text)
-        text = (text[:first] + text[end:]).replace(b"steps\n", b"").replace(b"limits 0 1 ", b"limits 0 147 ").replace(b"batch 0 2 1 2", b"batch 0 2 317 318")
+        lines = (text[:first] + text[end:]).replace(b"steps\n", b"")
+        text = lines.replace(b"limits 0 1 ", b"limits 0 147 ").replace(b"batch 0 2 1 2", b"batch 0 2 317 318")
         it = measured("run", content(os.path.join(EXAMPLES, "two-pages.trace")), text)
         self.assertEqual((it.pages, it.ticks, it.greatest, it.bound, it.distance), (2, 172, 0, 21067, 21067))
 
