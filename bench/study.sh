@@ -9,11 +9,11 @@
 # chooses unless given.
 #
 # The replays are made by themselves, and as a study from its start to its table, with GNU parallel. By themselves they are the same program
-# with the same inputs: a loop of a shell on each processor, which starts a process for each replay and has its journal written to a file in memory. A
-# study of repeats has one trace, one of settings changes the rate of device 0 at each replay. A line for each: the seconds by themselves, as a
-# study, and the ratio, each of the least of all rounds, in which the two take turns. Then what a study of one replay takes, and what each
-# further one costs a processor beside itself. The status is 1 where a row is missing. Nothing here is proved, and no claim is made of speed.
-# bench/resume.sh measures what a study does that is killed.
+# with the same inputs: a loop of a shell on each processor, which starts a process for each replay and has its journal written to a file in
+# memory. A study of repeats has one trace, one of settings changes the rate of device 0 at each replay. A line for each: the seconds by
+# themselves, as a study, and the ratio, each of the least of all rounds, in which the two take turns. Then what a study of one replay takes,
+# and what each further one costs a processor beside itself. The status is 1 where a row is missing. Nothing here is proved, and no claim is
+# made of speed. bench/resume.sh measures what a study does that is killed.
 root=$(cd "$(dirname "$0")/.." && pwd) || exit 70
 binary=$(readlink -f "${1:-$root/crates/wbsim_top/out/wbsim_top}")
 replays=${2:-1000}
