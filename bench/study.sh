@@ -1,101 +1,102 @@
 #!/bin/sh
-# Measures what a study takes beside the replays that it makes, and whether judged runs that are killed go on without a run twice.
+# Measures what a study takes beside the replays that it makes.
 #
-# usage: bench/study.sh [BINARY [REPLAYS [JUDGED]]]
+# usage: bench/study.sh [BINARY [REPLAYS [SLOW [SLOWS]]]]
 #
-# BINARY is the proved binary unless given, REPLAYS 1000 and JUDGED 10000. JOBS in the environment is how many run side by side, all
-# processors unless given, and RUNS_A_JOB how many runs a job has, which `tools/wb study` chooses unless given.
+# BINARY is the proved binary unless given. REPLAYS (1000) are of examples/two-disks.trace, which is short, and SLOWS (32) of SLOW
+# (examples/realistic.trace), a trace whose replay takes about a second. JOBS in the environment is how many run side by side, all processors
+# unless given, and ROUNDS how often each is measured, 3 times unless given. RUNS_A_JOB is how many runs a job has, which `tools/wb study`
+# chooses unless given.
 #
-# The replays are those of examples/two-disks.trace: by themselves, which is a loop of a shell on each processor whose output goes nowhere,
-# and as a study, from its start to its table, with GNU parallel. A study of repeats has one trace, one over settings as many as replays.
-# A line for each: the seconds by themselves, as a study, and the ratio, of the least of three.
-#
-# Then JUDGED runs over threads are made and judged by `BINARY audit` (tools/judge-runs). When a third of them has begun, all its processes
-# are killed by signal 9, and it goes on by --resume. The line says how many rows there are at the end, and how many runs were begun in all:
-# those above JUDGED were under way at the kill, at most one for each that runs side by side. The status is 1 where a row is missing or
-# twice, or more runs were begun. Nothing here is proved, and no claim is made of speed.
+# The replays are made by themselves, and as a study from its start to its table, with GNU parallel. By themselves they are the same program
+# with the same inputs: a loop of a shell on each processor, which starts a process for each replay and has its journal written to a file in
+# memory. A study of repeats has one trace, one of settings changes the rate of device 0 at each replay. A line for each: the seconds by
+# themselves, as a study, and the ratio, each of the least of all rounds, in which the two take turns. Then what a study of one replay takes,
+# and what each further one costs a processor beside itself. The status is 1 where a row is missing. Nothing here is proved, and no claim is
+# made of speed. bench/resume.sh measures what a study does that is killed.
 root=$(cd "$(dirname "$0")/.." && pwd) || exit 70
 binary=$(readlink -f "${1:-$root/crates/wbsim_top/out/wbsim_top}")
 replays=${2:-1000}
-judged=${3:-10000}
+slow=${3:-$root/examples/realistic.trace}
+slows=${4:-32}
 jobs=${JOBS:-$(nproc)}
 [ -x "$binary" ] || { echo "bench/study.sh: no binary at $binary: rt ci builds it" >&2; exit 70; }
-for needed in parallel python3 setsid ps; do
+for needed in parallel python3; do
     command -v $needed > /dev/null || { echo "bench/study.sh: no $needed" >&2; exit 70; }
 done
+python=$(python3 -c 'import sys; print(sys.executable)') || exit 70
 
 work=$(mktemp -d) || exit 70
-trap 'rm -rf "$work"' EXIT
+memory=$(mktemp -d -p /dev/shm 2> /dev/null) || memory=$work
+trap 'rm -rf "$work" "$memory"' EXIT
 trap 'exit 1' HUP INT TERM
-trace=$root/examples/two-disks.trace
 failed=0
 
-# WORD..: the seconds that it takes, the least of three.
-least() {
-    for run in 1 2 3; do
-        begin=$(date +%s%N)
-        "$@" > "$work/said" 2>&1 || { cat "$work/said" >&2; exit 70; }
-        end=$(date +%s%N)
-        echo $(((end - begin) / 1000))
-    done | sort -n | head -n 1 | awk '{ printf "%.3f\n", $1 / 1000000 }'
+# WORD..: the seconds that it takes.
+seconds() {
+    begin=$(date +%s%N)
+    "$@" > "$work/said" 2>&1 || { cat "$work/said" >&2; exit 70; }
+    end=$(date +%s%N)
+    echo $(((end - begin) / 1000)) | awk '{ printf "%.3f\n", $1 / 1000000 }'
 }
 
-# The replays by themselves, shared among shells.
+# FILE: the least of its lines.
+least() {
+    sort -n "$1" | head -n 1
+}
+
+# The replays by themselves: those of each list of inputs, on a processor.
 alone() {
-    slot=0
-    while [ $slot -lt "$jobs" ]; do
-        (
-            left=$(((replays + jobs - 1 - slot) / jobs))
-            while [ $left -gt 0 ]; do
-                "$binary" replay < "$trace" > /dev/null || exit 1
-                left=$((left - 1))
-            done
-        ) &
-        slot=$((slot + 1))
+    for list in "$work"/list-*; do
+        while read -r trace; do
+            "$binary" replay < "$trace" > "$memory/journal-${list##*-}"
+        done < "$list" &
     done
     wait
 }
 
 study() {
     rm -rf "$work/out"
-    python3 "$root/tools/wb" study "$work/study.toml" "$work/out" --binary "$binary" --jobs "$jobs" ${RUNS_A_JOB:+--runs-a-job "$RUNS_A_JOB"}
+    "$python" "$root/tools/wb" study "$work/study.toml" "$work/out" --binary "$binary" --jobs "$jobs" ${RUNS_A_JOB:+--runs-a-job "$RUNS_A_JOB"} "$@"
 }
 
-# NAME: a study of $work/study.toml beside the replays by themselves.
+# NAME TRACE MANY LINE..: replays of a trace by themselves, and as a study that has these lines too.
 measure() {
-    seconds=$(least study) && [ -n "$seconds" ] || exit 70
+    name=$1 many=$3
+    printf 'traces = ["%s"]\nkeep = ["traces"]\n' "$(readlink -f "$2")" > "$work/study.toml"
+    shift 3
+    printf '%s\n' "$@" >> "$work/study.toml"
+    study > /dev/null || exit 70
+    rm -rf "$work/inputs" "$work"/list-*
+    mkdir "$work/inputs"
+    mv "$work"/out/run-*.trace "$work/inputs"
+    ls "$work"/inputs/* | split -n "r/$jobs" - "$work/list-"
+    sed -i '/^keep/d' "$work/study.toml"
+    rm -f "$work/alone" "$work/study"
+    for round in $(seq "${ROUNDS:-3}"); do
+        seconds alone >> "$work/alone"
+        seconds study >> "$work/study"
+    done
+    rm -f "$work"/list-*
     rows=$(tail -n +2 "$work/out/runs.csv" | cut -d , -f 1 | sort -u | wc -l)
-    [ "$rows" -eq "$replays" ] || failed=1
-    echo "$alone_seconds $seconds $rows" | awk -v name="$1" -v jobs="$jobs" '{
-        printf "%-28s %d side by side  by themselves %8.3f s  as a study %8.3f s  ratio %.2f  %d rows\n", name, jobs, $1, $2, $2 / $1, $3 }'
+    [ "$rows" -eq "$many" ] || failed=1
+    echo "$(least "$work/alone") $(least "$work/study") $rows" | awk -v name="$name" -v jobs="$jobs" '{
+        printf "%-34s %d side by side  by themselves %8.3f s  as a study %8.3f s  ratio %.2f  %d rows\n", name, jobs, $1, $2, $2 / $1, $3 }'
+    echo "$(least "$work/alone") $(least "$work/study")" > "$work/latest"
 }
 
-alone_seconds=$(least alone) && [ -n "$alone_seconds" ] || exit 70
-printf 'traces = ["%s"]\nrepeats = %d\n' "$trace" "$replays" > "$work/study.toml"
-measure "$replays repeats"
-printf 'traces = ["%s"]\n[over]\ndevice-0 = ["1000..%d..1"]\n' "$trace" $((999 + replays)) > "$work/study.toml"
-measure "$replays settings"
-
-# Each run adds a line to $work/begun when it begins.
-printf '#!/bin/sh\n[ "$1" != run ] || echo >> %s\nexec %s "$@"\n' "$work/begun" "$binary" > "$work/counted"
-chmod 755 "$work/counted"
-
-begun() {
-    if [ -f "$work/begun" ]; then wc -l < "$work/begun"; else echo 0; fi
+# FIRST MANY: so many rates, from a first one.
+rates() {
+    printf '[over]\ndevice-0 = ["%d..%d..1"]' "$1" $(($1 + $2 - 1))
 }
 
-set -- "$root/tools/judge-runs" "$binary audit" "$judged" 0 50 --binary "$work/counted" --work "$work/judged" --jobs "$jobs"
-setsid python3 "$@" > "$work/said" 2>&1 < /dev/null &
-session=$!
-while [ "$(begun)" -lt $((judged / 3)) ] && kill -0 "$session" 2> /dev/null; do
-    sleep 0.2
-done
-kill -9 $(ps -o pid= -s "$session") 2> /dev/null
-wait "$session" 2> /dev/null
-at=$(begun)
-python3 "$@" --resume > "$work/said" 2>&1 || { cat "$work/said" >&2; failed=1; }
-rows=$(sed -n 's/^{"run":\([0-9]*\),.*/\1/p' "$work"/judged/done/*.rows | sort | uniq -c |
-    awk '{ rows++; twice += $1 > 1 } END { print rows + 0, twice + 0 }')
-[ "$rows" = "$judged 0" ] && [ "$(begun)" -le $((judged + jobs)) ] || failed=1
-echo "$judged judged runs, killed at $at: rows ${rows% *}, twice ${rows#* }, begun $(begun): $(tail -n 1 "$work/said")"
+measure "1 replay" "$root/examples/two-disks.trace" 1 ""
+cp "$work/latest" "$work/one"
+measure "$replays repeats" "$root/examples/two-disks.trace" "$replays" "repeats = $replays"
+measure "$replays settings" "$root/examples/two-disks.trace" "$replays" "$(rates 1000 "$replays")"
+cat "$work/one" "$work/latest" | tr '\n' ' ' | awk -v jobs="$jobs" -v many="$replays" '{
+    printf "a study of one replay takes %.2f s more than it, and each further replay %.2f ms of a processor more\n",
+        $2 - $1, 1000 * jobs * (($4 - $2) - ($3 - $1)) / (many - 1) }'
+rate=$(awk '$1 == "device" && $2 == 0 { print $3 }' "$slow")
+measure "$slows settings of $(basename "$slow")" "$slow" "$slows" "$(rates "$rate" "$slows")"
 exit $failed

@@ -14,5 +14,5 @@
     words       the word of `tools/wb` that does one job: job
 
 A folder of jobs has `plan.json` and the inputs, `done/N.rows` of each job that is done, `done/N.part` of one that isn't, `said/` with what
-jobs print, `jobs.list` and `jobs.log`.
+jobs print, `jobs.list` and `jobs.log`. `program-MACHINE.json` is what a machine has found of its program.
 """

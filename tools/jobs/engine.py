@@ -2,7 +2,6 @@
 from __future__ import annotations
 
 import os
-import secrets
 import shlex
 import shutil
 import signal
@@ -13,14 +12,17 @@ from collections.abc import Iterator
 from contextlib import contextmanager
 from dataclasses import dataclass
 
-from program.errors import NotThere
+from program.errors import NotThere, WriteFault
 
 from . import files, hosts, joblog, listing
 from .kinds import Row
+from .origin import ROOT
 from .plan import Plan
 from .watching import watched
 
 SAID = "said"
+HOME = os.path.join(ROOT, "out", "parallel")
+
 DEATH_OF_PARENT = 1
 """The option of prctl by which a process gets a signal where its parent ends."""
 
@@ -48,7 +50,7 @@ class Said:
     def new(folder: str) -> Said:
         """That of a new call."""
         os.makedirs(os.path.join(folder, SAID), exist_ok=True)
-        return Said.of(os.path.join(folder, SAID, f"{time.time_ns()}-{secrets.token_hex(4)}"))
+        return Said.of(os.path.join(folder, SAID, f"{time.time_ns()}-{os.urandom(4).hex()}"))
 
     @staticmethod
     def of(stem: str) -> Said:
@@ -79,7 +81,7 @@ def carry_out(folder: str, planned: Plan, how: How) -> list[str]:
         with watched(folder, planned, said.rows):
             if parallel:
                 with parted(folder, planned, how) as words:
-                    hand_over([parallel, *common(folder, how), *words], folder, said)
+                    hand_over([parallel, *common(folder, how), *words], home(folder, how), said)
             else:
                 print(f"wb: GNU parallel isn't there ({DEBIAN}): one job after another", file=sys.stderr)
                 one_by_one(folder, planned, said, how.retries)
@@ -121,11 +123,21 @@ def parted(folder: str, planned: Plan, how: How) -> Iterator[list[str]]:
         yield ["--sshloginfile", logins, "-a", path]
 
 
-def hand_over(words: list[str], folder: str, said: Said) -> None:
+def home(folder: str, how: How) -> str:
+    """Where GNU parallel keeps what it has found out of a machine, which takes as long as its start: for this one in `out/`."""
+    for path in [HOME] * (how.hosts is None) + [os.path.join(folder, "parallel")]:
+        try:
+            os.makedirs(path, exist_ok=True)
+        except OSError:
+            continue
+        if os.access(path, os.W_OK):
+            return path
+    raise WriteFault(path)
+
+
+def hand_over(words: list[str], home: str, said: Said) -> None:
     """Runs GNU parallel to its end. It begins no more jobs where this process has gone."""
-    environment = {**os.environ, "PARALLEL_SHELL": "/bin/sh", "PARALLEL_HOME": os.path.join(folder, "parallel"),
-                   "PARALLEL_SSH": shlex.join(hosts.ssh())}
-    os.makedirs(environment["PARALLEL_HOME"], exist_ok=True)
+    environment = {**os.environ, "PARALLEL_SHELL": "/bin/sh", "PARALLEL_HOME": home, "PARALLEL_SSH": shlex.join(hosts.ssh())}
     with open(said.rows, "wb") as rows, open(said.errors, "wb") as errors:
         process = subprocess.Popen(words, stdin=subprocess.DEVNULL, stdout=rows, stderr=errors, env=environment, preexec_fn=end_with_parent)
         try:

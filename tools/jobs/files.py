@@ -8,15 +8,19 @@ from __future__ import annotations
 import fcntl
 import json
 import os
-from collections.abc import Iterable, Iterator
 from contextlib import contextmanager
-from typing import BinaryIO
 
 from program.output import writing
 
-from .kinds import Row
+TYPE_CHECKING = False
+if TYPE_CHECKING:
+    from collections.abc import Iterable, Iterator
+    from typing import BinaryIO
+
+    from .kinds import Row
 
 DONE, RUN = "done", "run"
+ENCODER = json.JSONEncoder(separators=(",", ":"))
 
 
 def done_path(folder: str, job: int) -> str:
@@ -44,7 +48,7 @@ def rows_of(data: bytes, wanted: range) -> dict[int, Row]:
 
 def line_of(row: Row) -> bytes:
     """A row as a line."""
-    return json.dumps(row, separators=(",", ":")).encode("ascii") + b"\n"
+    return ENCODER.encode(row).encode("ascii") + b"\n"
 
 
 def read(path: str) -> bytes:

@@ -5,16 +5,12 @@ is another, is named and left out.
 """
 from __future__ import annotations
 
-import io
 import os
 import re
-import secrets
 import shlex
 import subprocess
 import sys
-import tarfile
 from collections.abc import Iterator
-from concurrent.futures import ThreadPoolExecutor
 from contextlib import contextmanager
 from dataclasses import dataclass
 
@@ -76,8 +72,10 @@ def host_of(line: str) -> Host:
 @contextmanager
 def placed(path: str, folder: str, planned: plan.Plan, there: str) -> Iterator[tuple[str, str]]:
     """A file of the hosts that are ready, and the folder of the inputs on each of them."""
+    from concurrent.futures import ThreadPoolExecutor
+
     named = read_hosts(path)
-    at = f"/tmp/wbsim-jobs-{secrets.token_hex(8)}"
+    at = f"/tmp/wbsim-jobs-{os.urandom(8).hex()}"
     given = packed(folder, planned)
     with ThreadPoolExecutor(min(len(named), 32)) as pool:
         try:
@@ -98,6 +96,9 @@ def placed(path: str, folder: str, planned: plan.Plan, there: str) -> Iterator[t
 
 def packed(folder: str, planned: plan.Plan) -> bytes:
     """The plan and the inputs as an archive."""
+    import io
+    import tarfile
+
     held = io.BytesIO()
     with tarfile.open(fileobj=held, mode="w") as archive:
         for name in [plan.FILE, *planned.inputs]:

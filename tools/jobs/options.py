@@ -84,6 +84,8 @@ def made(given: argparse.Namespace, planned: plan.Plan, folder: str, inputs: Map
         with held_text() as text:
             print(*(listing.rules if given.print_makefile else listing.lines)(folder, planned), sep="\n", file=text)
         return None
+    if found := origin.FOUND.get(planned.program.get("choice", "")):
+        origin.write_note(folder, planned.program["choice"], found)
     how = engine.How(given.jobs, given.hosts, os.path.abspath(given.there), given.retries)
     failed = engine.carry_out(folder, planned, how)
     for reason in failed[:MOST_NAMED]:

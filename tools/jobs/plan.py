@@ -3,26 +3,27 @@ from __future__ import annotations
 
 import json
 import os
-from dataclasses import asdict, dataclass, field
-from typing import Any
 
 from program.errors import OtherWords, ReadFault
 from program.output import writing
 
+TYPE_CHECKING = False
+if TYPE_CHECKING:
+    from typing import Any
+
 FILE = "plan.json"
 
 
-@dataclass(frozen=True)
 class Plan:
     """The kind of the runs and what it is told, the program, and the inputs beside the plan, by their names."""
 
-    kind: str
-    spec: dict[str, Any]
-    runs: int
-    runs_a_job: int
-    program: dict[str, str] = field(default_factory=dict)
-    is_any_program: bool = False
-    inputs: list[str] = field(default_factory=list)
+    def __init__(self, kind: str, spec: dict[str, Any], runs: int, runs_a_job: int, program: dict[str, str] | None = None,
+                 is_any_program: bool = False, inputs: list[str] | None = None) -> None:
+        self.kind, self.spec, self.runs, self.runs_a_job = kind, spec, runs, runs_a_job
+        self.program, self.is_any_program, self.inputs = program or {}, is_any_program, inputs or []
+
+    def __eq__(self, other: object) -> bool:
+        return isinstance(other, Plan) and self.__dict__ == other.__dict__
 
     @property
     def jobs(self) -> int:
@@ -38,7 +39,7 @@ class Plan:
         path = os.path.join(folder, FILE)
         with writing(path):
             with open(f"{path}.new", "w", encoding="ascii") as file:
-                json.dump(asdict(self), file, indent=1)
+                json.dump(self.__dict__, file)
             os.replace(f"{path}.new", path)
 
 

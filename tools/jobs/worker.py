@@ -4,14 +4,19 @@ from __future__ import annotations
 import os
 import sys
 import time
-from collections.abc import Callable, Iterable
-from typing import BinaryIO
 
 from program.errors import Error, NotThere, OtherWords
 from program.output import writing
 
 from . import files, origin, plan
-from .kinds import Maker, Row, maker
+from .kinds import maker
+
+TYPE_CHECKING = False
+if TYPE_CHECKING:
+    from collections.abc import Callable, Iterable
+    from typing import BinaryIO
+
+    from .kinds import Maker, Row
 
 MOST_TOLD = 5
 """Runs that fail of which a job says why."""
@@ -43,10 +48,10 @@ def wanted(folder: str, job: int) -> plan.Plan:
     return planned
 
 
-def here(planned: plan.Plan) -> origin.Origin:
+def here(planned: plan.Plan, folder: str) -> origin.Origin:
     """The program on this machine, which is to be the plan's."""
     program = planned.program
-    found = origin.found(program["choice"])
+    found = origin.found_before(program["choice"], folder)
     if not planned.is_any_program and (found.version, found.sum) != (program["version"], program["sum"]):
         raise NotThere(f"{origin.host()} has another program: version {found.version}, sum {found.sum}; "
                        f"the plan's is version {program['version']}, sum {program['sum']}")
@@ -55,7 +60,7 @@ def here(planned: plan.Plan) -> origin.Origin:
 
 def write_rows(planned: plan.Plan, folder: str, job: int, had: Iterable[int], out: BinaryIO) -> None:
     """A line for each run that isn't there. Raises `NotThere` where a run has failed, after all others are made."""
-    program = here(planned)
+    program = here(planned, folder)
     make = maker(planned.kind, planned.spec, folder, program.words)
     about = {"host": origin.host(), "version": program.version, "sum": program.sum}
     failed = each_run(make, [run for run in planned.runs_of(job) if run not in had], lambda row: put(out, {**row, **about}))

@@ -21,6 +21,8 @@ a run over threads is lawful for its trace says `wbsim audit`. A journal is read
     check_steps   which step is the last of a check
     moments       at which moment a step was made
     bound         the bound of a domain, where a journal has no steps that say it
+    step_sums     what the steps of a long journal come to, without an event for each
+    figures       what a table of runs needs of a journal, without an event for each line
     summary       by task, by device, by domain
     summary_text  that as tables to read
     summary_json  that for other programs

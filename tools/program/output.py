@@ -2,14 +2,15 @@
 from __future__ import annotations
 
 import os
-import shutil
 import sys
-import tempfile
-from collections.abc import Iterator
 from contextlib import contextmanager
-from typing import TextIO
 
 from .errors import OtherWords, WriteFault
+
+TYPE_CHECKING = False
+if TYPE_CHECKING:
+    from collections.abc import Iterator
+    from typing import TextIO
 
 MOST_HELD = 1 << 22
 """Characters of a text that are held in memory; the rest waits in a temporary file."""
@@ -29,6 +30,9 @@ def writing(name: str) -> Iterator[None]:
 @contextmanager
 def held_text() -> Iterator[TextIO]:
     """A text that goes to standard output when the block has ended well, and nowhere else."""
+    import shutil
+    import tempfile
+
     with tempfile.SpooledTemporaryFile(MOST_HELD, mode="w+", encoding="utf-8", errors="surrogateescape", newline="\n") as held:
         yield held  # type: ignore[misc]
         with writing("standard output"):
@@ -51,6 +55,8 @@ class Staging:
         self._names: list[str] = []
 
     def __enter__(self) -> Staging:
+        import tempfile
+
         with writing(self.directory):
             self._is_new = not os.path.isdir(self.directory)
             if self._is_new:
@@ -59,6 +65,8 @@ class Staging:
         return self
 
     def __exit__(self, *what: object) -> None:
+        import shutil
+
         shutil.rmtree(self._work, ignore_errors=True)
         if what[0] is not None and self._is_new:
             shutil.rmtree(self.directory, ignore_errors=True)

@@ -1,18 +1,16 @@
 """The words of the program, each with its module."""
 from __future__ import annotations
 
-from dataclasses import dataclass
+from typing import NamedTuple
 
 
-@dataclass(frozen=True)
-class Word:
-    """A word: its name, the module that has `add` and `run`, and what it does, for the help."""
+class Word(NamedTuple):
+    """A word: its name, the module that has `add` and `run`, what it does, for the help, and its parts that take a command after `--`."""
 
     name: str
     module: str
     about: str
     commands: tuple[str, ...] = ()
-    """Its parts that take a command after `--`."""
 
 
 WORDS = (

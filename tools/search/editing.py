@@ -2,21 +2,21 @@
 from __future__ import annotations
 
 import re
-from collections.abc import Callable
-from dataclasses import dataclass
+from collections import namedtuple
 
 from program.errors import OtherWords
+
+TYPE_CHECKING = False
+if TYPE_CHECKING:
+    from collections.abc import Callable
 
 SETTINGS = ("dirty_ratio", "dirty_background_ratio", "dirty_bytes", "dirty_background_bytes")
 ORDERS = ("order", "tick")
 
 
-@dataclass(frozen=True)
-class Parameter:
+class Parameter(namedtuple("Parameter", "name unit change")):
     """What is changed: its name, its unit, and how a trace's lines are with another value of it."""
 
-    name: str
-    unit: str
     change: Callable[[list[list[str]], int], list[list[str]]]
 
     def changed(self, text: str, value: int) -> str:

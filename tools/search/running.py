@@ -2,37 +2,29 @@
 from __future__ import annotations
 
 import os
-from dataclasses import dataclass, fields
-from typing import BinaryIO
+from collections import namedtuple
 
-from journals.reader import Reader
-from journals.source import HeldSource
-from journals.step_sums import StepSums, cut, sums
-from journals.summary import Summary
-from journals.trace import Trace
-from journals.trace_reader import trace_of
-from journals.whole_text import WholeText
 from program.errors import NotThere
+
+TYPE_CHECKING = False
+if TYPE_CHECKING:
+    from mmap import mmap
+    from typing import Any, BinaryIO
+
+    from journals.trace import Trace
+
+LONG = 1 << 20
+"""Bytes of the longest journal that is copied."""
 
 SPENT = 7
 """The status of a run that had made the most steps: its journal is whole."""
 
 
-@dataclass(frozen=True)
-class Measured:
+class Measured(namedtuple("Measured", "pauses paused longest waits pages ticks greatest bound distance ending")):
     """What a run came to. Pages, ticks; the pages a second are those of the whole run. Of a run over threads, whose journal has no steps,
     the greatest count is one that a check read, and the distance is to that."""
 
-    pauses: int
-    paused: int
-    longest: int
-    waits: int
-    pages: int
-    ticks: int
-    greatest: int
-    bound: int
-    distance: int
-    ending: str
+    __slots__ = ()
 
     @property
     def throughput(self) -> float:
@@ -50,42 +42,47 @@ def row(it: Measured) -> list[str]:
                                      it.greatest, it.bound, it.distance, it.ending)]
 
 
-def of_row(values: dict[str, object]) -> Measured:
+def of_row(values: dict[str, Any]) -> Measured:
     """The same from a row that has its fields among others."""
-    return Measured(**{it.name: values[it.name] for it in fields(Measured)})  # type: ignore[arg-type]
+    return Measured(*[values[name] for name in Measured._fields])
 
 
 def read(name: str, text: str) -> Trace:
     """The trace of a text. Raises `Fault` where it is none."""
+    from journals.trace_reader import trace_of
+    from journals.whole_text import WholeText
+
     return trace_of(WholeText(name, text.encode("latin-1")))
 
 
 class Runner:
-    """Runs traces, one after another, by one program. A journal that came before of the same trace isn't read again."""
+    """Runs traces, one after another, by one program: these were read before, so that the program refuses none. A short journal that came before
+    of the same trace isn't read again."""
 
     def __init__(self, words: list[str]) -> None:
         self.words = words
         self.given, self.journal, self.said = (in_memory(name) for name in ("trace", "journal", "said"))
         self.text: str | None = None
-        self.trace: Trace | None = None
-        self.known: dict[bytes, Measured] = {}
+        self.known: tuple[bytes, Measured] | None = None
+        self.environment = dict(os.environb)
 
-    def run(self, name: str, text: str) -> tuple[Measured, bytes]:
+    def run(self, name: str, text: str) -> tuple[Measured, bytes | mmap]:
         """What the run of a trace came to, and its journal."""
         if text != self.text:
-            self.trace, self.text, self.known = read(name, text), text, {}
+            self.text, self.known = text, None
             self.given.seek(0)
             self.given.truncate()
             self.given.write(text.encode("latin-1"))
         status = self.spawned()
         if status not in (0, SPENT):
-            said = content(self.said).decode("latin-1").strip().splitlines()
+            said = content(self.said)[:].decode("latin-1").strip().splitlines()
             raise NotThere(f"{name}: {self.words[0]} ended with {status}: {said[-1] if said else 'it said nothing'}")
         journal = content(self.journal)
-        if journal not in self.known:
-            assert self.trace
-            self.known = {journal: measured(name, self.trace, journal)}
-        return self.known[journal], journal
+        if isinstance(journal, bytes):
+            if self.known is None or self.known[0] != journal:
+                self.known = journal, measured(name, text, journal)
+            return self.known[1], journal
+        return measured(name, text, journal), journal
 
     def spawned(self) -> int:
         """The status of the program, whose texts are files: a pipe would have to be served."""
@@ -95,7 +92,7 @@ class Runner:
         self.given.seek(0)
         ends = [(os.POSIX_SPAWN_DUP2, file.fileno(), end) for end, file in enumerate((self.given, self.journal, self.said))]
         try:
-            process = os.posix_spawn(self.words[0], self.words, os.environ, file_actions=ends)
+            process = os.posix_spawn(self.words[0], self.words, self.environment, file_actions=ends)
         except OSError as error:
             raise NotThere(f"{self.words[0]} can't be run: {error.strerror or error}") from error
         return os.waitstatus_to_exitcode(os.waitpid(process, 0)[1])
@@ -106,39 +103,35 @@ def in_memory(name: str) -> BinaryIO:
     return open(os.memfd_create(name), "w+b", buffering=0)
 
 
-def content(file: BinaryIO) -> bytes:
-    """What a program has written into a file."""
+def content(file: BinaryIO) -> bytes | mmap:
+    """What a program has written into a file. What is long isn't copied, and is there until the file is written again."""
+    size = file.seek(0, os.SEEK_END)
+    if size > LONG:
+        import mmap
+
+        return mmap.mmap(file.fileno(), size, access=mmap.ACCESS_READ)
     file.seek(0)
     return file.read()
 
 
-def measured(name: str, trace: Trace, journal: bytes) -> Measured:
-    """What a journal says of the global domain and of all tasks."""
-    lines, steps = cut(journal)
-    summary = Summary(trace)
-    for event in Reader(name, trace, HeldSource(name, lines)).events():
-        summary.take(event)
+def measured(name: str, text: str, journal: bytes) -> Measured:
+    """What a journal of a trace says of the global domain and of all tasks."""
+    from journals.figures import figures
+
     try:
-        return figures(summary, sums(steps), opening(lines))
+        it = figures(text, journal)
     except ValueError as error:
         raise NotThere(f"{name}: its journal is none: {error}") from error
+    if it.steps:
+        greatest, bound, distance = it.steps.greatest, it.steps.bound, it.steps.distance
+    else:
+        greatest, bound = it.read, it.hard + fixed_bound_of(read(name, text))
+        distance = bound - greatest
+    return Measured(it.pauses, it.paused, it.longest, it.waits, it.pages, it.latest - it.begin + 1, greatest, bound, distance, it.ending)
 
 
-def opening(journal: bytes) -> int:
-    """The first moment: that of the first limits."""
-    return int(journal.split(b"\n", 2)[1].split(b" ")[2])
+def fixed_bound_of(trace: Trace) -> int:
+    """The bound of the global domain without its greatest hard limit."""
+    from journals.bound import fixed_bound
 
-
-def figures(summary: Summary, steps: StepSums | None, begin: int) -> Measured:
-    """The numbers of a summary and of the steps."""
-    from journals.events import Decision
-
-    domain, tasks = summary.domains[0], summary.tasks
-    assert summary.totals and summary.ending
-    greatest = steps.greatest if steps else domain.greatest_read or 0
-    bound = steps.bound if steps else summary.bound(0)
-    return Measured(
-        pauses=sum(task.pauses for task in tasks), paused=sum(task.paused for task in tasks),
-        longest=max((task.longest_pause for task in tasks), default=0), waits=sum(task.checks[Decision.WAIT] for task in tasks),
-        pages=summary.totals.done, ticks=summary.latest - begin + 1, greatest=greatest, bound=bound,
-        distance=steps.distance if steps else bound - greatest, ending=summary.ending.value)
+    return fixed_bound(trace, 0)

@@ -1,20 +1,21 @@
 """The runs of a study by their numbers: the repeats of a setting stand together, and the settings of a trace."""
 from __future__ import annotations
 
-from collections.abc import Iterator
-from dataclasses import dataclass
-from typing import Any
+from collections import namedtuple
+from itertools import product
 
 from search.editing import parameter
 
+TYPE_CHECKING = False
+if TYPE_CHECKING:
+    from collections.abc import Iterator
+    from typing import Any
 
-@dataclass(frozen=True)
-class Point:
+
+class Point(namedtuple("Point", "trace values repeat")):
     """A run: which trace, the values of the parameters in their order, and which repeat."""
 
-    trace: int
-    values: tuple[int, ...]
-    repeat: int
+    __slots__ = ()
 
 
 def point_of(spec: dict[str, Any], run: int) -> Point:
@@ -30,6 +31,12 @@ def point_of(spec: dict[str, Any], run: int) -> Point:
 def settings(spec: dict[str, Any], runs: int) -> Iterator[Point]:
     """The first repeat of each trace with each setting."""
     return (point_of(spec, run) for run in range(0, runs, spec["repeats"]))
+
+
+def corners(spec: dict[str, Any]) -> Iterator[Point]:
+    """Of each trace the settings with the least or the greatest value of each parameter."""
+    ends = [sorted({min(values), max(values)}) for _, values in spec["over"]]
+    return (Point(trace, values, 0) for trace in range(len(spec["traces"])) for values in product(*ends))
 
 
 def changed(spec: dict[str, Any], text: str, values: tuple[int, ...]) -> str:

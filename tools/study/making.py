@@ -1,16 +1,17 @@
 """A run of a study: its trace is made, run, and measured."""
 from __future__ import annotations
 
-import base64
 import os
-import zlib
-from dataclasses import asdict
-from typing import Any
 
-from jobs.kinds import Maker, Row
 from search.running import Runner
 
 from .grid import changed, name_of, point_of
+
+TYPE_CHECKING = False
+if TYPE_CHECKING:
+    from typing import Any
+
+    from jobs.kinds import Maker, Row
 
 JOURNALS, TRACES = "journals", "traces"
 
@@ -31,7 +32,7 @@ def maker(spec: dict[str, Any], folder: str, words: list[str]) -> Maker:
             made.clear()
             made[setting] = changed(spec, texts[point.trace], point.values)
         it, journal = runner.run(name_of(spec, point), made[setting])
-        row: Row = asdict(it)
+        row: Row = it._asdict()
         if JOURNALS in spec["keep"]:
             row["kept journal"] = packed(journal)
         if TRACES in spec["keep"]:
@@ -48,9 +49,15 @@ def takes_command(words: list[str]) -> bool:
 
 def packed(data: bytes) -> str:
     """A text as one word of a row."""
+    import base64
+    import zlib
+
     return base64.b64encode(zlib.compress(data, 1)).decode("ascii")
 
 
 def unpacked(word: str) -> bytes:
     """The text again."""
+    import base64
+    import zlib
+
     return zlib.decompress(base64.b64decode(word))

@@ -105,6 +105,16 @@ class Work(WithJobs):
         worker.do(self.directory, 1)
         self.assertEqual(self.squares(1, range(7)), [0, 1, 4])
 
+    def test_a_machine_is_asked_once_for_its_program(self) -> None:
+        path = self.file("program", "#!/bin/sh\n")
+        os.chmod(path, 0o755)
+        first = origin.found_before(path, self.directory)
+        with mock.patch.object(origin, "looked_for", side_effect=AssertionError):
+            self.assertEqual(origin.found_before(path, self.directory).__dict__, first.__dict__)
+        with open(path, "a", encoding="ascii") as file:
+            file.write("exit 0\n")
+        self.assertNotEqual(origin.found_before(path, self.directory).sum, first.sum, "a binary that has changed is looked at anew")
+
     def test_who_comes_second_waits_and_makes_nothing(self) -> None:
         self.plan()
         with files.part(self.directory, 1) as part:

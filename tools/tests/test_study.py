@@ -14,14 +14,17 @@ from importlib.util import find_spec
 from unittest import mock
 
 from jobs import engine
-from journals import picture
+from journals import picture, step_sums
+from journals.events import Decision
+from journals.figures import figures
 from journals.reader import Reader
-from journals.step_sums import cut, sums
+from journals.step_sums import steps_of, sums
 from journals.summary import Summary
 from journals.trace_reader import read_trace, trace_of
 from journals.whole_text import WholeText
-from program.errors import Error, OtherWords
-from search.running import measured
+from program.errors import Error, Fault, OtherWords
+from search.editing import parameter
+from search.running import measured, read
 from study.grid import changed, name_of, point_of, settings
 from study.reading import Refused, read_study, runs_of, study_of
 from study.spread import Spread, at, spreads
@@ -112,8 +115,8 @@ class Sums(unittest.TestCase):
             summary = Summary(read_trace(trace))
             for event in Reader(journal, summary.trace).events():
                 summary.take(event)
-            _, steps = cut(content(journal).encode())
-            found, domain = sums(steps), summary.domains[0]
+            text = content(journal).encode()
+            found, domain = sums(text, *steps_of(text)), summary.domains[0]
             if summary.steps:
                 self.assertEqual((found.steps, found.greatest, found.bound, found.distance),
                                  (summary.steps, domain.greatest, domain.bound_there, domain.least_distance), journal)
@@ -122,15 +125,59 @@ class Sums(unittest.TestCase):
             compared += 1
         self.assertGreater(compared, 20)
 
+    def test_they_are_the_same_where_steps_are_passed_over(self) -> None:
+        for trace, journal in examples():
+            text = content(journal).encode()
+            whole = sums(text, *steps_of(text))
+            with mock.patch.object(step_sums, "LEAF", 64):
+                self.assertEqual(sums(text, *steps_of(text)), whole, journal)
+
+    def test_what_is_measured_is_what_the_events_say(self) -> None:
+        for trace, journal in examples():
+            if os.path.getsize(journal) > 60_000:
+                continue
+            summary = Summary(read_trace(trace))
+            for event in Reader(journal, summary.trace).events():
+                summary.take(event)
+            it, tasks = figures(content(trace), content(journal).encode()), summary.tasks
+            self.assertEqual((it.pauses, it.paused, it.longest, it.waits), (
+                sum(task.pauses for task in tasks), sum(task.paused for task in tasks), max((task.longest_pause for task in tasks), default=0),
+                sum(task.checks[Decision.WAIT] for task in tasks)), journal)
+            self.assertEqual((it.pages, it.latest, it.ending, it.hard), (
+                summary.totals.done, summary.latest, summary.ending.value, summary.domains[0].greatest_hard), journal)
+
+    def test_what_is_no_journal(self) -> None:
+        text = content(os.path.join(EXAMPLES, "fold.journal"))
+        for other in ("", text[:-5], text.replace("timer\n", "", 1), text.replace("\nstep 1 ", "\nstep 2 ")):
+            with self.assertRaises(ValueError):
+                figures(content(FOLD), other.encode())
+
+    def test_the_values_that_a_trace_may_have_stand_together(self) -> None:
+        for name in ("cpus", "tasks", "cap", "avail", "device-0", "expire-0", "dirty_ratio", "dirty_bytes"):
+            reads = []
+            for value in (0, 1, 2, 3, 64, 65, 100, 101, 256, 257, 1024, 2000, 100000, 100001, 2**20, 2**20 + 1, 2**40, 2**48, 2**49):
+                if name == "tasks" and value > 257:
+                    break
+                try:
+                    read("trace", parameter(name).changed(content(FOLD), value))
+                    reads.append(True)
+                except Fault:
+                    reads.append(False)
+            changes = sum(one != other for one, other in zip(reads, reads[1:]))
+            self.assertLessEqual(changes, 2 - reads[0], name)
+            self.assertIn(True, reads)
+
     def test_a_line_that_is_no_step(self) -> None:
         with self.assertRaises(ValueError):
-            sums(b"step 1 0 dirty 1 9\nstep 2 0 dirty 1\nstep 3 0 dirty 1 9\n")
+            text = b"step 1 0 dirty 1 9\nstep 2 0 dirty 1\nstep 3 0 dirty 1 9\n"
+            sums(text, 0, len(text))
 
     def test_a_run_over_threads_has_no_steps(self) -> None:
-        trace = read_trace(os.path.join(EXAMPLES, "two-pages.trace"))
-        lines, _ = cut(content(os.path.join(EXAMPLES, "two-pages.journal")).encode())
-        text = lines.replace(b"steps\n", b"").replace(b"limits 0 1 ", b"limits 0 147 ").replace(b"batch 0 2 1 2", b"batch 0 2 317 318")
-        it = measured("run", trace, text)
+        text = content(os.path.join(EXAMPLES, "two-pages.journal")).encode()
+        first, end = steps_of(text)
+        lines = (text[:first] + text[end:]).replace(b"steps\n", b"")
+        text = lines.replace(b"limits 0 1 ", b"limits 0 147 ").replace(b"batch 0 2 1 2", b"batch 0 2 317 318")
+        it = measured("run", content(os.path.join(EXAMPLES, "two-pages.trace")), text)
         self.assertEqual((it.pages, it.ticks, it.greatest, it.bound, it.distance), (2, 172, 0, 21067, 21067))
 
 

@@ -1,12 +1,14 @@
 """`wb job`: one job of a folder of jobs."""
 from __future__ import annotations
 
-import argparse
-
 from program.errors import Error, OtherWords
 from program.statuses import Status
 
 from .. import plan, worker
+
+TYPE_CHECKING = False
+if TYPE_CHECKING:
+    import argparse
 
 
 def add(command: argparse.ArgumentParser) -> None:
@@ -20,7 +22,7 @@ def add(command: argparse.ArgumentParser) -> None:
 def run(given: argparse.Namespace) -> Status:
     """Does it."""
     if given.check:
-        worker.here(plan.load(given.folder))
+        worker.here(plan.load(given.folder), given.folder)
         return Status.GOOD
     if given.job is None:
         raise OtherWords("which job is not said")

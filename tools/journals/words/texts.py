@@ -3,9 +3,10 @@ from __future__ import annotations
 
 import argparse
 
-from ..reader import Reader
-from ..trace import Trace
-from ..trace_reader import read_trace
+TYPE_CHECKING = False
+if TYPE_CHECKING:
+    from ..reader import Reader
+    from ..trace import Trace
 
 
 def add_texts(command: argparse.ArgumentParser) -> None:
@@ -22,5 +23,8 @@ def add_directory(command: argparse.ArgumentParser) -> None:
 
 def opened(given: argparse.Namespace) -> tuple[Trace, Reader]:
     """The trace, and the journal that is to be read."""
+    from ..reader import Reader
+    from ..trace_reader import read_trace
+
     trace = read_trace(given.trace)
     return trace, Reader(given.journal, trace)

@@ -4,17 +4,19 @@ from __future__ import annotations
 import argparse
 import csv
 import os
+from collections.abc import Iterable
+from typing import Any
 
 from jobs import options
 from jobs.kinds import Row
 from jobs.plan import Plan
 from journals.words.texts import add_directory
-from program.errors import OtherWords
+from program.errors import Error, OtherWords
 from program.output import Staging, publish
 from program.statuses import Status
 from search.running import read
 
-from ..grid import changed, name_of, settings
+from ..grid import Point, changed, corners, name_of, settings
 from ..making import unpacked
 from ..reading import Study, read_study, runs_of
 from ..table import head, lines
@@ -46,11 +48,22 @@ def run(given: argparse.Namespace) -> Status:
 
 
 def plan_of(given: argparse.Namespace, study: Study) -> Plan:
-    """The plan of its jobs. A setting whose trace is refused stops all before any is run."""
+    """The plan of its jobs. A setting whose trace is refused stops all before any is run: the values of a parameter that a trace may have are
+    all those between a least and a greatest one, so that the corners of the grid are read, and where one is refused all in their order."""
     spec, runs = study.spec(), runs_of(study)
-    for point in settings(spec, runs):
-        read(name_of(spec, point), changed(spec, study.traces[point.trace].data.decode("latin-1"), point.values))
+    try:
+        read_all(study, spec, corners(spec))
+    except Error:
+        read_all(study, spec, settings(spec, runs))
+        raise
     return Plan("study", spec, runs, options.runs_a_job(given, runs), options.program(given), given.any_program, list(study.inputs()))
+
+
+def read_all(study: Study, spec: dict[str, Any], points: Iterable[Point]) -> None:
+    """Reads the traces of some settings. Raises `Fault` at the first that is none."""
+    texts = [it.data.decode("latin-1") for it in study.traces]
+    for point in points:
+        read(name_of(spec, point), changed(spec, texts[point.trace], point.values))
 
 
 def write(given: argparse.Namespace, planned: Plan, rows: list[Row]) -> None:
