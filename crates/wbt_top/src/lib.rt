@@ -13,7 +13,7 @@
 //! let list = vec![in alloc; String::from_str(alloc, "replay")?]?;
 //! let words = Words { list: Items::from_vec(list) };
 //! assert_eq!(rt; route(&words), Route::Plain);
-//! let bytes = b"cpus 1\navail 0 100000\n".to_vec(alloc)?;
+//! let bytes = "cpus 1\navail 0 100000\n".as_bytes().to_vec(alloc)?;
 //! let mut source = MemSource::make(bytes, 4096, Vec::new(alloc));
 //! let mut sink = MemSink::make(alloc, 4096, 4096, Vec::new(alloc))?;
 //! let status = plain_top(alloc, &words, &mut source, &mut sink);

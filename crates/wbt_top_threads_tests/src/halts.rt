@@ -15,9 +15,9 @@ use wbt_top::Status;
 // The bound of the trace's one domain, in pages.
 const BOUND: u64 = 22235;
 
-// The text of the ordered run in which each CPU is stopped after so many steps.
-fn replay_halted(alloc: Global, halt: u64) -> Result<(Status, Vec<u8>), Fail> {
-    let text = format!(in alloc; "{THREE_CPUS}halt {halt}\n")?;
+// The text of the ordered run of a trace in which each CPU is stopped after so many steps.
+fn replay_halted(alloc: Global, trace: &str, halt: u64) -> Result<(Status, Vec<u8>), Fail> {
+    let text = format!(in alloc; "{trace}halt {halt}\n")?;
     let done = run_whole(alloc, "replay", text.as_bytes().to_vec(alloc)?)?;
     Ok((done.status, done.held))
 }
@@ -41,7 +41,7 @@ fn run_halted<H: Threads + Wait + Sync>(
 
 // The row of the table: both end well, add up, and write alike.
 fn is_row<H: Threads + Wait + Sync>(rt: &H, alloc: Global, halt: u64) -> Result<bool, Fail> {
-    let (replayed, in_order) = replay_halted(alloc, halt)?;
+    let (replayed, in_order) = replay_halted(alloc, THREE_CPUS, halt)?;
     let (ran, beside) = run_halted(rt, alloc, halt)?;
     Ok(
         replayed == Status::Good

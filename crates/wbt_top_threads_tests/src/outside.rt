@@ -61,34 +61,46 @@ fn the_drain_rests_until_the_first_flusher_is_ready(rt: HostRuntime) -> Result<(
     Ok(())
 }
 
+// A run of which the writes from one to another fail: its status, and the faults that its rack counted.
+fn run_failing<H: Threads + Wait + Sync>(
+    rt: &H,
+    alloc: Global,
+    first: u64,
+    last: u64,
+) -> Result<(Status, u64), Fail> {
+    let mut fails = Vec::new(alloc);
+    for write in first..=last {
+        fails.push(write)?;
+    }
+    let mut rack = FaultyRack::make(fails);
+    let done = call(
+        rt,
+        alloc,
+        &calm(&["run"], SLOW_AND_FAST),
+        &HandClock::make(1),
+        &FreeGate,
+        &mut rack,
+    )?;
+    Ok((done.status, rack.fault_count()))
+}
+
+// The first write that fails and the last, the faults, and the status.
+static FAILING: [(u64, u64, u64, Status); 7] = [
+    (1, 1, 2, Status::Good),
+    (2, 2, 1, Status::Good),
+    (3, 3, 0, Status::Good),
+    (1, 7, 14, Status::Good),
+    (2, 8, 7, Status::Good),
+    (1, 8, 16, Status::DiskFault),
+    (2, 9, 8, Status::DiskFault),
+];
+
 // Flusher 0 hands two batches over, and flusher 1 one. The first of these writes fails, and so many after it.
 #[test]
 fn a_run_is_faulted_exactly_where_a_disk_fails_eight_times(rt: HostRuntime) -> Result<(), Fail> {
-    let alloc = rt.alloc();
-    for (first, last, faults, status) in [
-        (1, 1, 2, Status::Good),
-        (2, 2, 1, Status::Good),
-        (3, 3, 0, Status::Good),
-        (1, 7, 14, Status::Good),
-        (2, 8, 7, Status::Good),
-        (1, 8, 16, Status::DiskFault),
-        (2, 9, 8, Status::DiskFault),
-    ] {
-        let mut fails = Vec::new(alloc);
-        for write in first..=last {
-            fails.push(write)?;
-        }
-        let mut rack = FaultyRack::make(fails);
-        let done = call(
-            &rt,
-            alloc,
-            &calm(&["run"], SLOW_AND_FAST),
-            &HandClock::make(1),
-            &FreeGate,
-            &mut rack,
-        )?;
-        assert_eq!(rt; done.status, status, "writes {first} to {last} fail");
-        assert_eq!(rt; rack.fault_count(), faults, "writes {first} to {last} fail");
+    for (first, last, faults, status) in &FAILING {
+        let ended = run_failing(&rt, rt.alloc(), *first, *last)?;
+        assert_eq!(rt; ended, (*status, *faults), "writes {first} to {last} fail");
     }
     Ok(())
 }
