@@ -88,13 +88,13 @@ function sentence(input, told, by, rate, decision) {
 // The numbers behind it, a line for each domain and one for the pauses.
 function numbers(laws, { strict, check }, told, rate) {
   const lines = told.map((domain) => `${domain.name}: background ${domain.bg}, freerun ${domain.freerun}, setpoint ${domain.setpoint}, `
-    + `threshold and hard limit ${domain.hard}; of these its context's background ${domain.background} and threshold ${domain.wbThresh}; `
-    + `ratio ${domain.ratio}; one writer's bound ${laws.bound(domain.hard, CPUS, 1n, CAP, 1n)}`);
+    + `threshold and hard limit ${domain.hard}; the context's part: background ${domain.background}, threshold ${domain.wbThresh}; `
+    + `ratio ${domain.ratio}; bound with one writer ${laws.bound(domain.hard, CPUS, 1n, CAP, 1n)}`);
   const { pages, pause } = laws.leastPause(check.wbDirty, check.avg, check.ratelimit, rate);
-  lines.push(`pauses: of ${pause} to ${laws.longestPause(check.wbDirty, check.avg)} ms, and an allowance of ${pages} pages after one`);
+  lines.push(`a pause: ${pause} to ${laws.longestPause(check.wbDirty, check.avg)} ms, and an allowance of ${pages} pages after it`);
   if (strict) {
     const most = told.reduce((pages, { wbThresh }) => (wbThresh > pages ? wbThresh : pages), 0n);
-    lines.push(`the strict context: one writer's bound ${laws.strictContextBound(most, CPUS, 1n, CAP)}`);
+    lines.push(`the strict context: bound with one writer ${laws.strictContextBound(most, CPUS, 1n, CAP)}`);
   }
   return lines.join("\n");
 }
