@@ -1,0 +1,5 @@
+pub mod Setting
+pub mod At
+pub mod Moves
+pub mod Loops
+pub mod Whole
