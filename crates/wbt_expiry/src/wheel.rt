@@ -38,8 +38,8 @@ impl Model for Wheel {
 }
 
 impl Wheel {
-    /// A wheel for the inodes below a number, that was told one moment, in ticks. No inode waits. It takes all the memory
-    /// that the wheel will need.
+    /// A wheel for the inodes below a number, that was told one moment, in ticks. No inode waits. No other call of a wheel is
+    /// handed an allocator.
     pub fn make(alloc: Global, inodes: u32, now: u64) -> Result<Wheel, NoMemory>
         requires { now < 2 ^ 62 }
         ensures pairs { IfOk result (λ wheel. wheel.pairs ≡ []) }

@@ -7,13 +7,13 @@
 //! What is taken of a device's queue is what was put into it, first in, first out. No clause can name what a shared queue
 //! holds, so each thread has a pass, which knows what it put and took itself. Between any two steps of any threads there is
 //! for each device one list of all puts and one of all takes: the takes followed by what waits are the puts, and each entry
-//! belongs to just one list that a pass knows. `Full` and `None` come only where the queue was full or empty at a moment of
-//! the call.
+//! belongs to just one list that a pass knows.
 //!
 //! A pass has stakes, 2^32 in all, and who has them all knows each put and each take. To such a pass `None` says that each
 //! number that was put was taken, and `Full` that all but as many as the queue holds were. To a pass with fewer stakes they
-//! tell less: its own entries are among all puts and takes of that moment, and of the others' entries nothing is named, so
-//! that they can't be held against it.
+//! say only that its own entries agree with a queue that is empty, or full, after puts and takes of others that nobody names.
+//! The code answers so where the toolchain's queue does, but no clause refuses one that answers so without a look. So the layers
+//! above conclude something of an empty queue only from a pass with all stakes.
 //!
 //! The layers above make a pass for each thread by `split`, which hands it a stake, and bring passes together by `join`: the
 //! lists of both are known then, each apart, and the stakes of both.

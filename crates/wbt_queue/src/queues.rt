@@ -89,8 +89,9 @@ impl Queues {
         merge_each(self.rings.as_slice(), &mut into.places, places);
     }
 
-    /// Puts an inode number behind all that wait for the device's flushers. Full comes only where the queue was full at a
-    /// moment of the call. It may wait for a thread that is stopped in the middle of its own put or take.
+    /// Puts an inode number behind all that wait for the device's flushers. Full says to a pass with all stakes that the queue
+    /// holds its size, and to any other that its own puts and takes agree with that. It may wait for a thread that is stopped in the
+    /// middle of its own put or take.
     ///
     /// Requires: a pass to these queues. The device exists.
     pub fn put<R: Wait>(
@@ -111,9 +112,9 @@ impl Queues {
         put_in(rt, &self.rings[at], &mut pass.places[at], inode)
     }
 
-    /// Takes the inode number that waited longest for the device's flushers. None comes only where the queue was empty at
-    /// a moment of the call: to a pass with all stakes it says that each number that was put was taken. It may wait for a
-    /// thread that is stopped in the middle of its own put or take.
+    /// Takes the inode number that waited longest for the device's flushers. None says to a pass with all stakes that each number
+    /// that was put was taken, and to any other that its own puts and takes agree with an empty queue. It may wait for a thread that
+    /// is stopped in the middle of its own put or take.
     ///
     /// Requires: a pass to these queues. The device exists.
     pub fn take<R: Wait>(&self, rt: &R, pass: &mut QueuePass, device: u32) -> Option<u32>

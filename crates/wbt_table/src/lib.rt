@@ -4,7 +4,7 @@
 //! `Throttle` has the words. A `CpuSeat` has the records of the CPUs that it holds: what they did, owe, hold and have
 //! loaded, as `wbt_grant` says. `make` gives one seat that holds all; `split` moves one CPU, or the timer, into a seat of its
 //! own, which another thread may take; `join` brings seats together, and `close` tells with a seat that holds all how the words
-//! stand. A call makes the steps that its documentation names, and no call but `make` and `split` takes memory. None waits.
+//! stand. A call makes the steps that its documentation names, and no call but `make` and `split` is handed an allocator. None waits.
 //!
 //! ```
 //! use wbt_io::FreeGate;
