@@ -115,7 +115,7 @@ class House:
             return call.requires
         shown = []
         for demand in call.demands:
-            named = [it for it in self.named_in(crate, call, demand) if self.specs[it[0]].found[it[1]].comment]
+            named = [it for it in self.named_in(crate, call, demand) if it in self.of_definition or self.specs[it[0]].found[it[1]].comment]
             short = len(demand) <= LONGEST_DEMAND or not named
             shown.append(f"`{demand}`" if short else ", ".join(link(crate, home, f"`{name}`") for home, name in named))
         return "; ".join(dict.fromkeys(shown))

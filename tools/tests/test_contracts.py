@@ -6,6 +6,7 @@ import tempfile
 import unittest
 
 from contracts.block import block, put_block
+from contracts.documents import claims_problems, map_problems
 from contracts.tables import House
 
 LIBRARY = '''\
@@ -267,6 +268,23 @@ class Contracts(unittest.TestCase):
         rows = self.rows()
         first = rows.index("| `laws::two` | `other` | Two. |")
         self.assertEqual(rows[first + 1], "| | `one` | It is whole. |")
+
+    def test_the_calls_that_claims_name(self) -> None:
+        self.put("docs/CLAIMS.md", "It opens [`boxes::Shape::{open, shut}`, `boxes_are_wide`,\n`boxes::laws`, `low`, `boxes::open_box`].\n\n"
+                                   "It is wide [`boxes::inner::unseen`, `no_law`], and [a link](#x).\n")
+        self.assertEqual(claims_problems(self.root, self.house()), [
+            "docs/CLAIMS.md: there is no call boxes::Shape::shut",
+            "docs/CLAIMS.md: there is no call no_law",
+        ])
+
+    def test_the_rows_of_the_map(self) -> None:
+        table = "## The crates\n\n| Crate | What it is |\n|---|---|\n{}\n## Glossary\n\n| `none` | none |\n"
+        self.put("docs/MAP.md", table.format("| `low` | low |\n| `boxes` | boxes |\n"))
+        self.assertEqual(map_problems(self.root), [])
+        self.put("docs/MAP.md", table.format("| `boxes` | boxes |\n| `low` | low |\n| `bags` | bags |\n"))
+        self.assertEqual(map_problems(self.root), ["docs/MAP.md: a row for bags, which is no crate", "docs/MAP.md: boxes above low, on which it depends"])
+        self.put("docs/MAP.md", table.format("| `boxes` | boxes |\n| `boxes` | boxes |\n"))
+        self.assertEqual(map_problems(self.root), ["docs/MAP.md: no rows for low", "docs/MAP.md: 2 rows for boxes"])
 
     def test_a_document_takes_what_is_printed(self) -> None:
         self.put("docs/PAGE.md", "Before.\n\n<!-- tools/x prints this -->\nold\n<!-- to here -->\n\nAfter.\n")
