@@ -60,7 +60,7 @@ class Sums(WithDirectory):
         self.command("bin/python3", "exit 0")
         self.command("bin/cc", "exit 0")
         self.command("kit/rt", "exit 0")
-        self.command("wbsim", "echo 'wbsim: this run is not proved' >&2")
+        self.command("wbsim", "echo 'wbsim: unproved' >&2")
         self.command("tools/check-runs", '[ "$1" != --subjects ] || { echo one two; exit; }\necho "skipped: $*: x"\necho "1 passed, 0 failed, 1 skipped"')
         self.command("tools/check-layout", "echo '2 passed, 0 failed'")
         self.command("tools/check-tools", "echo '3 passed, 0 failed, 0 skipped'")
