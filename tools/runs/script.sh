@@ -14,6 +14,11 @@ if [ "${binary#"$root"/}" != "$binary" ]; then
     status=$?
     echo lawful > "$work/wanted"
     judge "./wbsim: an audit of two files" 0 $status "" "$work/wanted"
+    sed 's/^count 0 2 32/count 0 2 31/' "$root/examples/checked-run.audit" > "$work/b.audit"
+    "$work/link" audit "$work/b.audit" > "$work/out" 2> "$work/err"
+    status=$?
+    echo 'broken clause 3 line 47' > "$work/wanted"
+    judge "./wbsim: the README's audit" 11 $status "wbsim: unlawful" "$work/wanted"
     "$work/link" replay "$work/a.trace" > /dev/full 2> "$work/err"
     status=$?
     : > "$work/out"

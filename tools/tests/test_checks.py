@@ -109,6 +109,16 @@ class Sums(WithDirectory):
         status, lines, _ = self.check(folders=("bin",))
         self.assertEqual((status, lines[0], lines[-1]), (0, "layout: skipped: rt isn't there", "27 passed, 0 failed, 3 skipped"))
 
+    def test_without_the_kit_the_rest_is_done(self) -> None:
+        if shutil.which("rt", path="/usr/bin:/bin"):
+            self.skipTest("rt is in /usr/bin: it can't be taken away")
+        self.command("wbsim", "echo wbsim: why >&2; exit 70")
+        status, lines, said = self.check(folders=("bin",))
+        self.assertEqual((status, lines), (0, [
+            "layout: skipped: rt isn't there", "runs: skipped: rt isn't there, and no program is kept",
+            "page: skipped: rt isn't there, and no program is kept", "wrong-rules: with --quick --jobs 1", "18 passed, 0 failed, 3 skipped"]))
+        self.assertIn("wbsim: why", said)
+
     def test_there_is_no_program(self) -> None:
         self.command("wbsim", "echo wbsim: why >&2; exit 70")
         status, lines, said = self.check()
