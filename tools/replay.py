@@ -5,7 +5,7 @@ It is written from the laws and from the description of the turns alone, with a 
 steps. The formulas are those of tools/laws. Nothing rests on it: worked runs and tools/check-runs take their texts from it, so that
 a definition that is changed together with its code is noticed.
 
-usage: tools/replay.py < TRACE
+usage: tools/replay.py [--as-wbsim] < TRACE
 """
 import os
 import sys
@@ -28,7 +28,7 @@ from laws.limits import (  # noqa: E402
 from laws.position import position  # noqa: E402
 from laws.proportions import Half, fraction, may_add  # noqa: E402
 from laws.strict import decide_for, is_over_own, strict_bound  # noqa: E402
-from program.errors import Error  # noqa: E402
+from program.errors import Cause, Error, Fault, WriteFault  # noqa: E402
 from program.parsers import Parser  # noqa: E402
 from program.statuses import Status, sentence  # noqa: E402
 
@@ -581,21 +581,54 @@ class Machine:
         yield "end " + ("spent" if self.spent else "halted" if self.stopped else "done")
 
 
+NO_MEMORY, SPENT, INPUT_TOO_LONG = 6, 7, 8
+"""Statuses of wbsim that no tool here has."""
+
+
 def main():
     """Prints the journal of standard input, and answers the status."""
-    Parser(prog="replay.py", usage="tools/replay.py < TRACE", description=__doc__.partition("\n")[0], epilog=sentence()).parse_args()
+    parser = Parser(prog="replay.py", usage="tools/replay.py [--as-wbsim] < TRACE", description=__doc__.partition("\n")[0],
+                    epilog=sentence())
+    parser.add_argument("--as-wbsim", action="store_true", help="ends with the statuses and the sentences of 'wbsim replay'")
+    as_wbsim = parser.parse_args().as_wbsim
+    machine = None
     try:
         machine = Machine(read_whole("-").data.decode("latin-1"))
         machine.run()
         sys.stdout.writelines(line + "\n" for line in machine.journal())
         sys.stdout.flush()
     except Error as error:
-        print(f"replay.py: {error}", file=sys.stderr)
-        return error.status
-    except BrokenPipeError:
+        return ended_as_wbsim(error) if as_wbsim else say(f"replay.py: {error}", error.status)
+    except OSError as error:
+        # What is left in the buffer can't be written either. Python would complain when it closes standard output.
         os.dup2(os.open(os.devnull, os.O_WRONLY), sys.stdout.fileno())
-        return Status.WRITE_FAULT
+        if as_wbsim:
+            return ended_as_wbsim(WriteFault(str(error)), machine)
+        return Status.WRITE_FAULT if isinstance(error, BrokenPipeError) else say(f"replay.py: write fault: {error}", Status.WRITE_FAULT)
+    except MemoryError:
+        if as_wbsim:
+            return say("wbsim: no memory", NO_MEMORY)
+        raise
+    return ended_as_wbsim(None, machine) if as_wbsim else Status.GOOD
+
+
+def ended_as_wbsim(error, machine=None):
+    """Says what wbsim says, and answers its status, which of a spent run is its own even where the output failed."""
+    if machine and machine.spent:
+        return say("wbsim: spent", SPENT)
+    if isinstance(error, Fault) and error.cause is Cause.TOO_LONG:
+        return say("wbsim: input too long", INPUT_TOO_LONG)
+    if isinstance(error, Fault):
+        return say(f"wbsim: {error.verdict}", error.status)
+    if error:
+        return say(f"wbsim: {'read' if error.status is Status.READ_FAULT else 'write'} fault", error.status)
     return Status.GOOD
+
+
+def say(sentence, status):
+    """Says it, and answers the status."""
+    print(sentence, file=sys.stderr)
+    return status
 
 
 if __name__ == "__main__":

@@ -10,6 +10,8 @@ from collections.abc import Callable
 from importlib.util import find_spec
 from typing import Any
 
+from program.errors import NoMatplotlib
+
 from .bound import fixed_bound
 from .events import Decision
 from .scene import DomainScene, Scene
@@ -52,6 +54,12 @@ Part = Callable[[Any], None]
 def is_there() -> bool:
     """Whether matplotlib is installed."""
     return find_spec("matplotlib") is not None
+
+
+def demand(otherwise: str = "") -> None:
+    """Raises `NoMatplotlib` where it isn't; `otherwise` is what goes without it."""
+    if not is_there():
+        raise NoMatplotlib(otherwise)
 
 
 def draw(scene: Scene, domain: int, title: str, path: str) -> None:

@@ -1,8 +1,10 @@
 """What ends the program otherwise than well. Each error has its status, and is one sentence on standard error."""
 from __future__ import annotations
 
+import sys
 from enum import Enum
 
+from . import interpreters
 from .statuses import Status
 
 
@@ -71,3 +73,12 @@ class NotThere(Error):
     """What the word needs isn't on this machine."""
 
     status = Status.NOT_THERE
+
+
+class NoMatplotlib(NotThere):
+    """A picture is wanted, and this Python has no matplotlib. `main` goes on with another Python that has it."""
+
+    def __init__(self, otherwise: str = "") -> None:
+        pythons = dict.fromkeys((sys.executable, interpreters.SYSTEM))
+        super().__init__(f"there is no matplotlib for {' or '.join(pythons)} (Debian: apt-get update, and then "
+                         f"apt-get install --no-install-recommends python3-matplotlib){otherwise}")

@@ -5,7 +5,8 @@ import io
 import os
 import sys
 
-from .errors import Error, WriteFault
+from . import interpreters
+from .errors import Error, NoMatplotlib, WriteFault
 from .statuses import Status
 
 TYPE_CHECKING = False
@@ -19,6 +20,10 @@ def main(arguments: list[str] | None = None) -> int:
     given = given_of(sys.argv[1:] if arguments is None else arguments)
     try:
         return given.run(given)
+    except NoMatplotlib as error:
+        if arguments is None:
+            interpreters.go_on_with("matplotlib")
+        return say(error)
     except Error as error:
         return say(error)
     except BrokenPipeError:

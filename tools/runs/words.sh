@@ -2,18 +2,18 @@
 
 usage="wbsim: usage: wbsim replay, check, law, run, audit or bulk N"
 
-# The script refuses them before it compiles anything.
+# The script refuses them before it compiles anything. A word after a command may be a file there, and --help is its own.
 for words in '' Replay --help bulk 'bulk 3' 'bulk 07' 'bulk +7' 'bulk 2097153' 'bulk 7 7' 'run x' 'audit x' 'replay check'; do
     # Each list of words is split at its spaces.
     expect "words '$words'" 1 "$usage" /dev/null $words < "$root/examples/empty.trace"
-    "$root/wbsim" $words > "$work/out" 2> "$work/err" < "$root/examples/empty.trace"
+done
+for words in '' Replay bulk 'bulk 3' 'bulk 07' 'bulk +7' 'bulk 2097153' 'bulk 7 7' 'run x y' 'run -x' 'audit x y z' '--version x'; do
+    WBSIM_QUIET=1 "$root/wbsim" $words > "$work/out" 2> "$work/err" < "$root/examples/empty.trace"
     judge "./wbsim: words '$words'" 1 $? "$usage" /dev/null
 done
 
 # The version is the script's alone, which says it without a program.
 expect "words '--version'" 1 "$usage" /dev/null --version < "$root/examples/empty.trace"
-"$root/wbsim" --version x > "$work/out" 2> "$work/err" < "$root/examples/empty.trace"
-judge "./wbsim: words '--version x'" 1 $? "$usage" /dev/null
 "$root/wbsim" --version > "$work/version" 2> "$work/err"
 status=$?
 grep -cxE 'wbsim [0-9a-f]{12} (proved|unproved|unbuilt)' "$work/version" > "$work/out"

@@ -60,7 +60,7 @@ class Sums(WithDirectory):
         self.command("bin/python3", "exit 0")
         self.command("bin/cc", "exit 0")
         self.command("kit/rt", "exit 0")
-        self.command("wbsim", "echo 'wbsim: this run is not proved' >&2")
+        self.command("wbsim", "echo 'wbsim: unproved' >&2")
         self.command("tools/check-runs", '[ "$1" != --subjects ] || { echo one two; exit; }\necho "skipped: $*: x"\necho "1 passed, 0 failed, 1 skipped"')
         self.command("tools/check-layout", "echo '2 passed, 0 failed'")
         self.command("tools/check-tools", "echo '3 passed, 0 failed, 0 skipped'")
@@ -108,6 +108,16 @@ class Sums(WithDirectory):
             self.skipTest("rt is in /usr/bin: it can't be taken away")
         status, lines, _ = self.check(folders=("bin",))
         self.assertEqual((status, lines[0], lines[-1]), (0, "layout: skipped: rt isn't there", "27 passed, 0 failed, 3 skipped"))
+
+    def test_without_the_kit_the_rest_is_done(self) -> None:
+        if shutil.which("rt", path="/usr/bin:/bin"):
+            self.skipTest("rt is in /usr/bin: it can't be taken away")
+        self.command("wbsim", "echo wbsim: why >&2; exit 70")
+        status, lines, said = self.check(folders=("bin",))
+        self.assertEqual((status, lines), (0, [
+            "layout: skipped: rt isn't there", "runs: skipped: rt isn't there, and no program is kept",
+            "page: skipped: rt isn't there, and no program is kept", "wrong-rules: with --quick --jobs 1", "18 passed, 0 failed, 3 skipped"]))
+        self.assertIn("wbsim: why", said)
 
     def test_there_is_no_program(self) -> None:
         self.command("wbsim", "echo wbsim: why >&2; exit 70")

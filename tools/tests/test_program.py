@@ -12,6 +12,7 @@ from unittest import mock
 
 from journals import picture
 from journals.progress import Progress
+from program import interpreters
 from program.main import main
 
 from . import long_journal
@@ -22,6 +23,7 @@ TEXTS = (text_path("throttled.trace"), text_path("throttled.journal"))
 MEASURED = """
 import sys
 sys.path.insert(0, sys.argv.pop(1))
+from program import interpreters
 from program.main import main
 status = main(sys.argv[1:])
 with open("/proc/self/status") as lines:
@@ -135,6 +137,26 @@ class Program(WithDirectory):
             status = main(["plot", *TEXTS, os.path.join(self.directory, "new")])
         self.assertEqual((status, os.listdir(self.directory)), (5, []))
         self.assertIn("python3-matplotlib", said.getvalue())
+
+    def test_another_python_that_has_matplotlib(self) -> None:
+        """It goes on there with the same words, once; one that has none either is named."""
+        begun = mock.Mock(side_effect=SystemExit)
+        words = ["tools/wb", "plot", *TEXTS, os.path.join(self.directory, "new")]
+        system = self.file("python3", '#!/bin/sh\n[ "$1" = -c ]\n')
+        for mode, environment, wanted in ((0o755, {}, True), (0o755, {interpreters.BEGUN: "1"}, False), (0o644, {}, False)):
+            os.chmod(system, mode)
+            begun.reset_mock()
+            with mock.patch.object(picture, "is_there", lambda: False), mock.patch.object(interpreters, "SYSTEM", system), \
+                    mock.patch.object(sys, "argv", words), mock.patch.dict(os.environ, environment), mock.patch("os.execve", begun), \
+                    mock.patch("sys.stderr", io.StringIO()) as said:
+                if wanted:
+                    self.assertRaises(SystemExit, main)
+                    path, arguments, passed = begun.call_args.args
+                    self.assertEqual((path, arguments, passed[interpreters.BEGUN]), (system, [system, *words], "1"))
+                else:
+                    self.assertEqual((main(), begun.called), (5, False))
+                    self.assertIn(f"for {sys.executable} or {system} (", said.getvalue())
+        self.assertEqual(os.listdir(self.directory), ["python3"])
 
 
 class LongJournals(WithDirectory):

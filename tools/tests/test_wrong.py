@@ -86,7 +86,7 @@ class OfRules(WithDirectory):
                 self.assertNotEqual(rule.old, rule.new)
 
     def test_documents_say_how_many_there_are(self) -> None:
-        for document in ("README.md", "docs/CLAIMS.md", "docs/PROVED.md"):
+        for document in ("docs/CLAIMS.md", "docs/PROVED.md"):
             with open(os.path.join(ROOT, document), encoding="utf-8") as file:
                 self.assertRegex(file.read(), rf"\b{len(RULES)} (wrong )?rules\b", document)
 

@@ -3,9 +3,8 @@ from __future__ import annotations
 
 import argparse
 import os
-import sys
 
-from program.errors import NotThere, OtherWords
+from program.errors import OtherWords
 from program.output import Staging, publish
 from program.statuses import Status
 
@@ -25,8 +24,7 @@ def add(command: argparse.ArgumentParser) -> None:
 
 def run(given: argparse.Namespace) -> Status:
     """Draws the pictures, and prints their paths."""
-    if not picture.is_there():
-        raise NotThere(f"{sys.executable} has no matplotlib (Debian's package is python3-matplotlib)")
+    picture.demand()
     trace, reader = opened(given)
     scene = Scene(trace, given.over == "steps")
     name = given.name or name_of(given)

@@ -7,7 +7,7 @@ import sys
 from journals import picture
 from journals.reader import Reader
 from journals.trace_reader import read_trace
-from program.errors import NotThere, OtherWords
+from program.errors import OtherWords
 from program.output import Staging, held_text, publish
 from program.statuses import Status
 
@@ -33,8 +33,8 @@ def add(command: argparse.ArgumentParser) -> None:
 
 def run(given: argparse.Namespace) -> Status:
     """Prints the table, and draws the picture where one is wanted."""
-    if given.picture and not picture.is_there():
-        raise NotThere(f"{sys.executable} has no matplotlib (Debian's package is python3-matplotlib)")
+    if given.picture:
+        picture.demand()
     story = joined(given)
     trace = read_trace(given.trace)
     spans = [of_kernel(story), of_replay(trace, Reader(given.journal, trace).events())]

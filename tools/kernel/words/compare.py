@@ -2,6 +2,7 @@
 from __future__ import annotations
 
 import argparse
+import json
 import tempfile
 from collections.abc import Iterator
 from contextlib import contextmanager
@@ -10,6 +11,7 @@ from typing import TextIO
 from program.output import MOST_HELD, held_text
 from program.statuses import Status
 
+from ..as_json import comparison_json, number_json
 from ..comparing import Comparing, Group, Tally
 from ..joining import told
 from ..numbers import UNITS, Number, Verdict
@@ -26,6 +28,7 @@ def add(command: argparse.ArgumentParser) -> None:
     command.add_argument("--different", action="store_true", help="lists those only that aren't equal, each with its reason")
     command.add_argument("--allow-unexplained", action="store_true", help=f"status 0, and not {Status.UNEXPLAINED.value}, where a number is "
                          "unexplained")
+    command.add_argument("--json", action="store_true", help="the numbers for other programs, as JSON")
     add_strict(command)
 
 
@@ -33,11 +36,18 @@ def run(given: argparse.Namespace) -> Status:
     """Prints the table, and the list where it is wanted."""
     with held_text() as text, held_list() as rows:
         def each(it: Number, task: str) -> None:
-            if not given.different or it.verdict is not Verdict.EQUAL:
+            if given.different and it.verdict is Verdict.EQUAL:
+                return
+            if given.json:
+                print(json.dumps({"task": task, **number_json(it)}), file=rows)
+            else:
                 listed(it, task, rows)
 
         is_listed = given.list or given.different
         found = told(given.text, given.hz, given.strict, lambda of: Comparing(of, each if is_listed else None))
+        if given.json:
+            as_json(found, rows if is_listed else None, text)
+            return status_of(given, found)
         head(found, text)
         for group, tally in found.tallies.items():
             if tally.kinds():
@@ -47,7 +57,25 @@ def run(given: argparse.Namespace) -> Status:
             print(f"\n{'line':>7}  {'task':<16}{'number':<26}{'kernel':>10}{'laws':>10}  {'unit':<8}{'':<22}why", file=text)
             rows.seek(0)
             text.writelines(rows)
+    return status_of(given, found)
+
+
+def status_of(given: argparse.Namespace, found: Comparing) -> Status:
+    """Whether a number is unexplained, where that counts."""
     return Status.GOOD if given.allow_unexplained or not found.unexplained() else Status.UNEXPLAINED
+
+
+def as_json(found: Comparing, rows: TextIO | None, out: TextIO) -> None:
+    """All of it as one object, in whose `list` are the rows that were asked for, one a line, each of them JSON."""
+    told = json.dumps(comparison_json(found), indent=1)
+    if rows is None:
+        print(told, file=out)
+        return
+    print(told.removesuffix("\n}") + ',\n "list": [', file=out)
+    rows.seek(0)
+    for place, row in enumerate(rows):
+        out.write(("  " if place == 0 else ",\n  ") + row.rstrip("\n"))
+    print("\n ]\n}", file=out)
 
 
 @contextmanager

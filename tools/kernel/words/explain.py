@@ -2,6 +2,7 @@
 from __future__ import annotations
 
 import argparse
+import json
 from collections.abc import Iterator
 from dataclasses import replace
 from typing import TextIO
@@ -11,6 +12,7 @@ from program.errors import OtherWords
 from program.output import held_text
 from program.statuses import Status
 
+from ..as_json import causes_json, explained_json
 from ..causes import period_lines, sentence, shorter
 from ..explaining import Explained, Explaining, Sum, Wish
 from ..found import By, told_lines
@@ -30,6 +32,7 @@ def add(command: argparse.ArgumentParser) -> None:
     command.add_argument("line", metavar="LINE", nargs="?", type=int, help="the check at this line of the text")
     command.add_argument("--longest", metavar="N", nargs="?", const="1", help="the longest pauses, so many (1)")
     command.add_argument("--task", metavar="NAME", default="", help="of this task alone, with its number or without, and its longest pause")
+    command.add_argument("--json", action="store_true", help="the numbers for other programs, as JSON")
 
 
 def run(given: argparse.Namespace) -> Status:
@@ -40,6 +43,11 @@ def run(given: argparse.Namespace) -> Status:
     if wish.task and not any(found.is_wanted(task) for task in found.tasks):
         raise OtherWords(f"--task {wish.task}: no check is of that task, there are {', '.join(sorted(found.tasks))}")
     with held_text() as text:
+        if given.json:
+            kept = [at_line(found)] if wish.line else found.longest()
+            causes = {} if wish.line else causes_json(found)
+            print(json.dumps({**causes, "explained": [explained_json(one) for one in kept]}, indent=1), file=text)
+            return Status.GOOD
         if wish.line:
             explain(found, at_line(found), text)
             return Status.GOOD

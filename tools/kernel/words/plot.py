@@ -4,11 +4,10 @@ from __future__ import annotations
 import argparse
 import math
 import os
-import sys
 
 from journals import picture
 from journals.words.texts import add_directory
-from program.errors import NotThere, OtherWords
+from program.errors import OtherWords
 from program.output import Staging, publish
 from program.statuses import Status
 
@@ -31,8 +30,7 @@ def run(given: argparse.Namespace) -> Status:
     """Draws the pictures, and prints their paths."""
     from .. import drawing
 
-    if not picture.is_there():
-        raise NotThere(f"{sys.executable} has no matplotlib (Debian's package is python3-matplotlib)")
+    picture.demand()
     story = joined(given)
     found = {(it.line, it.kind): it for it in comparing.numbers(story)}
     first = story.checks[0].check.time

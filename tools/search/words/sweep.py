@@ -5,14 +5,12 @@ import argparse
 import csv
 import os
 import shutil
-import sys
 
 from jobs import options
 from jobs.kinds import Row
 from journals import picture
 from journals.whole_text import read_whole
 from journals.words.texts import add_directory
-from program.errors import NotThere
 from program.output import Staging, publish
 from program.statuses import Status
 from study.reading import Study, StudyTrace
@@ -38,8 +36,8 @@ def add(command: argparse.ArgumentParser) -> None:
 
 def run(given: argparse.Namespace) -> Status:
     """Runs them, and writes the table and the picture."""
-    if not given.no_picture and not picture.is_there():
-        raise NotThere(f"{sys.executable} has no matplotlib (Debian's package is python3-matplotlib): --no-picture makes the table")
+    if not given.no_picture:
+        picture.demand(": --no-picture makes the table")
     of, values = parameter(given.over), values_of(given.values.split(","))
     text = read_whole(given.trace)
     study = Study([StudyTrace(text.path, text.data)], {of.name: values})

@@ -3,12 +3,11 @@ from __future__ import annotations
 
 import argparse
 import os
-import sys
 from typing import Any
 
 from journals import picture
 from journals.words.texts import add_directory
-from program.errors import NotThere, OtherWords
+from program.errors import OtherWords
 from program.output import Staging, publish
 from program.statuses import Status
 
@@ -32,8 +31,7 @@ def add(command: argparse.ArgumentParser) -> None:
 
 def run(given: argparse.Namespace) -> Status:
     """Draws a picture over one variable, or one for each trace over two, and prints the paths."""
-    if not picture.is_there():
-        raise NotThere(f"{sys.executable} has no matplotlib (Debian's package is python3-matplotlib)")
+    picture.demand()
     table = at(read_table(given.table), fixed_of(given.at))
     if len(table.variables) not in (1, 2):
         raise OtherWords(f"the variables are {', '.join(table.variables) or 'none'}: --at leaves one or two of them")
