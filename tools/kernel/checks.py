@@ -16,7 +16,6 @@ from . import averages, cgroups, strict
 from .domains import FOLD, is_by_cgroup, printed_setpoint
 from .joining import Free, Joined
 from .numbers import NONE, Kind, Number, Verdict, Why, number
-from .reading import ticks_of
 from .reads import context_limits, limits_before, reads_of
 from .searching import grid, where
 from .tracepoints import Balance, State
@@ -203,7 +202,7 @@ def pause(joined: Joined, clock: Clock, _is_own_domain: bool) -> Number | None:
 
 def wanted_of(check: Balance, clock: Clock) -> int:
     """What of its period a writer has yet to wait, in ticks."""
-    return ticks_of(check.period, clock) - ticks_of(check.think, clock)
+    return clock.ticks[check.period] - clock.ticks[check.think]
 
 
 def pause_of(rate: int, wanted: int, longest: int, least: Least) -> int:
@@ -268,7 +267,8 @@ def think(joined: Joined, clock: Clock, _is_own_domain: bool) -> Number | None:
 
 def ended_after(check: Balance, clock: Clock) -> int:
     """When the last pause counts as ended after a check, in ticks from the check."""
-    period, think, pause = (ticks_of(it, clock) for it in (check.period, check.think, check.pause))
+    ticks = clock.ticks
+    period, think, pause = ticks[check.period], ticks[check.think], ticks[check.pause]
     if pause > 0:
         wanted = period - think
         return pause + (min(wanted - pause, pause) if check.rate and wanted > pause else 0)

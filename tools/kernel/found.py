@@ -15,7 +15,6 @@ from laws.strict import decide_for
 from . import averages, cgroups, strict
 from .domains import is_by_cgroup
 from .joining import Joined
-from .reading import ticks_of
 from .reads import context_limits, reads_of
 from .searching import between
 
@@ -63,7 +62,7 @@ class Found:
         """What the decision was asked with."""
         check = self.joined.check
         task = Task(check.dirtied, check.allowance, ENDED)
-        now = ENDED + ticks_of(check.think, self.clock)
+        now = ENDED + self.clock.ticks[check.think]
         return Asked([self.read], check.context_dirty, self.average, check.ratelimit, task, now, 0, self.by is By.STRICT, self.clock)
 
     def verdict(self, read: DomainRead | None = None, context_dirty: int | None = None, ratelimit: int | None = None,

@@ -5,10 +5,12 @@ from enum import Enum
 from typing import NamedTuple
 
 from .clock import PROFILE, Clock
-from .numbers import log2, sat_sub
+from .numbers import log2
 
 FEW = 32
 """Pages: an allowance below it is taken anew."""
+
+new = tuple.__new__
 
 
 class Target(Enum):
@@ -36,7 +38,7 @@ def max_pause(context_dirty: int, average: int, clock: Clock = PROFILE) -> int:
 
 def min_pause(most: int, rate: int, average: int, ratelimit: int, clock: Clock = PROFILE) -> Least:
     """The least pause, where the longest is `most` and the writer's rate is `rate`."""
-    grown = sat_sub(log2(average), log2(ratelimit)) * (10 * clock.second) // 1024
+    grown = max(average.bit_length() - ratelimit.bit_length(), 0) * (10 * clock.second) // 1024
     ticks = min(clock.least + grown, 1 + most // 2)
     target, pages = Target.RATE, ratelimit * ticks // clock.near_second
     if pages < FEW:
@@ -47,7 +49,7 @@ def min_pause(most: int, rate: int, average: int, ratelimit: int, clock: Clock =
     if clock.second * pages // (rate + 1) > most:
         target, ticks = Target.CUT, most
         pages = rate * ticks // clock.near_second
-    return Least(pages, ticks, 1 + ticks // 2 if pages >= FEW else ticks, target)
+    return new(Least, (pages, ticks, 1 + ticks // 2 if pages >= FEW else ticks, target))
 
 
 def poll_interval(dirty: int, thresh: int) -> int:

@@ -9,6 +9,7 @@ from .numbers import sat_sub, towards_zero
 
 GREATEST_RATIO = (1 << 32) - 1
 GREATEST_POLYNOM = 2048
+new = tuple.__new__
 
 
 class Slope(Enum):
@@ -44,10 +45,7 @@ class Position(NamedTuple):
 def polynom(setpoint: int, dirty: int, limit: int) -> int:
     """The third power of how far a domain lies below its setpoint, from 0 to 2048."""
     x = towards_zero((setpoint - dirty) * 1024, limit - setpoint | 1)
-    p = x
-    for _ in range(2):
-        p = p * x // 1024
-    return min(max(p + 1024, 0), GREATEST_POLYNOM)
+    return min(max(x * x // 1024 * x // 1024 + 1024, 0), GREATEST_POLYNOM)
 
 
 def position(limits: Limits, dirty: int, context_limit: int, context_dirty: int, average: int) -> Position:
@@ -72,4 +70,4 @@ def position(limits: Limits, dirty: int, context_limit: int, context_dirty: int,
             low, p = Low.HYPERBOLA, p * half // context_dirty
         else:
             low, p = Low.EIGHT, p * 8
-    return Position(setpoint, height, weight, share, middle, span, slope, bent, low, min(p, GREATEST_RATIO))
+    return new(Position, (setpoint, height, weight, share, middle, span, slope, bent, low, min(p, GREATEST_RATIO)))
