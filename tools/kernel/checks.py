@@ -28,6 +28,7 @@ TICK = "a tick went by between the decision and its line"
 TIMES = "times of two lines tell ticks up to one"
 BETWEEN = "an average between the two that were told gives it: it was updated without a line"
 LATER = "an average that updates reach after the last line gives it"
+START = "its task's first check made no pause: from then on the kernel counts from its own start, of which no line tells the tick"
 COUNTERS = f"within what a CPU's counter adds at once, {FOLD} pages"
 
 
@@ -262,7 +263,24 @@ def think(joined: Joined, clock: Clock, _is_own_domain: bool) -> Number | None:
     before = previous.check
     if check.think == before.think == before.period == 0:
         return None
-    return span(check, before.time, ended_after(before, clock), clock)
+    found = span(check, before.time, ended_after(before, clock), clock)
+    if found.verdict is Verdict.UNEXPLAINED and is_since_start(check, before, clock):
+        return found._replace(verdict=Verdict.NOT_TOLD, reason=START)
+    return found
+
+
+def is_since_start(check: Balance, before: Balance, clock: Clock) -> bool:
+    """Whether a task's time is counted from tick 0 of the kernel, which adds the period of a check without a pause to the moment of the last
+    one, 0 where there was none. A kernel of 64 bits begins to count five minutes before 2^32."""
+    if before.think or before.pause > 0 or not before.period:
+        return False
+    ticks = clock.ticks[check.think] + clock.ticks[before.period] - FIRST_TICK + EARLY * clock.second
+    return abs(ticks / clock.second - check.time) <= START_ERROR + check.time / START_PART
+
+
+FIRST_TICK, EARLY = 1 << 32, 300
+START_ERROR, START_PART = 2, 1000
+"""Seconds between the start of both clocks, and by which part the times of lines go otherwise than ticks."""
 
 
 def ended_after(check: Balance, clock: Clock) -> int:

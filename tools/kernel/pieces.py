@@ -33,7 +33,7 @@ MOST_PROCESSES = 4
 LEAST_PIECE = 4 << 20
 """Bytes of a piece, for which a process is worth its while."""
 
-LOOK = 0.1
+LOOK = 0.13
 """How long looking at a line takes, as a part of reading it."""
 
 OFTEN = 0.5

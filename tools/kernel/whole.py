@@ -106,7 +106,7 @@ def kept(lines: Iterable[Line | Lost], text: Text) -> Iterator[Line | Lost]:
 def look(text: Text, strict: Collection[str]) -> None:
     """Whether all is there that a text needs, and a word on what of it is left out."""
     if not text.disks_seen:
-        raise Fault(text.path, 0, Cause.MISSING, "it has no line of balance_dirty_pages")
+        raise Fault(text.path, 0, Cause.MISSING, "it has no line of balance_dirty_pages: no writer was held back, or the event was off")
     if not text.states_seen:
         raise Fault(text.path, 0, Cause.MISSING, "it has no line of global_dirty_state")
     disks = sorted({disk.partition(" ")[0] for disk in text.disks_seen})
