@@ -50,11 +50,12 @@ def ratios(joined: Joined) -> list[int]:
 
 def numbers_of(joined: Joined, clock: Clock, but: int = 0) -> Iterator[Number]:
     """Each number of a check that can be had, but those of a set that `equal_ones` answered."""
-    own = cgroups.rate(joined) if is_by_cgroup(joined) else None
-    is_own_domain = is_by_cgroup(joined) and (own is None or own.verdict is not Verdict.UNEXPLAINED)
-    for kind, of in KINDS:
-        if not but >> PLACES[kind] & 1:
-            found = own if kind is Kind.RATE and own else of(joined, clock, is_own_domain)
+    is_by_own = joined.check.is_of_cgroup and is_by_cgroup(joined)
+    own = cgroups.rate(joined) if is_by_own else None
+    is_own_domain = is_by_own and (own is None or own.verdict is not Verdict.UNEXPLAINED)
+    for place, (kind, of) in enumerate(KINDS):
+        if not but >> place & 1:
+            found = own if own and kind is Kind.RATE else of(joined, clock, is_own_domain)
             if found is not None:
                 yield found
 

@@ -9,7 +9,7 @@ from . import checks, estimates
 from .domains import is_by_cgroup
 from .joining import Estimated, Free, Joined
 from .numbers import Kind, Number, Verdict
-from .quick import Spans, equal_ones
+from .quick import NO_THINK, THINK, Spans, equal_ones
 from .reading import Text
 from .whole import Story
 
@@ -133,7 +133,7 @@ class Comparing:
         if joined.is_raised:
             group = Group.RAISED
             self.raised.add(joined.check.task)
-        elif joined.check.is_of_cgroup and is_by_cgroup(joined):
+        elif joined.scale is not None and is_by_cgroup(joined):
             group = Group.CGROUP
         if group is not Group.PLAIN:
             tally = self.tallies[group]
@@ -144,7 +144,7 @@ class Comparing:
             found = 0
         else:
             tally.take_set(found)
-        if found != ALL:
+        if found not in COMPLETE:
             for it in checks.numbers_of(joined, self.text.clock, found):
                 self.take(group, it, joined.check.task)
 
@@ -174,6 +174,9 @@ class Comparing:
 
 ALL = (1 << len(checks.KINDS)) - 1
 """All numbers of a check."""
+
+COMPLETE = (ALL, ALL & ~THINK | NO_THINK)
+"""The sets of a check whose numbers are all equal."""
 
 
 def compared(story: Story, each: Callable[[Number, str], None] | None = None) -> Comparing:

@@ -246,7 +246,7 @@ class Joiner:
         is_own = last is not None and task.own is last
         is_strict = bool(self.strict) and line.device in self.strict
         joined = Joined(line, task.read, last, is_own, is_strict, task.last, task.free)
-        if line.is_of_cgroup:
+        if " " in line[4]:
             joined.scale = self.scales.setdefault(line.disk, self.scale())
         state, plain = task.read, self.plain.state
         joined.is_raised = state is not None and plain is not None and state[7] != plain[7] and self.plain.is_raised(state)

@@ -14,10 +14,12 @@ from .tracepoints import Sample
 new = tuple.__new__
 FREE, COUNT, SETPOINT, RATE, PERIOD, PAUSE, ALLOWANCE, THINK = (
     1 << PLACES[kind] for kind in (Kind.FREE, Kind.COUNT, Kind.SETPOINT, Kind.RATE, Kind.PERIOD, Kind.PAUSE, Kind.ALLOWANCE, Kind.THINK))
+NO_THINK = 1 << len(PLACES)
+"""There is no number of that kind."""
 
 
 def equal_ones(joined: Joined, spans: Spans) -> int:
-    """The set of them: a bit each, by its place in `KINDS`."""
+    """The set of them: a bit each, by its place in `KINDS`, and one where a number isn't there."""
     after, state, check = joined.after, joined.state, joined.check
     if after is None or joined.is_strict:
         return 0
@@ -76,7 +78,9 @@ class Spans:
         before = previous.check
         if allowance == (previous.first_bounds[1].pages if before.pause > 0 else allowance_after(before, previous.first_bounds[1], clock)):
             found |= ALLOWANCE
-        if think or before.think or before.period:
+        if not (think or before.think or before.period):
+            found |= NO_THINK
+        else:
             ticks = round((time - before.time) * second) - ended_after(before, clock)
             if think == (printed[ticks] if ticks in printed else self.print(ticks)):
                 found |= THINK

@@ -129,10 +129,10 @@ def is_printed(span: int, clock: Clock) -> bool:
 class Reader:
     """Reads a text, or a part of it."""
 
-    def __init__(self, file: BinaryIO, text: Text, is_guessed: bool, heads: Heads | None = None) -> None:
+    def __init__(self, file: BinaryIO, text: Text, is_guessed: bool) -> None:
         self.file = file
         self.text = text
-        self.heads = heads or Heads()
+        self.heads = Heads()
         self.order = Order()
         self.fits = Fits(text.clock, is_guessed)
         self.number = 0
@@ -160,12 +160,13 @@ class Reader:
             times[read[2]] = moment
             if read[1] not in known:
                 heads.learn(read[1])
-            if len(read) == LENGTH_OF_CHECK:
-                if is_guessed and not spans.issuperset(read[14:18]):
-                    fits.look(read)
-                disks.add(read[4])
-            elif type(read) is State:
+            kind = type(read)
+            if kind is State:
                 states += 1
+            elif kind is Balance:
+                if is_guessed and not spans.issuperset(read[14:18]):
+                    fits.look(read)  # type: ignore[arg-type]
+                disks.add(read[4])  # type: ignore[arg-type]
             yield read
         self.number, order.latest = number, latest
         text.states_seen += states
@@ -219,9 +220,6 @@ class Source:
                 return before + at + 1
             before += len(part)
         return self.end if place else 0
-
-
-LENGTH_OF_CHECK = len(Balance._fields)
 
 
 def read_other(number: int, line: str, heads: Heads, path: str) -> Line | None:
