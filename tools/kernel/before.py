@@ -25,6 +25,8 @@ NEAR = 1 << 16
 """Bytes before a place in which the latest times are looked for first."""
 
 LIMITS, AFTER_LIMITS = " bg_thresh=", " dirtied="
+ANY = "\n"
+"""In place of limits where the next state's are looked at: no line has it."""
 
 
 class Raw(NamedTuple):
@@ -93,8 +95,8 @@ class Before:
         self.disks: dict[str, DiskBefore] = {}
         self.state: Raw | None = None
         self.plain = Plain()
-        self.limits = "\n"
-        """Limits as a line has them that don't change which state is plain."""
+        self.limits = ANY
+        """Limits as a line has them that don't change which state is plain, as the last states had them."""
 
         self.chunks, self.places = array("q"), array("q")
         """Of each chunk, the number of its first line and where that begins."""
@@ -112,6 +114,7 @@ class Before:
             else:
                 for number, line in enumerate(lines, self.number + 1):
                     self.take_other(Raw(number, line))
+                self.limits = ANY
             self.number += len(lines)
 
     def take(self, lines: list[str], ats: list[int]) -> None:
@@ -123,8 +126,10 @@ class Before:
             task = keys.get(line[:at])
             if task is None:
                 self.take_other(Raw(number, line))
+                limits = ANY
             elif state in line or state_of_perf in line:
                 raw = self.state = new(Raw, (number, line))
+                # As `take_state`, without the call: most lines come here.
                 if task.read is not None:
                     task.free = task.read
                     task.frees.append(task.read[0])
@@ -137,6 +142,7 @@ class Before:
                 self.items += 1
             else:
                 self.take_other(Raw(number, line))
+                limits = ANY
         self.limits = limits
 
     def take_limits(self, raw: Raw) -> str:
@@ -145,7 +151,7 @@ class Before:
         assert isinstance(state, State)
         self.plain.is_raised(state)
         begin, end = raw.line.find(LIMITS), raw.line.find(AFTER_LIMITS)
-        return raw.line[begin:end + len(AFTER_LIMITS)] if 0 < begin < end else "\n"
+        return raw.line[begin:end + len(AFTER_LIMITS)] if 0 < begin < end else ANY
 
     def take_other(self, raw: Raw) -> None:
         """Any line."""

@@ -5,7 +5,7 @@ import gc
 import sys
 from collections.abc import Callable, Collection, Iterable, Iterator
 from dataclasses import dataclass, field
-from typing import BinaryIO, TypeVar
+from typing import TypeVar
 
 from laws.clock import Clock
 from program.errors import Cause, Fault, OtherWords

@@ -47,8 +47,7 @@ def raised(thresh: int, limit: int) -> int:
 
 def freerun_of(limits: Limits) -> int:
     """Up to here writers run free."""
-    thresh, background, _ = limits
-    return (thresh + background) // 2
+    return (limits.thresh + limits.background) // 2
 
 
 def setpoint_of(limits: Limits) -> int:

@@ -5,7 +5,7 @@ from enum import Enum
 from typing import NamedTuple
 
 from .clock import PROFILE, Clock
-from .numbers import log2
+from .numbers import log2, sat_sub
 
 FEW = 32
 """Pages: an allowance below it is taken anew."""
@@ -38,7 +38,7 @@ def max_pause(context_dirty: int, average: int, clock: Clock = PROFILE) -> int:
 
 def min_pause(most: int, rate: int, average: int, ratelimit: int, clock: Clock = PROFILE) -> Least:
     """The least pause, where the longest is `most` and the writer's rate is `rate`."""
-    grown = max(average.bit_length() - ratelimit.bit_length(), 0) * (10 * clock.second) // 1024
+    grown = sat_sub(log2(average), log2(ratelimit)) * (10 * clock.second) // 1024
     ticks = min(clock.least + grown, 1 + most // 2)
     target, pages = Target.RATE, ratelimit * ticks // clock.near_second
     if pages < FEW:

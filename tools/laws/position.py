@@ -45,7 +45,10 @@ class Position(NamedTuple):
 def polynom(setpoint: int, dirty: int, limit: int) -> int:
     """The third power of how far a domain lies below its setpoint, from 0 to 2048."""
     x = towards_zero((setpoint - dirty) * 1024, limit - setpoint | 1)
-    return min(max(x * x // 1024 * x // 1024 + 1024, 0), GREATEST_POLYNOM)
+    p = x
+    for _ in range(2):
+        p = p * x // 1024
+    return min(max(p + 1024, 0), GREATEST_POLYNOM)
 
 
 def position(limits: Limits, dirty: int, context_limit: int, context_dirty: int, average: int) -> Position:

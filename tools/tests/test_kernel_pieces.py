@@ -10,12 +10,11 @@ from unittest import mock
 from kernel import before, joining, pieces, reading
 from kernel.comparing import Comparing
 from kernel.explaining import Explained, Explaining, Wish
-from kernel.joining import Joined
 from kernel.pieces import InOrder, Whole, read_piece, read_pieces
 from kernel.reading import Text
 from kernel.whole import taken, told, told_in_pieces
 from laws.clock import Clock
-from program.errors import Error, Fault
+from program.errors import Fault
 
 from .given import TESTS_TEXTS, WithDirectory
 from .test_kernel import CHECK, STATE, STRICT, THREE, TWO, line_of, printed
@@ -120,6 +119,18 @@ class Cut(InPieces):
         for chunk in (reading.CHUNK, 300):
             with mock.patch.object(reading, "CHUNK", chunk), mock.patch.object(before, "NEAR", 100):
                 self.assertEqual(self.assert_same(path, 250), 0)
+
+    def test_which_thresholds_are_raised_where_names_come_late(self) -> None:
+        plain, other, raised = (f"dirty=30000 writeback=0 bg_thresh={background} thresh={thresh} limit=25600 dirtied=1 written=1"
+                                for thresh, background in ((25600, 12800), (20000, 10000), (32800, 16800)))
+        states = [("dd-7", plain), ("<...>-8", other), ("dd-7", plain), ("<...>-8", plain), ("dd-7", other), ("dd-7", plain)] * 3
+        events = [(task, "global_dirty_state", fields) for task, fields in states]
+        for at in (19, 15, 9, 3):
+            events[at:at] = [("rt-9", "global_dirty_state", raised), ("rt-9", "balance_dirty_pages", CHECK)]
+        lines = [line_of(event, fields, f"  {task}  [000] .....  {1000 + at}.000001") for at, (task, event, fields) in enumerate(events)]
+        path = self.file("text", "\n".join([*lines, ""]))
+        self.assertGreater(printed("kernel", "compare", path)[1].count("rt-9"), 0)
+        self.assertEqual(self.assert_same(path, 250), 0)
 
     def test_what_waits_for_long_and_what_a_task_was_free_before(self) -> None:
         with mock.patch.object(joining, "MOST_WAITING", 7), mock.patch.object(before, "MOST_WAITING", 7), \
