@@ -2,8 +2,12 @@
 
     heads        task, CPU and time of a line, as several programs print them
     tracepoints  the three tracepoints as typed lines
+    common       lines as most of a text are, the short way
     reading      a text of them, line by line, and how many ticks a second its kernel has
     joining      each check with the state before it, the estimates around it, and the check before
+    before       what the lines before a place leave for those after it
+    pieces       several processes, each of which reads a piece of a text
+    whole        what takes a whole text, as it is read or in memory
     raised       which thresholds are raised for a real-time task
     numbers      a number that the kernel printed beside the one by the laws, and how they compare
     reads        what a check read of its domain

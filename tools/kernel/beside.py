@@ -12,7 +12,7 @@ from journals import events
 from journals.events import Decision, Event
 from journals.trace import Trace
 
-from .joining import Story
+from .whole import Story
 
 Point = tuple[float, float]
 

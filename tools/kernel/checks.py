@@ -16,7 +16,6 @@ from . import averages, cgroups, strict
 from .domains import FOLD, is_by_cgroup, printed_setpoint
 from .joining import Free, Joined
 from .numbers import NONE, Kind, Number, Verdict, Why, number
-from .reading import ticks_of
 from .reads import context_limits, limits_before, reads_of
 from .searching import grid, where
 from .tracepoints import Balance, State
@@ -29,6 +28,7 @@ TICK = "a tick went by between the decision and its line"
 TIMES = "times of two lines tell ticks up to one"
 BETWEEN = "an average between the two that were told gives it: it was updated without a line"
 LATER = "an average that updates reach after the last line gives it"
+START = "its task's first check made no pause: from then on the kernel counts from its own start, of which no line tells the tick"
 COUNTERS = f"within what a CPU's counter adds at once, {FOLD} pages"
 
 
@@ -50,11 +50,12 @@ def ratios(joined: Joined) -> list[int]:
 
 def numbers_of(joined: Joined, clock: Clock, but: int = 0) -> Iterator[Number]:
     """Each number of a check that can be had, but those of a set that `equal_ones` answered."""
-    own = cgroups.rate(joined) if is_by_cgroup(joined) else None
-    is_own_domain = is_by_cgroup(joined) and (own is None or own.verdict is not Verdict.UNEXPLAINED)
-    for kind, of in KINDS:
-        if not but >> PLACES[kind] & 1:
-            found = own if kind is Kind.RATE and own else of(joined, clock, is_own_domain)
+    is_by_own = joined.check.is_of_cgroup and is_by_cgroup(joined)
+    own = cgroups.rate(joined) if is_by_own else None
+    is_own_domain = is_by_own and (own is None or own.verdict is not Verdict.UNEXPLAINED)
+    for place, (kind, of) in enumerate(KINDS):
+        if not but >> place & 1:
+            found = own if own and kind is Kind.RATE else of(joined, clock, is_own_domain)
             if found is not None:
                 yield found
 
@@ -203,7 +204,7 @@ def pause(joined: Joined, clock: Clock, _is_own_domain: bool) -> Number | None:
 
 def wanted_of(check: Balance, clock: Clock) -> int:
     """What of its period a writer has yet to wait, in ticks."""
-    return ticks_of(check.period, clock) - ticks_of(check.think, clock)
+    return clock.ticks[check.period] - clock.ticks[check.think]
 
 
 def pause_of(rate: int, wanted: int, longest: int, least: Least) -> int:
@@ -263,12 +264,30 @@ def think(joined: Joined, clock: Clock, _is_own_domain: bool) -> Number | None:
     before = previous.check
     if check.think == before.think == before.period == 0:
         return None
-    return span(check, before.time, ended_after(before, clock), clock)
+    found = span(check, before.time, ended_after(before, clock), clock)
+    if found.verdict is Verdict.UNEXPLAINED and is_since_start(check, before, clock):
+        return found._replace(verdict=Verdict.NOT_TOLD, reason=START)
+    return found
+
+
+def is_since_start(check: Balance, before: Balance, clock: Clock) -> bool:
+    """Whether a task's time is counted from tick 0 of the kernel, which adds the period of a check without a pause to the moment of the last
+    one, 0 where there was none. A kernel of 64 bits begins to count five minutes before 2^32."""
+    if before.think or before.pause > 0 or not before.period:
+        return False
+    ticks = clock.ticks[check.think] + clock.ticks[before.period] - FIRST_TICK + EARLY * clock.second
+    return abs(ticks / clock.second - check.time) <= START_ERROR + check.time / START_PART
+
+
+FIRST_TICK, EARLY = 1 << 32, 300
+START_ERROR, START_PART = 2, 1000
+"""Seconds between the start of both clocks, and by which part the times of lines go otherwise than ticks."""
 
 
 def ended_after(check: Balance, clock: Clock) -> int:
     """When the last pause counts as ended after a check, in ticks from the check."""
-    period, think, pause = (ticks_of(it, clock) for it in (check.period, check.think, check.pause))
+    ticks = clock.ticks
+    period, think, pause = ticks[check.period], ticks[check.think], ticks[check.pause]
     if pause > 0:
         wanted = period - think
         return pause + (min(wanted - pause, pause) if check.rate and wanted > pause else 0)

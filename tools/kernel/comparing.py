@@ -7,10 +7,11 @@ from enum import Enum
 
 from . import checks, estimates
 from .domains import is_by_cgroup
-from .joining import Estimated, Free, Joined, Story
+from .joining import Estimated, Free, Joined
 from .numbers import Kind, Number, Verdict
-from .quick import Spans, equal_ones
+from .quick import NO_THINK, THINK, Spans, equal_ones
 from .reading import Text
+from .whole import Story
 
 
 class Group(Enum):
@@ -47,14 +48,33 @@ class Tally:
         """One number more."""
         self.counts[it.kind][it.verdict] += 1
         if it.verdict in NOTED:
-            key = it.kind, it.verdict
-            if key not in self.farthest or off(it) > off(self.farthest[key]):
-                self.farthest[key] = it
+            self.note((it.kind, it.verdict), it)
+
+    def note(self, key: tuple[Kind, Verdict], it: Number) -> None:
+        """Keeps the one that is farthest off, the first one of those in the text."""
+        best = self.farthest.get(key)
+        if best is None or (off(it), -it.line) > (off(best), -best.line):
+            self.farthest[key] = it
+
+    def join(self, other: Tally) -> None:
+        """Adds another one."""
+        self.checks += other.checks
+        for kind, counts in other.counts.items():
+            for verdict, many in counts.items():
+                self.counts[kind][verdict] += many
+        for equal, many in other.sets.items():
+            self.sets[equal] = self.sets.get(equal, 0) + many
+        for key, it in other.farthest.items():
+            self.note(key, it)
 
     def of(self, kind: Kind) -> list[int]:
         """Of each verdict, in their order."""
         self.settle()
         return list(self.counts[kind].values())
+
+    def far(self) -> list[Number]:
+        """Of each kind and verdict that has some, the farthest off, in the order of the table."""
+        return [self.farthest[kind, verdict] for kind in Kind for verdict in NOTED if (kind, verdict) in self.farthest]
 
     def kinds(self) -> list[Kind]:
         """The kinds of which there are numbers."""
@@ -81,6 +101,7 @@ class Comparing:
         self.each = each
         self.spans = Spans(text.clock)
         self.tallies = {group: Tally() for group in Group}
+        self.plain = self.tallies[Group.PLAIN]
         self.frees = self.estimates = 0
         self.strict: set[str] = set()
         self.raised: set[str] = set()
@@ -107,25 +128,39 @@ class Comparing:
 
     def check(self, joined: Joined) -> None:
         """A check."""
-        clock = self.text.clock
         found = equal_ones(joined, self.spans)
-        group = Group.PLAIN
+        group, tally = Group.PLAIN, self.plain
         if joined.is_raised:
             group = Group.RAISED
             self.raised.add(joined.check.task)
-        elif joined.check.is_of_cgroup and is_by_cgroup(joined):
+        elif joined.scale is not None and is_by_cgroup(joined):
             group = Group.CGROUP
+        if group is not Group.PLAIN:
+            tally = self.tallies[group]
         if joined.is_strict:
             self.strict.add(joined.check.device)
-        tally = self.tallies[group]
         tally.checks += 1
         if self.each:
             found = 0
         else:
             tally.take_set(found)
-        if found != ALL:
-            for it in checks.numbers_of(joined, clock, found):
+        if found not in COMPLETE:
+            for it in checks.numbers_of(joined, self.text.clock, found):
                 self.take(group, it, joined.check.task)
+
+    def follow(self, sampled: float) -> None:
+        """Lines went before, the last estimate of which was printed at this time."""
+        self.limit_moved = sampled
+
+    def join(self, other: Comparing) -> None:
+        """Adds what another one took that follows."""
+        self.text.join(other.text)
+        for group, tally in other.tallies.items():
+            self.tallies[group].join(tally)
+        self.frees += other.frees
+        self.estimates += other.estimates
+        self.strict |= other.strict
+        self.raised |= other.raised
 
     @property
     def checks(self) -> int:
@@ -139,6 +174,9 @@ class Comparing:
 
 ALL = (1 << len(checks.KINDS)) - 1
 """All numbers of a check."""
+
+COMPLETE = (ALL, ALL & ~THINK | NO_THINK)
+"""The sets of a check whose numbers are all equal."""
 
 
 def compared(story: Story, each: Callable[[Number, str], None] | None = None) -> Comparing:

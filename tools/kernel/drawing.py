@@ -11,7 +11,8 @@ from laws.limits import Limits, freerun_of, setpoint_of
 
 from . import cgroups
 from .domains import is_by_cgroup
-from .joining import Joined, Story
+from .joining import Joined
+from .whole import Story
 from .numbers import Kind, Number, Verdict
 from .reads import limits_of
 

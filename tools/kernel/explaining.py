@@ -30,6 +30,14 @@ class Sum:
             self.longest, self.line = pause, line
 
 
+    def join(self, other: Sum) -> None:
+        """Those that follow."""
+        self.many += other.many
+        self.paused += other.paused
+        if other.longest > self.longest:
+            self.longest, self.line = other.longest, other.line
+
+
 @dataclass(frozen=True)
 class Wish:
     """Which checks are explained: the one at a line, or so many of the longest, of these tasks or of all."""
@@ -109,6 +117,22 @@ class Explaining:
         elif check.line > wanted and not self.next_line:
             self.next_line = check.line
 
+    def follow(self, sampled: float) -> None:
+        """What went before is of no use here."""
+
+    def join(self, other: Explaining) -> None:
+        """Adds what another one took that follows."""
+        self.text.join(other.text)
+        self.checks += other.checks
+        self.begin = self.begin or other.begin
+        self.end = other.end or self.end
+        self.tasks |= other.tasks
+        for key, one in other.sums.items():
+            self.sums.setdefault(key, Sum()).join(one)
+        self.at_line = other.at_line or self.at_line
+        self.next_line = self.next_line or other.next_line
+        self.kept = heapq.nlargest(self.wish.longest, [*self.kept, *other.kept], key=lambda it: it[:2])
+
     def longest(self) -> list[Explained]:
         """The longest pauses, the longest first."""
-        return [one for *_, one in sorted(self.kept, reverse=True)]
+        return [one for *_, one in sorted(self.kept, key=lambda it: it[:2], reverse=True)]

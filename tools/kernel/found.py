@@ -15,7 +15,6 @@ from laws.strict import decide_for
 from . import averages, cgroups, strict
 from .domains import is_by_cgroup
 from .joining import Joined
-from .reading import ticks_of
 from .reads import context_limits, reads_of
 from .searching import between
 
@@ -63,7 +62,7 @@ class Found:
         """What the decision was asked with."""
         check = self.joined.check
         task = Task(check.dirtied, check.allowance, ENDED)
-        now = ENDED + ticks_of(check.think, self.clock)
+        now = ENDED + self.clock.ticks[check.think]
         return Asked([self.read], check.context_dirty, self.average, check.ratelimit, task, now, 0, self.by is By.STRICT, self.clock)
 
     def verdict(self, read: DomainRead | None = None, context_dirty: int | None = None, ratelimit: int | None = None,
@@ -104,16 +103,17 @@ def found_of(joined: Joined, clock: Clock) -> Found | None:
         own = cgroups.solved(joined)
         if own and own.read:
             return Found(joined, clock, By.CGROUP, own.read, own.average, True)
-    is_below = check.dirty <= freerun_of(reads_of(joined)[-1].limits)
+    reads = reads_of(joined)
+    is_below = check.dirty <= freerun_of(reads[-1].limits)
     if not is_below:
         for average in told:
-            for read in reversed(reads_of(joined)):
+            for read in reversed(reads):
                 if check.ratelimit * position(*read, check.context_dirty, average).ratio >> 10 == check.rate:
                     return Found(joined, clock, By.MACHINE, read, average, True)
     if check.rate in strict.rates(joined):
-        read = reads_of(joined)[strict.rates(joined).index(check.rate)]
+        read = reads[strict.rates(joined).index(check.rate)]
         return Found(joined, clock, By.STRICT, read, told[0], True)
-    return Found(joined, clock, By.MACHINE, reads_of(joined)[-1], told[0], False)
+    return Found(joined, clock, By.MACHINE, reads[-1], told[0], False)
 
 
 def told_lines(found: Found) -> Iterator[str]:

@@ -30,8 +30,11 @@ class Heads:
     def __init__(self) -> None:
         self.tasks: dict[str, str] = {}
         self.cpus: dict[str, int] = {}
-        self.seen: set[str] = set()
+        self.known: set[str] = set()
         """Tasks of lines so far."""
+
+        self.names: dict[str, str] = {}
+        """By its number, the first of them whose name was told."""
 
     def read(self, text: str) -> Head | None:
         """The head, or nothing where it is none."""
@@ -52,16 +55,18 @@ class Heads:
         if time >= LATEST:
             return None
         name, number, cpu = found["name"], found["number"], found["cpu"] or "0"
-        task = self.known(f"{name}-{number}", number)
+        task = f"{name}-{number}"
+        if task.startswith(UNKNOWN):
+            task = self.names.get(number, task)
         words = text.split()
-        self.seen.add(task)
+        self.learn(task)
         if len(words) == 4 and words[0] == task and not task.startswith(UNKNOWN) and words[1] == f"[{cpu}]" and words[3].endswith(":"):
             self.tasks[task] = task
             self.cpus[words[1]] = int(cpu)
         return task, int(cpu), time
 
-    def known(self, task: str, number: str) -> str:
-        """The task by its name where that is known by now."""
+    def learn(self, task: str) -> None:
+        """A task of a line."""
+        self.known.add(task)
         if not task.startswith(UNKNOWN):
-            return task
-        return next((it for it in self.seen if it.endswith(f"-{number}") and not it.startswith(UNKNOWN)), task)
+            self.names.setdefault(task.rpartition("-")[2], task)

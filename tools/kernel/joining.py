@@ -8,21 +8,17 @@ A text is joined as it is read: what is known in full is given on, in the order 
 """
 from __future__ import annotations
 
-import gc
-import sys
 from array import array
 from collections import deque
-from collections.abc import Callable, Collection, Iterable, Iterator
+from collections.abc import Callable, Collection, Iterable
 from dataclasses import dataclass, field
-from typing import TYPE_CHECKING, Protocol, TypeVar, Union
+from typing import TYPE_CHECKING, Protocol, Union
 
-from laws.clock import Clock
 from laws.pauses import Least
-from program.errors import Cause, Fault, OtherWords
 
 from .raised import Plain
 from .scale import Scale
-from .reading import SECONDS, Lost, OtherClock, Text, guessed_second, lines_of, opened
+from .reading import Lost
 from .tracepoints import Balance, Line, Sample, State
 
 if TYPE_CHECKING:
@@ -81,6 +77,22 @@ class Joined:
         """What gives its rate by its cgroup's own domain, once that is solved: `cgroups.solved`."""
 
 
+class Passed(Joined):
+    """The last check of a task before the lines that are joined: what follows depends on it, and it itself isn't given on."""
+
+    __slots__ = ()
+
+    @classmethod
+    def between(cls) -> Passed:
+        """Stands for a check or an estimate that went before too, and on which nothing depends."""
+        found = cls(Balance(*NOTHING), None, None, False, False)
+        found.after = Sample(*NOTHING[:len(Sample._fields)])
+        return found
+
+
+NOTHING = (0, "", 0, 0.0, "", *(0 for _ in Balance._fields[5:]))
+
+
 @dataclass
 class Free:
     """A state that a writer read and was free: no line of a check follows."""
@@ -134,6 +146,8 @@ class TaskSoFar:
 
     last: Joined | None = None
     own: Estimated | None = None
+    earlier: array[int] | None = None
+    """The lines of such states before those, which aren't read yet."""
 
 
 class Joiner:
@@ -157,6 +171,9 @@ class Joiner:
         self.last_state: State | None = None
         self.plain = Plain()
         self.scales: dict[str, Scale] = {}
+        self.scale: Callable[[], Scale] = Scale
+        self.read_at: Callable[[int], Line] | None = None
+        """Reads an earlier line, by its number."""
 
     def take(self, lines: Iterable[Line | Lost]) -> None:
         """All lines."""
@@ -191,6 +208,10 @@ class Joiner:
     def let_free(self, task: str, of: TaskSoFar, is_strict: bool) -> None:
         """Gives the free ones of a writer on."""
         kept = of.frees
+        if of.earlier and self.read_at:
+            for number in of.earlier:
+                self.taker.free(Free(self.read_at(number), is_strict))  # type: ignore[arg-type]
+        of.earlier = None
         for at in range(0, len(kept), 5):
             line, count, background, thresh, limit = kept[at:at + 5]
             self.taker.free(Free(State(line, task, 0, 0.0, count, 0, background, thresh, limit, 0, 0), is_strict))
@@ -225,8 +246,8 @@ class Joiner:
         is_own = last is not None and task.own is last
         is_strict = bool(self.strict) and line.device in self.strict
         joined = Joined(line, task.read, last, is_own, is_strict, task.last, task.free)
-        if line.is_of_cgroup:
-            joined.scale = self.scales.setdefault(line.disk, Scale())
+        if " " in line[4]:
+            joined.scale = self.scales.setdefault(line.disk, self.scale())
         state, plain = task.read, self.plain.state
         joined.is_raised = state is not None and plain is not None and state[7] != plain[7] and self.plain.is_raised(state)
         if is_own and last:
@@ -239,10 +260,21 @@ class Joiner:
 
     def wait(self, disk: str, item: Joined | Estimated) -> None:
         """An item more that waits."""
-        self.open.setdefault(disk, deque()).append(item)
+        self.open_of(disk).append(item)
         self.waiting.append(item)
         if len(self.waiting) > MOST_WAITING:
             self.give(1)
+
+    def is_waiting(self, last: int) -> bool:
+        """Whether something waits of the lines up to this one."""
+        if not self.waiting:
+            return False
+        item = self.waiting[0]
+        return (item.check if isinstance(item, Joined) else item.sample).line <= last
+
+    def open_of(self, disk: str) -> deque[Joined | Estimated]:
+        """What waits for the next estimate of a disk."""
+        return self.open.setdefault(disk, deque())
 
     def give(self, at_least: int = 0) -> None:
         """Gives on what is known in full, and at least so many."""
@@ -255,14 +287,15 @@ class Joiner:
 
     def give_one(self, item: Joined | Estimated) -> None:
         """One item. What its task did before that is of no use any more."""
-        if isinstance(item, Estimated):
-            self.taker.estimate(item)
+        kind = type(item)
+        if kind is Estimated:
+            self.taker.estimate(item)  # type: ignore[arg-type]
             if not self.is_kept:
-                item.check = None
-        else:
-            self.taker.check(item)
+                item.check = None  # type: ignore[union-attr]
+        elif kind is Joined:
+            self.taker.check(item)  # type: ignore[arg-type]
             if not self.is_kept:
-                item.previous = None
+                item.previous = None  # type: ignore[union-attr]
 
     def end(self) -> None:
         """No line follows."""
@@ -270,84 +303,3 @@ class Joiner:
         for name, task in self.tasks.items():
             if task.last and task.free is not None:
                 self.let_free(name, task, task.last.is_strict)
-
-
-@dataclass
-class Story:
-    """A text, joined, and all of it in memory."""
-
-    text: Text
-    checks: list[Joined] = field(default_factory=list)
-    estimates: list[Estimated] = field(default_factory=list)
-    frees: list[Free] = field(default_factory=list)
-
-    def free(self, free: Free) -> None:
-        """Keeps it."""
-        self.frees.append(free)
-
-    def check(self, joined: Joined) -> None:
-        """Keeps it."""
-        self.checks.append(joined)
-
-    def estimate(self, estimated: Estimated) -> None:
-        """Keeps it."""
-        self.estimates.append(estimated)
-
-
-T = TypeVar("T", bound=Taker)
-
-
-def told(path: str, second: int | None, strict: Collection[str], make: Callable[[Text], T], is_kept: bool = False) -> T:
-    """What takes the text of a file, after all of it. It is read again where its first spans let one guess too few ticks a second."""
-    with opened(path) as (name, file):
-        clocks = [second] if second else [it for it in SECONDS if it >= guessed_second(file, name)]
-        for clock in clocks:
-            text = Text(name, Clock(clock))
-            taker = make(text)
-            joiner = Joiner(taker, strict, is_kept)
-            try:
-                take_all(lines_of(file, text, second is None), joiner, text)
-            except OtherClock:
-                continue
-            look(text, strict)
-            return taker
-    raise OtherWords(f"{name}: the spans of its checks are of no number of ticks a second known here: --hz says it")
-
-
-def take_all(lines: Iterator[Line | Lost], joiner: Joiner, text: Text) -> None:
-    """Gives all lines to a joiner. Nothing here refers to what refers to it, so that no search for such circles is needed."""
-    is_collecting = gc.isenabled()
-    gc.disable()
-    try:
-        joiner.take(kept(lines, text) if joiner.is_kept else lines)
-        joiner.end()
-    finally:
-        if is_collecting:
-            gc.enable()
-
-
-def kept(lines: Iterable[Line | Lost], text: Text) -> Iterator[Line | Lost]:
-    """The lines, which are kept too."""
-    for line in lines:
-        if not isinstance(line, Lost):
-            text.lines.append(line)
-        yield line
-
-
-def look(text: Text, strict: Collection[str]) -> None:
-    """Whether all is there that a text needs, and a word on what of it is left out."""
-    if not text.disks_seen:
-        raise Fault(text.path, 0, Cause.MISSING, "it has no line of balance_dirty_pages")
-    if not text.states_seen:
-        raise Fault(text.path, 0, Cause.MISSING, "it has no line of global_dirty_state")
-    disks = sorted({disk.partition(" ")[0] for disk in text.disks_seen})
-    for disk in strict:
-        if disk not in disks:
-            raise OtherWords(f"--strict {disk}: no check is of that disk, there are {', '.join(disks)}")
-    if text.cut:
-        print(f"wb: {text.path}: {text.cut}", file=sys.stderr)
-
-
-def story_of(path: str, second: int | None = None, strict: Collection[str] = ()) -> Story:
-    """A text with all its lines."""
-    return told(path, second, strict, Story, True)

@@ -12,7 +12,8 @@ from dataclasses import dataclass
 
 from program.errors import OtherWords
 
-from .joining import Joined, Story
+from .joining import Joined
+from .whole import Story
 from .tracepoints import State
 
 MOST_PAGES = 300_000

@@ -1,7 +1,7 @@
 """Which numbers of a check are equal at the first look, as most of a text are: by the likeliest average and the first threshold."""
 from __future__ import annotations
 
-from laws.clock import Clock
+from laws.clock import MOST_KEPT, Clock
 from laws.limits import Limits, freerun_of
 from laws.pauses import max_pause, min_pause
 from laws.position import position
@@ -9,16 +9,17 @@ from laws.position import position
 from .checks import PLACES, allowance_after, ended_after, pause_of
 from .joining import Joined
 from .numbers import Kind
-from .reading import ticks_of
 from .tracepoints import Sample
 
 new = tuple.__new__
 FREE, COUNT, SETPOINT, RATE, PERIOD, PAUSE, ALLOWANCE, THINK = (
     1 << PLACES[kind] for kind in (Kind.FREE, Kind.COUNT, Kind.SETPOINT, Kind.RATE, Kind.PERIOD, Kind.PAUSE, Kind.ALLOWANCE, Kind.THINK))
+NO_THINK = 1 << len(PLACES)
+"""There is no number of that kind."""
 
 
 def equal_ones(joined: Joined, spans: Spans) -> int:
-    """The set of them: a bit each, by its place in `KINDS`."""
+    """The set of them: a bit each, by its place in `KINDS`, and one where a number isn't there."""
     after, state, check = joined.after, joined.state, joined.check
     if after is None or joined.is_strict:
         return 0
@@ -43,39 +44,33 @@ def equal_ones(joined: Joined, spans: Spans) -> int:
 
 
 class Spans:
-    """The numbers of a check that are spans of time, or follow from them. Spans are few, so their ticks are kept."""
+    """The numbers of a check that are spans of time, or follow from them. Spans are few, so what is printed of their ticks is kept."""
 
     def __init__(self, clock: Clock) -> None:
         self.clock = clock
-        self.ticks: dict[int, int] = {}
         self.printed: dict[int, int] = {}
-
-    def ticks_of(self, span: int) -> int:
-        """The ticks of so many milliseconds."""
-        found = self.ticks.get(span)
-        if found is None:
-            found = self.ticks[span] = ticks_of(span, self.clock)
-        return found
 
     def print(self, ticks: int) -> int:
         """So many ticks as they are printed."""
-        found = self.printed.get(ticks)
-        if found is None:
-            found = self.printed[ticks] = self.clock.milliseconds(ticks)
+        if len(self.printed) >= MOST_KEPT:
+            self.printed.clear()
+        found = self.printed[ticks] = self.clock.milliseconds(ticks)
         return found
 
     def equal_ones(self, joined: Joined, after: Sample) -> int:
         """Those of period, pause, allowance and think."""
         _, _, _, time, _, _, _, _, _, own_dirty, ratelimit, rate, dirtied, allowance, _, pause, period, think = joined.check
-        clock, average = self.clock, after.average
+        clock, average, printed = self.clock, after.average, self.printed
+        second, ticks_of = clock.second, clock.ticks
         longest = max_pause(own_dirty, average, clock)
         least = min_pause(longest, rate, average, ratelimit, clock)
         joined.first_bounds = (longest, least)
         found = 0
-        if period == self.print(clock.second * dirtied // rate if rate else longest):
+        ticks = second * dirtied // rate if rate else longest
+        if period == (printed[ticks] if ticks in printed else self.print(ticks)):
             found = PERIOD
-        wanted = self.ticks_of(period) - self.ticks_of(think)
-        if (pause if pause > 0 else 0) == self.print(pause_of(rate, wanted, longest, least)):
+        ticks = pause_of(rate, ticks_of[period] - ticks_of[think], longest, least)
+        if (pause if pause > 0 else 0) == (printed[ticks] if ticks in printed else self.print(ticks)):
             found |= PAUSE
         previous = joined.previous
         if previous is None or joined.free is not None or previous.first_bounds is None:
@@ -83,7 +78,10 @@ class Spans:
         before = previous.check
         if allowance == (previous.first_bounds[1].pages if before.pause > 0 else allowance_after(before, previous.first_bounds[1], clock)):
             found |= ALLOWANCE
-        ticks = round((time - before.time) * clock.second)
-        if (think or before.think or before.period) and think == self.print(ticks - ended_after(before, clock)):
-            found |= THINK
+        if not (think or before.think or before.period):
+            found |= NO_THINK
+        else:
+            ticks = round((time - before.time) * second) - ended_after(before, clock)
+            if think == (printed[ticks] if ticks in printed else self.print(ticks)):
+                found |= THINK
         return found

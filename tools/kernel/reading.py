@@ -12,16 +12,18 @@ import stat
 import sys
 import tempfile
 import time
-from collections.abc import Iterable, Iterator
+from collections.abc import Callable, Iterable, Iterator
 from contextlib import contextmanager
 from dataclasses import dataclass, field
-from typing import BinaryIO, NamedTuple, TextIO
+from itertools import chain
+from typing import BinaryIO, NamedTuple
 
 from laws.clock import Clock
 from program.errors import Cause, Fault, OtherWords, ReadFault
 
+from .common import read_common
 from .heads import Heads
-from .tracepoints import LOST, Bad, Balance, Line, Sample, State, read_common, read_line
+from .tracepoints import LOST, Bad, Balance, Line, Sample, State, read_line
 
 SECONDS = (100, 250, 300, 1000)
 """The numbers of ticks a second with which kernels are built."""
@@ -33,8 +35,8 @@ FIRST_LOOK = 1 << 22
 """Bytes of a text by whose spans the ticks a second are guessed; all others are held against the guess."""
 
 SPANS = re.compile(rb" paused=(\d{1,9}) pause=(-?\d{1,9}) period=(\d{1,9}) think=(-?\d{1,9})\b")
-EACH = 1 << 16
-"""Lines after which the time is looked at."""
+CHUNK = 1 << 20
+"""Bytes that are read at once."""
 
 SPARSE = 5.0
 """Seconds between two words on how far the reading is."""
@@ -78,6 +80,14 @@ class Text:
         return sorted(self.disks_seen)
 
 
+    def join(self, other: Text) -> None:
+        """Adds what was seen of what follows."""
+        self.lost += other.lost
+        self.cut = other.cut
+        self.disks_seen |= other.disks_seen
+        self.states_seen += other.states_seen
+
+
 @contextmanager
 def opened(path: str) -> Iterator[tuple[str, BinaryIO]]:
     """The name of a text, and its bytes, which can be read more than once."""
@@ -113,28 +123,31 @@ def fewest(spans: Iterable[int], name: str) -> int:
 
 def is_printed(span: int, clock: Clock) -> bool:
     """Whether a clock has a number of ticks that is printed so."""
-    return clock.milliseconds(ticks_of(span, clock)) == span
+    return clock.milliseconds(clock.ticks[span]) == span
 
 
-def ticks_of(span: int, clock: Clock) -> int:
-    """The ticks that are printed as so many milliseconds, or the next below."""
-    ticks = -(-abs(span) * clock.second // 1000)
-    return ticks if span >= 0 else -ticks
+class Reader:
+    """Reads a text, or a part of it."""
 
+    def __init__(self, file: BinaryIO, text: Text, is_guessed: bool) -> None:
+        self.file = file
+        self.text = text
+        self.heads = Heads()
+        self.order = Order()
+        self.fits = Fits(text.clock, is_guessed)
+        self.number = 0
+        """Of the last line that was read."""
 
-def lines_of(file: BinaryIO, text: Text, is_guessed: bool) -> Iterator[Line | Lost]:
-    """The lines of the three tracepoints. Raises `OtherClock` where the clock was guessed and a span isn't of it."""
-    heads, order, fits = Heads(), Order(), Fits(text.clock, is_guessed)
-    progress = Progress(file, text.path)
-    times, disks, tasks, states, latest = order.times, text.disks_seen, heads.seen, 0, 0.0
-    with decoded(file) as lines:
-        for number, line in enumerate(lines, 1):
-            read = read_common(number, line) or read_other(number, line, heads, text)
-            if not number % EACH:
-                progress.tell()
+    def lines(self, begin: int = 0, end: int | None = None, tell: Callable[[int], None] | None = None) -> Iterator[Line | Lost]:
+        """The lines of the three tracepoints from one place to another. Raises `OtherClock` where the clock was guessed and a span isn't of
+        it."""
+        text, heads, order, fits = self.text, self.heads, self.order, self.fits
+        times, disks, known, states, latest, number = order.times, text.disks_seen, heads.known, 0, order.latest, self.number
+        is_guessed, spans = fits.is_guessed, fits.known
+        source = Source(self.file, begin, end, tell or Progress(self.file, text.path).tell)
+        for number, line in enumerate(source.lines(), number + 1):
+            read = read_common(number, line) or read_other(number, line, heads, text.path)
             if read is None:
-                if line[-1] != "\n":
-                    break
                 if found := LOST.match(line):
                     text.lost += int(found[1] or found[2] or 1)
                     yield Lost(number)
@@ -145,36 +158,77 @@ def lines_of(file: BinaryIO, text: Text, is_guessed: bool) -> Iterator[Line | Lo
             else:
                 latest = moment
             times[read[2]] = moment
-            tasks.add(read[1])
-            if len(read) == LENGTH_OF_CHECK:
-                fits.look(read)
-                disks.add(read[4])
-            elif type(read) is State:
+            if read[1] not in known:
+                heads.learn(read[1])
+            kind = type(read)
+            if kind is State:
                 states += 1
+            elif kind is Balance:
+                if is_guessed and not spans.issuperset(read[14:18]):
+                    fits.look(read)  # type: ignore[arg-type]
+                disks.add(read[4])  # type: ignore[arg-type]
             yield read
-    text.states_seen = states
+        self.number, order.latest = number, latest
+        text.states_seen += states
+        if source.rest:
+            text.cut = f"line {number + 1} is cut: dropped"
 
 
-def decoded(file: BinaryIO) -> TextIO:
-    """The lines of a file from its beginning on, which itself stays open."""
-    lines = open(os.dup(file.fileno()), encoding="latin-1", newline="\n")
-    lines.seek(0)
-    return lines
+class Source:
+    """The lines of a file from one place to another, without their ends. What stands there after the last end is the rest."""
+
+    def __init__(self, file: BinaryIO, begin: int = 0, end: int | None = None, tell: Callable[[int], None] = lambda _: None) -> None:
+        self.file = file.fileno()
+        self.place = begin
+        """Where the lines begin that were read last."""
+
+        self.brackets = 0
+        """How many open in them."""
+
+        self.end = os.fstat(self.file).st_size if end is None else end
+        self.tell = tell
+        """Is told how far it is read."""
+
+        self.rest = ""
+
+    def lines(self) -> Iterator[str]:
+        """One after another."""
+        return chain.from_iterable(self.chunks())
+
+    def chunks(self) -> Iterator[list[str]]:
+        """Many at once. Other processes may read the same file, so that it has no place of its own."""
+        at = self.place
+        while at < self.end and (found := os.pread(self.file, min(CHUNK, self.end - at), at)):
+            self.place = at - len(self.rest)
+            at += len(found)
+            text = self.rest + found.decode("latin-1")
+            lines = text.split("\n")
+            self.rest = lines.pop()
+            self.brackets = text.count("[", 0, len(text) - len(self.rest))
+            self.tell(at)
+            yield lines
+
+    def between(self, begin: int, end: int) -> list[str]:
+        """The lines between two places at which some begin."""
+        return os.pread(self.file, end - begin, begin).decode("latin-1").split("\n")[:-1]
+
+    def next_line(self, place: int) -> int:
+        """Where the first line begins that does so at a place or after it."""
+        before = place - 1
+        while place and (part := os.pread(self.file, CHUNK, before)):
+            if (at := part.find(b"\n")) >= 0:
+                return before + at + 1
+            before += len(part)
+        return self.end if place else 0
 
 
-LENGTH_OF_CHECK = len(Balance._fields)
-
-
-def read_other(number: int, line: str, heads: Heads, text: Text) -> Line | None:
-    """What any line tells; nothing where it is cut, or of no tracepoint here."""
-    if line[-1] != "\n":
-        text.cut = f"line {number} is cut: dropped"
-        return None
+def read_other(number: int, line: str, heads: Heads, path: str) -> Line | None:
+    """What any line tells; nothing where it is of no tracepoint here."""
     try:
         return read_line(number, line, heads)
     except Bad as bad:
         cause = Cause.OUT_OF_RANGE if bad.is_range else Cause.BAD_LINE
-        raise Fault(text.path, number, cause, str(bad), bad.place + 1) from None
+        raise Fault(path, number, cause, str(bad), bad.place + 1) from None
 
 
 class Order:
@@ -184,11 +238,13 @@ class Order:
         self.times: dict[int, float] = {}
         """Of each CPU."""
 
+        self.latest = 0.0
+
     def look(self, path: str, read: Line, line: str, latest: float) -> None:
         """A line before the latest time."""
         before = self.times.get(read.cpu, 0.0)
         if read.time < before or read.time < latest - APART:
-            since = before if read.time < before else latest
+            since = latest if read.time < latest - APART else before
             column = line.find(f"{read.time:.6f}"[:-3]) + 1
             raise Fault(path, read.line, Cause.OUT_OF_PLACE, f"time runs backwards, from {since:.6f} to {read.time:.6f} s", column)
 
@@ -202,25 +258,24 @@ class Fits:
         self.is_guessed = is_guessed
 
     def look(self, check: Balance) -> None:
-        """One check more."""
-        if self.is_guessed and not self.known.issuperset(check[14:18]):
-            for span in check[14:18]:
-                if not is_printed(abs(span), self.clock):
-                    raise OtherClock
-                self.known.add(span)
+        """A check that has a span which isn't known to be of it."""
+        for span in check[14:18]:
+            if not is_printed(abs(span), self.clock):
+                raise OtherClock
+            self.known.add(span)
 
 
 class Progress:
     """Says now and then on standard error how far a long text is read."""
 
     def __init__(self, file: BinaryIO, path: str) -> None:
-        self.file, self.path = file, path
+        self.path = path
         self.size = os.fstat(file.fileno()).st_size
         self.said = time.monotonic()
 
-    def tell(self) -> None:
+    def tell(self, at: int) -> None:
         """A word, where the last is a while ago."""
         now = time.monotonic()
         if now - self.said >= SPARSE:
             self.said = now
-            print(f"wb: {self.path}: {os.lseek(self.file.fileno(), 0, os.SEEK_CUR) >> 20} of {self.size >> 20} MiB", file=sys.stderr)
+            print(f"wb: {self.path}: {at >> 20} of {self.size >> 20} MiB", file=sys.stderr)

@@ -1,7 +1,8 @@
 """The three tracepoints of writeback, as typed lines. Pages, rates in pages a second, times in seconds, spans in milliseconds.
 
-Most lines have their fields as kernels print them now, and one expression reads those. Any other line is read field by field: it may have
-fields that aren't known here and names of older kernels, and what is wrong in it is told with its column.
+Most lines have their fields as kernels print them now, and one expression reads those (`common` has a shorter way for most of these). Any
+other line is read field by field: it may have fields that aren't known here and names of older kernels, and what is wrong in it is told with
+its column.
 """
 from __future__ import annotations
 
@@ -139,29 +140,6 @@ def read_line(number: int, text: str, heads: Heads) -> Line | None:
     if head is None:
         raise Bad(0, f"no task, CPU and time stand before {event}")
     return of(number, head, text, place + len(event))
-
-
-HEAD = r" *([^\s<]\S*-\d+) +\[(\d+)\] \S+ +(\d{1,10}\.\d{6}): "
-WHOLE_STATE = re.compile(rf"{HEAD}global_dirty_state: {spelled(PAGES_OF_STATE)}\n").fullmatch
-WHOLE_BALANCE = re.compile(rf"{HEAD}balance_dirty_pages: bdi (\S+): "
-                           rf"{spelled(PAGES_OF_BALANCE + RATES_OF_BALANCE + REST_OF_BALANCE)} cgroup_ino=1\n").fullmatch
-new = tuple.__new__
-
-
-def read_common(number: int, text: str) -> Line | None:
-    """What a line tells that is as most are: of a task whose name has no spaces, in the root cgroup, as tracefs prints it now."""
-    if "global_dirty_state: " in text:
-        found = WHOLE_STATE(text)
-        if found:
-            task, cpu, time, *pages = found.groups()
-            return new(State, (number, task, int(cpu), float(time), *map(int, pages)))
-    elif "balance_dirty_pages: " in text:
-        found = WHOLE_BALANCE(text)
-        if found:
-            task, cpu, time, disk, limit, setpoint, dirty, own_setpoint, own_dirty, ratelimit, rate, *rest = found.groups()
-            return new(Balance, (number, task, int(cpu), float(time), disk, int(limit), int(setpoint), int(dirty), int(own_setpoint),
-                                 int(own_dirty), int(ratelimit) // KIB_A_PAGE, int(rate) // KIB_A_PAGE, *map(int, rest)))
-    return None
 
 
 def state(number: int, head: tuple[str, int, float], text: str, place: int) -> State:

@@ -17,6 +17,9 @@ from functools import cached_property
 
 from .numbers import pow2_up
 
+MOST_KEPT = 1 << 12
+"""Spans whose ticks are kept."""
+
 
 @dataclass(frozen=True)
 class Clock:
@@ -49,10 +52,30 @@ class Clock:
         """Over how many ticks a bandwidth is taken: the power of two from three seconds on."""
         return pow2_up(3 * self.second)
 
+    @cached_property
+    def ticks(self) -> Ticks:
+        """By milliseconds as tracepoints print them, the ticks that are printed so, or the next below."""
+        return Ticks(self.second)
+
     def milliseconds(self, ticks: int) -> int:
         """So many ticks as tracepoints print them: rounded towards zero."""
         whole = abs(ticks) * 1000 // self.second
         return whole if ticks >= 0 else -whole
+
+
+class Ticks(dict[int, int]):
+    """Ticks by milliseconds, each computed once. There are few of them, or they are computed again."""
+
+    def __init__(self, second: int) -> None:
+        super().__init__()
+        self.second = second
+
+    def __missing__(self, span: int) -> int:
+        if len(self) >= MOST_KEPT:
+            self.clear()
+        ticks = -(-abs(span) * self.second // 1000)
+        found = self[span] = ticks if span >= 0 else -ticks
+        return found
 
 
 PROFILE = Clock()

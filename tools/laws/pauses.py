@@ -10,6 +10,8 @@ from .numbers import log2, sat_sub
 FEW = 32
 """Pages: an allowance below it is taken anew."""
 
+new = tuple.__new__
+
 
 class Target(Enum):
     """By which rule the ticks of a least pause were found."""
@@ -47,7 +49,7 @@ def min_pause(most: int, rate: int, average: int, ratelimit: int, clock: Clock =
     if clock.second * pages // (rate + 1) > most:
         target, ticks = Target.CUT, most
         pages = rate * ticks // clock.near_second
-    return Least(pages, ticks, 1 + ticks // 2 if pages >= FEW else ticks, target)
+    return new(Least, (pages, ticks, 1 + ticks // 2 if pages >= FEW else ticks, target))
 
 
 def poll_interval(dirty: int, thresh: int) -> int:

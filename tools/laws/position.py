@@ -9,6 +9,7 @@ from .numbers import sat_sub, towards_zero
 
 GREATEST_RATIO = (1 << 32) - 1
 GREATEST_POLYNOM = 2048
+new = tuple.__new__
 
 
 class Slope(Enum):
@@ -72,4 +73,4 @@ def position(limits: Limits, dirty: int, context_limit: int, context_dirty: int,
             low, p = Low.HYPERBOLA, p * half // context_dirty
         else:
             low, p = Low.EIGHT, p * 8
-    return Position(setpoint, height, weight, share, middle, span, slope, bent, low, min(p, GREATEST_RATIO))
+    return new(Position, (setpoint, height, weight, share, middle, span, slope, bent, low, min(p, GREATEST_RATIO)))

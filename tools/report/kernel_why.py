@@ -11,7 +11,6 @@ from kernel.domains import is_by_machine
 from kernel.found import Found, found_of
 from kernel.joining import Joined
 from kernel.numbers import UNITS, Number, Verdict
-from kernel.reading import ticks_of
 from laws.clock import Clock
 
 from .causes import Cause
@@ -49,7 +48,7 @@ def is_of_machine(joined: Joined) -> bool:
 
 def spans(milliseconds: int, clock: Clock) -> str:
     """A span as the kernel prints it, with its ticks."""
-    ticks = ticks_of(milliseconds, clock)
+    ticks = clock.ticks[milliseconds]
     return f"{milliseconds} ms ({ticks} tick{'s' * (ticks != 1)})"
 
 

@@ -7,7 +7,7 @@ from collections.abc import Iterator, Sequence
 from dataclasses import dataclass, field, replace
 
 from kernel import comparing
-from kernel.joining import Story
+from kernel.whole import Story
 from kernel.numbers import Kind, Number, Verdict
 from kernel.raised import Plain
 from kernel.reads import limits_of

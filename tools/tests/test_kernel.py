@@ -8,11 +8,11 @@ import unittest
 from functools import cache
 
 from kernel import strict
-from kernel import joining
+from kernel import whole
 from kernel.averages import of_rate
 from kernel.comparing import Tally, numbers, tally_of
 from kernel.heads import Heads
-from kernel.joining import Story
+from kernel.whole import Story
 from kernel.numbers import Kind, Number, Verdict
 from kernel.reads import limits_of, reads_of
 from kernel.searching import between, grid, where
@@ -44,7 +44,7 @@ def read_line(number: int, text: str) -> Line | None:
 @cache
 def story_of(path: str, *disks: str) -> Story:
     """The story of a text, of which these disks are strict: it is read once."""
-    return joining.story_of(path, None, disks)
+    return whole.story_of(path, None, disks)
 
 
 def counts(tally: Tally, kind: Kind) -> list[int]:
@@ -167,7 +167,7 @@ class Comparisons(unittest.TestCase):
 class StrictDisks(WithDirectory):
     def strict_numbers(self, *lines: str) -> list[Number]:
         """The numbers of a text of such lines, whose disk is strict."""
-        return list(numbers(joining.story_of(self.file("text", "".join(f"{line}\n" for line in lines)), 250, ["7:0"])))
+        return list(numbers(whole.story_of(self.file("text", "".join(f"{line}\n" for line in lines)), 250, ["7:0"])))
 
     def test_to_the_last_digit(self) -> None:
         tally = tally_of(story_of(STRICT, "7:0"))
@@ -218,7 +218,7 @@ class StrictDisks(WithDirectory):
                                                                  for disk in ("7:0", "7:1"))
         path = self.file("text", "\n".join([state, state, checks[1], state, state, checks[0], state, state, ""]))
         for disks, told in ((["7:0"], [False, True, True]), (["7:1"], [True, False, False])):
-            self.assertEqual([it.is_strict for it in joining.story_of(path, None, disks).frees], told)
+            self.assertEqual([it.is_strict for it in whole.story_of(path, None, disks).frees], told)
 
     def test_a_free_check_above_the_hard_limit(self) -> None:
         above = STATE.replace("dirty=43964", "dirty=51201")
@@ -238,7 +238,7 @@ class StrictDisks(WithDirectory):
         for pages, told in ((3838, [True, True]), (3839, [False, True]), (3840, [False, False])):
             check = CHECK.replace("wb_setpoint=44799 wb_dirty=16832", f"wb_setpoint=4479 wb_dirty={pages}")
             path = self.file("text", "\n".join([state, line_of("balance_dirty_pages", check), ""]))
-            self.assertEqual(strict.is_below_own(joining.story_of(path, None, ["7:0"]).checks[0]), told)
+            self.assertEqual(strict.is_below_own(whole.story_of(path, None, ["7:0"]).checks[0]), told)
 
     def test_which_threshold_would_give_a_rate(self) -> None:
         state = line_of("global_dirty_state", STATE)
@@ -260,7 +260,7 @@ class StrictDisks(WithDirectory):
     def test_in_all_cgroups(self) -> None:
         check = CHECK.replace("cgroup_ino=1", "cgroup_ino=77")
         path = self.file("text", "\n".join([line_of("global_dirty_state", STATE), line_of("balance_dirty_pages", check), ""]))
-        self.assertEqual([[it.is_strict for it in joining.story_of(path, None, disks).checks] for disks in ([], ["7:0"])], [[False], [True]])
+        self.assertEqual([[it.is_strict for it in whole.story_of(path, None, disks).checks] for disks in ([], ["7:0"])], [[False], [True]])
 
 
 class Words(WithDirectory):

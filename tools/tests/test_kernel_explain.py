@@ -8,7 +8,8 @@ import unittest
 from kernel.causes import Cause, cause_of, least, parts_of, shorter
 from kernel.explaining import Explaining, Wish
 from kernel.found import By, Found, found_of
-from kernel.joining import Joined, told
+from kernel.joining import Joined
+from kernel.whole import told
 
 from .given import TESTS_TEXTS, WithDirectory
 from .test_kernel import CHECK, STATE, STRICT, THREE, TWO, line_of, printed, story_of

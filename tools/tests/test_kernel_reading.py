@@ -8,10 +8,11 @@ import re
 import unittest
 from unittest import mock
 
-from kernel import reading
+from kernel import common, reading
 from kernel.heads import Heads
-from kernel.joining import story_of
-from kernel.tracepoints import State, read_common, read_line
+from kernel.whole import story_of
+from kernel.common import read_common
+from kernel.tracepoints import State, read_line
 from program.errors import Cause, Fault, OtherWords
 
 from .given import TESTS_TEXTS, WithDirectory
@@ -53,10 +54,19 @@ class HeadsOfLines(unittest.TestCase):
         self.assertEqual([task for task, _, _ in heads_of(*heads)], ["<...>-889", "dd-889", "dd-889"])
 
     def test_the_short_way_reads_the_same(self) -> None:
-        for event, fields in (("global_dirty_state", STATE), ("balance_dirty_pages", CHECK)):
-            line = line_of(event, fields) + "\n"
+        for event, fields in (("global_dirty_state", STATE), ("balance_dirty_pages", CHECK),
+                              ("balance_dirty_pages", CHECK.replace("cgroup_ino=1", "cgroup_ino=77").replace("wb_dirty", "bdi_dirty")),
+                              ("balance_dirty_pages", CHECK.replace("pause=0 period=0 think=0", "pause=-4 period=8 think=12"))):
+            line = line_of(event, fields)
             self.assertIsNotNone(read_common(1, line))
             self.assertEqual(read_common(1, line), read_line(1, line, Heads()))
+
+    def test_what_is_kept_of_numbers_is_read_again(self) -> None:
+        kept = common.Kept(common.numbers)
+        with mock.patch.object(common, "MOST_KEPT", 2):
+            for text, told in 2 * [("1 pause=-2", (1, -2)), ("3", (3,)), ("4 period=5", (4, 5))]:
+                self.assertEqual(kept[text], told)
+                self.assertLessEqual(len(kept), 2)
 
     def test_a_text_of_such_names(self) -> None:
         story = story_of(os.path.join(TESTS_TEXTS, "names.kernel.txt"))
@@ -194,7 +204,7 @@ class Clocks(WithDirectory):
         self.assertEqual(out.getvalue(), "")
 
     def test_progress_is_sparse(self) -> None:
-        with mock.patch.object(reading, "EACH", 100), mock.patch.object(reading, "SPARSE", 0.0):
+        with mock.patch.object(reading, "CHUNK", 1 << 18), mock.patch.object(reading, "SPARSE", 0.0):
             _, _, err = printed("kernel", "compare", "--allow-unexplained", THREE)
         self.assertRegex(err, r"^(wb: .*three-writers.txt: \d of \d MiB\n)+$")
         self.assertEqual(printed("kernel", "compare", "--allow-unexplained", THREE)[2], "")

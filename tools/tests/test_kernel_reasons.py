@@ -11,7 +11,7 @@ from kernel import averages, joining
 from kernel.comparing import Comparing, Group, compared, numbers
 from kernel.domains import FOLD
 from kernel.estimates import MOVED
-from kernel.joining import story_of, told
+from kernel.whole import story_of, told
 from kernel.numbers import Kind, Number, Verdict
 from kernel.raised import Plain, is_raised
 from kernel.scale import UNIT, Scale

@@ -8,8 +8,8 @@ from typing import Any
 from kernel.causes import Cause
 from kernel.comparing import numbers
 from kernel.explaining import Explaining, Wish
-from kernel.joining import story_of as read_story
-from kernel.joining import told as told_text
+from kernel.whole import story_of as read_story
+from kernel.whole import told as told_text
 from report.kernel_why import Told, is_of_machine, lines_of, told_of
 from report.of_kernel import report_of
 

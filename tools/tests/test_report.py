@@ -19,7 +19,7 @@ from journals.reasons import Reasons, rates_of
 from journals.sentences import Sentences
 from journals.trace import Trace
 from journals.trace_reader import read_trace
-from kernel.joining import story_of
+from kernel.whole import story_of
 from kernel.numbers import Kind
 from kernel.tracepoints import Balance, State
 from program.main import main

@@ -8,7 +8,7 @@ import unittest
 from typing import Any
 
 from journals.trace_reader import read_trace
-from kernel.joining import story_of
+from kernel.whole import story_of
 from report import of_journal, of_kernel, page, script
 from report.content import Report
 

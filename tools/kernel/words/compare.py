@@ -13,8 +13,8 @@ from program.statuses import Status
 
 from ..as_json import comparison_json, number_json
 from ..comparing import Comparing, Group, Tally
-from ..joining import told
 from ..numbers import UNITS, Number, Verdict
+from ..whole import told, told_in_pieces
 from .texts import add_strict, add_text
 
 COLUMNS = {Verdict.EQUAL: "equal", Verdict.WITHIN: "within", Verdict.BETWEEN: "between", Verdict.NOT_TOLD: "not told",
@@ -44,7 +44,10 @@ def run(given: argparse.Namespace) -> Status:
                 listed(it, task, rows)
 
         is_listed = given.list or given.different
-        found = told(given.text, given.hz, given.strict, lambda of: Comparing(of, each if is_listed else None))
+        if is_listed:
+            found = told(given.text, given.hz, given.strict, lambda of: Comparing(of, each))
+        else:
+            found = told_in_pieces(given.text, given.hz, given.strict, Comparing)
         if given.json:
             as_json(found, rows if is_listed else None, text)
             return status_of(given, found)
@@ -113,7 +116,7 @@ NOT_TOLD = list(Verdict).index(Verdict.NOT_TOLD)
 
 def notes(found: Comparing, out: TextIO) -> None:
     """For each kind that has numbers that differ or are unexplained, the farthest one."""
-    far = [it for tally in found.tallies.values() for it in tally.farthest.values()]
+    far = [it for tally in found.tallies.values() for it in tally.far()]
     if far:
         print("\nfarthest off:", file=out)
     for it in far:

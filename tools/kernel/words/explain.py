@@ -16,8 +16,8 @@ from ..as_json import causes_json, explained_json
 from ..causes import period_lines, sentence, shorter
 from ..explaining import Explained, Explaining, Sum, Wish
 from ..found import By, told_lines
-from ..joining import told
 from ..tracepoints import Balance
+from ..whole import told_in_pieces
 from .texts import add_text
 
 LEFT_OUT = ("decision", "left", "task after", "error", "exceeded")
@@ -39,7 +39,7 @@ def run(given: argparse.Namespace) -> Status:
     """Prints the table of causes, or the numbers of checks."""
     settle(given)
     wish = Wish(given.line or 0, given.longest or 1, given.task)
-    found = told(given.text, given.hz, (), lambda of: Explaining(of, wish))
+    found = told_in_pieces(given.text, given.hz, (), lambda of: Explaining(of, wish))
     if wish.task and not any(found.is_wanted(task) for task in found.tasks):
         raise OtherWords(f"--task {wish.task}: no check is of that task, there are {', '.join(sorted(found.tasks))}")
     with held_text() as text:
@@ -97,7 +97,7 @@ def table(found: Explaining, out: TextIO) -> None:
     print(f"{found.text.path}: {found.checks} checks in {found.end - found.begin:.1f} s, {sum(it.many for it in found.sums.values())} pauses, "
           f"{paused / 1000:.2f} s paused; disks {', '.join(found.text.disks)}; {found.text.clock.second} ticks a second\n", file=out)
     print(f"{'task':<18}{'cause':<34}{'pauses':>8}{'paused, s':>11}{'of it, %':>10}{'longest, ms':>13}{'line':>9}", file=out)
-    tasks = sorted({task for task, _ in found.sums}, key=lambda task: -sum(it.paused for (of, _), it in found.sums.items() if of == task))
+    tasks = sorted(dict.fromkeys(task for task, _ in found.sums), key=lambda task: -sum(it.paused for (of, _), it in found.sums.items() if of == task))
     for task in tasks:
         of_task = sorted(((cause, it) for (of, cause), it in found.sums.items() if of == task), key=lambda pair: -pair[1].paused)
         whole = sum(it.paused for _, it in of_task)
@@ -105,7 +105,7 @@ def table(found: Explaining, out: TextIO) -> None:
             print(cells(task, cause.value, it, whole), file=out)
     if len(tasks) > 1:
         print(file=out)
-        for cause in sorted({cause for _, cause in found.sums}, key=lambda cause: -all_of(found, cause).paused):
+        for cause in sorted(dict.fromkeys(cause for _, cause in found.sums), key=lambda cause: -all_of(found, cause).paused):
             print(cells("all", cause.value, all_of(found, cause), paused), file=out)
 
 

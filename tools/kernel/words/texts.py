@@ -3,7 +3,7 @@ from __future__ import annotations
 
 import argparse
 
-from ..joining import Story, story_of
+from ..whole import Story, story_of
 from ..reading import SECONDS
 
 
