@@ -14,10 +14,10 @@ use wbt_top::Status;
 const FOUR_WRITERS: &str =
     "cpus 2\nset dirty_background_bytes 4096\navail 0 100000\ndevice 0 25600 0 100\ncontext 0 0 0\ninode 0 0 64\ntask 0 0\ntask 1 0\ntask 2 1\ntask 3 1\nflusher 0 0 0\nwrite 0 0 0 64\nrest 0 100\nwrite 0 0 0 64\nrest 1 100\nwrite 1 0 56 8\nwrite 1 0 0 64\nrest 2 100\nwrite 2 0 0 64\nrest 3 1100\nwrite 3 0 32 32\nrest 0 1100\nwrite 0 0 0 64\nrest 1 2200\nwrite 1 0 0 64\nrest 2 3300\nwrite 2 0 0 64\nrest 3 3300\nwrite 3 0 0 64\n";
 
-// Two tasks and a flusher on one CPU, which take turns from tick 101 on. The second task writes eight pages first, and so each later page
-// anew behind the flusher's claim.
+// Two tasks and a flusher on one CPU, whose disk takes 250 ticks for a page. At tick 101, or as soon as the clock is past it, both tasks write
+// all pages anew, and the first batch is still in flight then, whoever moves the clock.
 const TWO_WRITERS: &str =
-    "cpus 1\nset dirty_background_bytes 4096\navail 0 100000\ndevice 0 25600 0 100\ncontext 0 0 0\ninode 0 0 64\ntask 0 0\ntask 1 0\nflusher 0 0 0\nwrite 0 0 0 64\nrest 0 100\nwrite 0 0 0 64\nrest 1 100\nwrite 1 0 56 8\nwrite 1 0 0 64\n";
+    "cpus 1\nset dirty_background_bytes 4096\navail 0 100000\ndevice 0 4 0 100\ncontext 0 0 0\ninode 0 0 64\ntask 0 0\ntask 1 0\nflusher 0 0 0\nwrite 0 0 0 64\nrest 0 100\nwrite 0 0 0 64\nrest 1 100\nwrite 1 0 56 8\nwrite 1 0 0 64\n";
 
 // One CPU, one task that writes two pages.
 const TWO_PAGES: &str =
