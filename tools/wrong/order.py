@@ -209,7 +209,8 @@ OF_STEPS = (
          *changed(HANDED_OVER, ("        if it.page", "        handed = self.clock\n        if it.page"),
                   ("min(self.clock + flight", "min(handed + flight"), ("{self.clock} {until}", "{handed} {until}"))),
     Rule("a page whose claim fails is passed over", REPLAY,
-         'self.step(cpu.number, "claim")\n                return', 'self.step(cpu.number, "claim")\n                it.page = page + 1\n                return'),
+         'self.step(cpu.number, "claim")\n                return',
+         'self.step(cpu.number, "claim")\n                it.page = page + 1\n                return'),
     Rule("an inode is scanned in one turn", REPLAY, "len(it.batch) < it.chunk:\n            return",
          "len(it.batch) < it.chunk:\n            yield from self.scan(cpu, it)\n            return"),
     Rule("a batch lands in one turn", REPLAY, "        if it.batch:\n            return",
@@ -287,7 +288,8 @@ OF_NEXT_TURNS = (
 OF_MOMENTS = (
     Rule("a tick line moves the clock to that moment", REPLAY, "self.clock += wanted", "self.clock = max(self.clock, wanted)"),
     Rule("the clock moves to the timer's moment only where nothing else waits", REPLAY,
-         "moments += [self.timer.next] if self.running else []", "moments += [self.timer.next] if self.running and max(moments) <= self.clock else []"),
+         "moments += [self.timer.next] if self.running else []",
+         "moments += [self.timer.next] if self.running and max(moments) <= self.clock else []"),
     Rule("the clock moves to the moments of flushers only where no task waits", REPLAY,
          '[it.until for it in self.flushers if it.phase in ("idle", "flying")]',
          '[it.until for it in self.flushers if it.phase in ("idle", "flying") and not any(at > self.clock for at in moments)]'),
@@ -319,8 +321,10 @@ OF_ENDINGS = (
     Rule("a run is halted only where all CPUs are stopped", REPLAY,
          '"halted" if self.stopped else', '"halted" if self.stopped == len(self.cpus) else'),
     Rule("a CPU is stopped where it has made its steps, with none to make", REPLAY, STEP,
-         STEP + "            if actor is not self.timer and actor.made == self.halt:\n                actor.stopped = True\n                self.stopped += 1\n"),
-    Rule("a run waits for the flushers of a CPU that is stopped", REPLAY, 'it.phase == "finished" or it.cpu.stopped for', 'it.phase == "finished" for'),
+         STEP + "            if actor is not self.timer and actor.made == self.halt:\n"
+         "                actor.stopped = True\n                self.stopped += 1\n"),
+    Rule("a run waits for the flushers of a CPU that is stopped", REPLAY,
+         'it.phase == "finished" or it.cpu.stopped for', 'it.phase == "finished" for'),
     Rule("a run is spent where it has made all its steps, with none to make", REPLAY, STEP,
          STEP + "            self.spent |= len(self.steps) == MOST_STEPS\n"),
 )
@@ -335,7 +339,8 @@ WITHOUT_EFFECT = (
                    "            yield from self.settle(cpu, inode.context, 1)\n            task.writer.page(cpu, self.ratelimit_pages)\n"))),
     # The sequence is odd from the unsealing to the publication, and even otherwise: a load that meets either store keeps what its CPU held.
     Rule("thresholds are stored together with the hard limit", REPLAY,
-         *changed(SEALED, ("            it.low = thresh, background\n", ""), ("it.sequence, it.hard,", "it.low = thresh, background\n            it.sequence, it.hard,"))),
+         *changed(SEALED, ("            it.low = thresh, background\n", ""),
+                  ("it.sequence, it.hard,", "it.low = thresh, background\n            it.sequence, it.hard,"))),
     # At a moment more where nobody can move the clock moves on.
     Rule("the clock stops at the next period too", REPLAY,
          "moments += [self.timer.next] if self.running else []", "moments += [self.timer.next, self.timer.period] if self.running else []"),
