@@ -3,7 +3,7 @@ from __future__ import annotations
 
 from dataclasses import dataclass, field
 
-from .bound import fixed_bound
+from .bound import closer_bound, fixed_bound
 from .entry_moments import EntryMoments
 from .events import (
     Age, Back, Batch, Bits, Check, Decision, Dirtying, DiskFault, Done, End, Ending, Estimate, Event, Fold, Left, Limits, Notice,
@@ -47,14 +47,15 @@ class DeviceSummary:
 class DomainSummary:
     """How near one domain came to its bound.
 
-    Of a journal with steps `greatest` is the greatest exact count, `bound_there` the bound at the first step with it,
-    `least_distance` the least of bound minus count, first at step `nearest`. Without steps `greatest` is the greatest count that a
+    Of a journal with steps `greatest` is the greatest exact count, `bound_there` the bound at the first step with it, `closer_there` the
+    closer bound there, `least_distance` the least of bound minus count, first at step `nearest`. Without steps `greatest` is the greatest count that a
     check read, and the bound is computed.
     """
 
     greatest: int = 0
     greatest_at: int = 0
     bound_there: int = 0
+    closer_there: int = 0
     least_distance: int | None = None
     nearest: int = 0
     greatest_hard: int = 0
@@ -78,6 +79,7 @@ class Summary(Listener):
         self.strict: list[Strict] = []
         self.ending: Ending | None = None
         self._opening_lines = trace.domains
+        self._fixed = [fixed_bound(trace, domain) for domain in range(trace.domains)]
         self._moments = EntryMoments(trace)
         self._device_of_flusher = [flusher.device for flusher in trace.flushers]
         self._device_of_context = [context.device for context in trace.contexts]
@@ -100,7 +102,11 @@ class Summary(Listener):
 
     def bound(self, domain: int) -> int:
         """The bound of a domain at the end, computed from the trace and the greatest hard limit of the journal."""
-        return self.domains[domain].greatest_hard + fixed_bound(self.trace, domain)
+        return self.domains[domain].greatest_hard + self._fixed[domain]
+
+    def closer(self, domain: int) -> int:
+        """The closer bound of a domain at the end, computed likewise."""
+        return closer_bound(self.trace, domain, self.domains[domain].greatest_hard)
 
     def _limits(self, event: Limits) -> None:
         domain = self.domains[event.domain]
@@ -170,9 +176,10 @@ class Summary(Listener):
 
     def _step(self, event: Step) -> None:
         self.steps = event.number
-        for domain, count, bound in zip(self.domains, event.counts, event.bounds):
+        for number, (domain, count, bound) in enumerate(zip(self.domains, event.counts, event.bounds)):
             if count > domain.greatest or not domain.greatest_at:
                 domain.greatest, domain.greatest_at, domain.bound_there = count, event.number, bound
+                domain.closer_there = closer_bound(self.trace, number, bound - self._fixed[number])
             distance = bound - count
             if domain.least_distance is None or distance < domain.least_distance:
                 domain.least_distance, domain.nearest = distance, event.number

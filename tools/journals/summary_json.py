@@ -9,7 +9,7 @@ from laws.clock import PROFILE
 from .events import Bits
 from .summary import DomainSummary, Summary, TaskSummary
 
-OF_STEPS = ("greatest", "greatest_at", "bound_there", "least_distance", "nearest")
+OF_STEPS = ("greatest", "greatest_at", "bound_there", "closer_there", "least_distance", "nearest")
 """Fields of a domain that steps alone tell."""
 
 
@@ -23,7 +23,8 @@ def summary_json(summary: Summary) -> dict[str, Any]:
         "tasks": [{"task": number, **task_json(task)} for number, task in enumerate(summary.tasks)],
         "devices": [{"device": number, "is_strict": trace.devices[number].is_strict, "is_ageing": trace.is_ageing(number), **asdict(device)}
                     for number, device in enumerate(summary.devices)],
-        "domains": [{"domain": number, **domain_json(domain, bool(summary.steps)), "bound": summary.bound(number)}
+        "domains": [{"domain": number, **domain_json(domain, bool(summary.steps)), "bound": summary.bound(number),
+                     "closer": summary.closer(number)}
                     for number, domain in enumerate(summary.domains)],
         "strict": [asdict(strict) for strict in summary.strict]}
 
@@ -34,5 +35,5 @@ def task_json(task: TaskSummary) -> dict[str, Any]:
 
 
 def domain_json(domain: DomainSummary, has_steps: bool) -> dict[str, Any]:
-    """A domain's numbers. `bound` beside them is the one at the end, by its formula."""
+    """A domain's numbers. `bound` and `closer` beside them are those at the end, by their formulas."""
     return {name: value if has_steps or name not in OF_STEPS else None for name, value in asdict(domain).items()}

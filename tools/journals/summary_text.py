@@ -73,13 +73,13 @@ def domain_table(summary: Summary) -> Iterable[str]:
     """Counts and distances in pages. Without steps the exact count isn't told, and what checks read stands there."""
     publications = [[domain.publications, domain.periods] for domain in summary.domains]
     if summary.steps:
-        head = ["domain", "greatest count", "at step", "bound there", "least distance", "at step", "new limits", "new periods"]
+        head = ["domain", "greatest count", "at step", "bound there", "closer bound", "least distance", "at step", "new limits", "new periods"]
         rows: list[list[Any]] = [
-            [number, domain.greatest, domain.greatest_at, domain.bound_there, domain.least_distance, domain.nearest]
+            [number, domain.greatest, domain.greatest_at, domain.bound_there, domain.closer_there, domain.least_distance, domain.nearest]
             for number, domain in enumerate(summary.domains)]
     else:
-        head = ["domain", "greatest count read", "bound computed", "new limits", "new periods"]
-        rows = [[number, "none" if domain.greatest_read is None else domain.greatest_read, summary.bound(number)]
+        head = ["domain", "greatest count read", "bound computed", "closer bound", "new limits", "new periods"]
+        rows = [[number, "none" if domain.greatest_read is None else domain.greatest_read, summary.bound(number), summary.closer(number)]
                 for number, domain in enumerate(summary.domains)]
     return table(head, [row + more for row, more in zip(rows, publications)])
 

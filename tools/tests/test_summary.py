@@ -37,8 +37,8 @@ class Summaries(unittest.TestCase):
 
     def test_domains(self) -> None:
         domains = summary_of("throttled").domains
-        self.assertEqual([(domain.greatest, domain.greatest_at, domain.bound_there) for domain in domains],
-                         [(5, 87, 423), (2, 36, 155)])
+        self.assertEqual([(domain.greatest, domain.greatest_at, domain.bound_there, domain.closer_there) for domain in domains],
+                         [(5, 87, 423, 359), (2, 36, 155, 91)])
         self.assertEqual([(domain.least_distance, domain.nearest) for domain in domains], [(418, 87), (153, 36)])
         self.assertEqual([(domain.publications, domain.periods) for domain in domains], [(1, 1), (1, 0)])
 
@@ -46,6 +46,7 @@ class Summaries(unittest.TestCase):
         summary = summary_of("threads")
         self.assertEqual((summary.steps, summary.domains[0].least_distance, summary.domains[0].greatest_read), (0, None, 41))
         self.assertEqual(summary.bound(0), 399902 + 2 * 32 + 2 * 1024 + 2 * 32 * 2)
+        self.assertEqual(summary.closer(0), summary.bound(0) - 2 * 32)
         self.assertEqual((summary.ending.value, summary.latest), ("faulted", 531))
 
     def test_an_example(self) -> None:
@@ -100,6 +101,7 @@ class ForOtherPrograms(unittest.TestCase):
         domain = told["domains"][0]
         self.assertEqual([domain[name] for name in ("greatest", "greatest_at", "bound_there", "least_distance", "nearest")], [None] * 5)
         self.assertEqual((domain["greatest_read"], domain["bound"]), (41, 399902 + 2 * 32 + 2 * 1024 + 2 * 32 * 2))
+        self.assertEqual((domain["closer_there"], domain["closer"]), (None, 399902 + 2 * 32 + 2 * 1024 + 2 * 32))
         self.assertEqual((told["steps"], told["ending"]), (0, "faulted"))
 
     def test_its_numbers_are_those_of_the_tables(self) -> None:
@@ -111,7 +113,7 @@ class ForOtherPrograms(unittest.TestCase):
                         it["longest_pause"], it["paused"]] for it in told["tasks"]]
             of_device = [[it[name] for name in ("device", "batches", "pages", "longest_flight", "completions", "faults", "given_back",
                                                 "absorbed", "estimates")] for it in told["devices"]]
-            of_domain = [[it[name] for name in ("domain", "greatest", "greatest_at", "bound_there", "least_distance", "nearest",
+            of_domain = [[it[name] for name in ("domain", "greatest", "greatest_at", "bound_there", "closer_there", "least_distance", "nearest",
                                                 "publications", "periods")] for it in told["domains"]]
             rows = [[int(cell) for cell in line.split()] for line in tables.splitlines() if line.replace(" ", "").isdigit()]
             for row in of_task + of_device + (of_domain if told["steps"] else []):

@@ -8,6 +8,7 @@ import sys
 from collections import Counter
 
 from wrong.inputs import FULL, Input, examples, inputs, law_rows, small_replays, sum_of, trace_text, worked_runs
+from wrong.order import WITHOUT_EFFECT, changed
 from wrong.rules import RULES, Rule
 from wrong.trying import Copy, parted
 from wrong.values import Values
@@ -78,8 +79,9 @@ class OfRules(WithDirectory):
         self.copy = Copy(TOOLS, self.directory)
 
     def test_each_has_a_name_and_a_place(self) -> None:
-        self.assertEqual(len({rule.name for rule in RULES}), len(RULES))
-        for rule in RULES:
+        rules = (*RULES, *WITHOUT_EFFECT)
+        self.assertEqual(len({rule.name for rule in rules}), len(rules))
+        for rule in rules:
             with self.subTest(rule.name):
                 self.copy.change(rule)
                 self.copy.restore(rule)
@@ -89,6 +91,12 @@ class OfRules(WithDirectory):
         for document in ("docs/CLAIMS.md", "docs/PROVED.md"):
             with open(os.path.join(ROOT, document), encoding="utf-8") as file:
                 self.assertRegex(file.read(), rf"\b{len(RULES)} (wrong )?rules\b", document)
+
+    def test_places_of_a_text(self) -> None:
+        self.assertEqual(changed("a b c", ("a", "x"), ("c", "")), ("a b c", "x b "))
+        for place in ("d", "b"):
+            with self.assertRaises(ValueError):
+                changed("a b b", (place, "x"))
 
     def test_an_old_text_that_is_not_there(self) -> None:
         for old in ("no such text", "return"):
@@ -137,6 +145,12 @@ class Program(WithDirectory):
             "skipped: last-step-halted.trace: a replay of all steps takes half a minute",
             f"skipped: {name}: only a replay of all steps may notice it"]))
         self.assertRegex(lines[-1], r"^\d+ passed, 0 failed, 2 skipped$")
+
+    def test_a_rule_without_effect(self) -> None:
+        name = "the clock stops at the next period too"
+        status, lines = self.run_with("--quick", name)
+        self.assertEqual((status, lines[1]), (0, f"without effect: {name}"))
+        self.assertRegex(lines[-1], r"^\d+ passed, 0 failed, 1 skipped$")
 
     def test_words_of_no_rule(self) -> None:
         self.assertEqual(self.run_with("no such rule")[0], 1)

@@ -2,7 +2,9 @@
 
     values   the definitions of a file of worked runs, worked out
     inputs   every worked run, row and example of the repository: the text that goes in, and the one that is wanted
-    rules    the wrong rules, each a change of one place of `tools/replay.py` or `tools/laws/`
+    rule     what a wrong rule is: a change of one place of `tools/replay.py` or `tools/laws/`
+    order    the wrong rules of the order of a replay, and those that change no journal
+    rules    all wrong rules
     outputs  what the program prints of inputs; it runs in the changed copy
     trying   the copy, the change, and which inputs notice it
 

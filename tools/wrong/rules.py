@@ -1,21 +1,8 @@
-"""The wrong rules: what each does, the file under tools/, and the text that is changed there, which stands just once in it."""
+"""The wrong rules. Those of the order of a replay stand in `order`."""
 from __future__ import annotations
 
-from typing import NamedTuple
-
-
-class Rule(NamedTuple):
-    """A wrong rule."""
-
-    name: str
-    file: str
-    old: str
-    new: str
-
-
-REPLAY, LIMITS, POSITION, PAUSES = "replay.py", "laws/limits.py", "laws/position.py", "laws/pauses.py"
-DECISION, ESTIMATE, PROPORTIONS = "laws/decision.py", "laws/estimate.py", "laws/proportions.py"
-COUNTERS, ALLOWANCE, STRICT, AGE = "laws/counters.py", "laws/allowance.py", "laws/strict.py", "laws/age.py"
+from .order import OF_ORDER
+from .rule import AGE, ALLOWANCE, COUNTERS, DECISION, ESTIMATE, LIMITS, PAUSES, POSITION, PROPORTIONS, REPLAY, STRICT, Rule
 
 OF_LIMITS = (
     Rule("a cgroup's available pages: its own pages and the global domain's dirty pages exchanged", REPLAY,
@@ -388,4 +375,4 @@ OF_AGES = (
 )
 
 RULES = (*OF_LIMITS, *OF_LOADS, *OF_FLUSHERS, *OF_ESTIMATES, *OF_PROPORTIONS, *OF_POSITIONS, *OF_PAUSES, *OF_DECISIONS, *OF_WRITERS,
-         *OF_COUNTERS, *OF_TURNS, *OF_STRICT_DEVICES, *OF_AGES)
+         *OF_COUNTERS, *OF_TURNS, *OF_ORDER, *OF_STRICT_DEVICES, *OF_AGES)
