@@ -89,7 +89,7 @@ def compose(scene: Scene, domain: int, title: str) -> Any:
         if axes.get_legend_handles_labels()[0]:
             axes.legend(loc="center left", bbox_to_anchor=(1.0, 0.5), fontsize=8, frameon=False)
     figure.suptitle(f"{title}: domain {domain} ({'a cgroup' if domain else 'global'}), ending: {scene.ending}", fontsize=11)
-    axes.set_xlabel("steps" if scene.is_over_steps else "time (ticks)")
+    axes.set_xlabel("steps" if scene.is_over_steps else "time (ticks of 1 ms)")
     axes.xaxis.set_major_locator(MaxNLocator(nbins=9, integer=True))
     axes.ticklabel_format(axis="x", style="plain", useOffset=False)
     axes.set_xlim(scene.first, scene.first + (scene.last - scene.first) * 1.01)
@@ -257,7 +257,11 @@ def draw_pauses(scene: Scene, domain: int, tasks: list[int], axes: Any) -> None:
             label=f"paused after '{decision.value}'"))
     axes.set_ylim(len(tasks) - 0.4, -0.6)
     name_tasks(scene, domain, tasks, axes)
-    unit = counted(longest, "step" if scene.is_over_steps else "tick")
+    scale = axes.secondary_yaxis("right")
+    scale.set_yticks([ROW / 2, 0, -ROW / 2], ["0", f"{longest / 2:g}", f"{longest}"], fontsize=7)
+    scale.spines["right"].set_visible(False)
+    scale.tick_params(axis="y", direction="in", pad=-22)
+    unit = counted(longest, "step") if scene.is_over_steps else f"{counted(longest, 'tick')}, or {longest} ms"
     axes.set_title(f"a bar for each pause, as high as it is long: the highest is {unit}", fontsize=9, loc="left")
 
 

@@ -23,7 +23,7 @@ def compose(title: str, of: Parameter, values: Sequence[int], runs: Sequence[Mea
     line(paused, values, [1000 * it.paused / max(it.ticks, 1) for it in runs], PAUSES, "ticks paused a second,\nof all tasks")
     line(pages, values, [it.throughput for it in runs], PAGES, "pages completed\na second")
     line(counts, values, [it.greatest for it in runs], COUNT, "pages", label="greatest count")
-    counts.plot(values, [it.bound for it in runs], "o--", color=BOUND, markersize=4, linewidth=1.0, label="bound")
+    counts.plot(values, [it.bound for it in runs], joined(values, "--"), color=BOUND, markersize=4, linewidth=1.0, label="bound")
     counts.set_ylim(0, 1.05 * max(it.bound for it in runs))
     counts.legend(loc="center left", bbox_to_anchor=(1.0, 0.5), fontsize=8, frameon=False)
     line(distance, values, [it.distance for it in runs], DISTANCE, "least distance\nto the bound, pages")
@@ -37,9 +37,18 @@ def compose(title: str, of: Parameter, values: Sequence[int], runs: Sequence[Mea
     return figure
 
 
+FEW = 3
+"""So many values or fewer stand as dots: a line would say what lies between them."""
+
+
+def joined(values: Sequence[int], style: str = "-") -> str:
+    """How values are drawn: as dots, and where there are more than a few with a line through them."""
+    return f"o{style}" if len(values) > FEW else "o"
+
+
 def line(axes: Any, values: Sequence[int], heights: Sequence[float], color: str, name: str, label: str | None = None) -> None:
     """One number over the parameter."""
-    axes.plot(values, heights, "o-", color=color, markersize=4, linewidth=1.2, label=label)
+    axes.plot(values, heights, joined(values), color=color, markersize=4, linewidth=1.2, label=label)
     axes.set_ylabel(name)
     axes.ticklabel_format(axis="y", style="plain", useOffset=False)
     axes.set_ylim(0, 1.05 * max(max(heights), 1))

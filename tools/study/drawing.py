@@ -3,6 +3,8 @@ from __future__ import annotations
 
 from typing import Any
 
+from search.drawing import joined
+
 from .spread import Spread, spreads
 from .table import Table
 
@@ -50,7 +52,7 @@ def draw_line(part: Any, of: dict[tuple[int, ...], Spread], color: str, trace: s
     """The median over the variable, and the spread behind it."""
     settings = sorted(of)
     values = [setting[0] for setting in settings]
-    part.plot(values, [of[setting].middle for setting in settings], "o-", color=color, markersize=3, linewidth=1.2, label=trace)
+    part.plot(values, [of[setting].middle for setting in settings], joined(values), color=color, markersize=3, linewidth=1.2, label=trace)
     if any(of[setting].width for setting in settings):
         part.fill_between(values, [of[setting].least for setting in settings], [of[setting].greatest for setting in settings],
                           color=color, alpha=0.2, linewidth=0)

@@ -102,7 +102,7 @@ class Parts(unittest.TestCase):
         self.assertEqual(labels(pauses), ["paused after 'go'", "paused after 'wait'"])
         self.assertEqual([label.get_text() for label in pauses.get_yticklabels()], ["task 1\npaused 5 %"], "12 of 235 ticks")
         self.assertEqual(labels(rates), ["rate limit, context 1", "bandwidth, context 1"])
-        self.assertEqual((rates.get_xlabel(), rates.get_ylabel()), ("time (ticks)", "pages/s (log scale)"))
+        self.assertEqual((rates.get_xlabel(), rates.get_ylabel()), ("time (ticks of 1 ms)", "pages/s (log scale)"))
 
     def test_over_steps(self) -> None:
         counts, pauses, rates = picture.compose(scene_of("throttled", True), 1, "throttled").axes
