@@ -1,4 +1,4 @@
-//! The words of a call.
+//! The words of a call, and those of a journal's lines.
 
 use std::alloc::{AllocError, Global};
 use wbt_num::Items;
@@ -13,4 +13,17 @@ pub fn words_of(alloc: Global, words: &[&str]) -> Result<Words, AllocError> {
     Ok(Words {
         list: Items::from_vec(list),
     })
+}
+
+/// The number that a word of a line spells; 0 where there is no word.
+pub fn number(word: Option<&[u8]>) -> u64 {
+    let mut value: u64 = 0;
+    if let Some(digits) = word {
+        for digit in digits {
+            value = value
+                .saturating_mul(10)
+                .saturating_add(digit.saturating_sub(b'0') as u64);
+        }
+    }
+    value
 }

@@ -5,7 +5,7 @@ use std::alloc::{AllocError, Global};
 use std::sync::Wait;
 use std::test::Fail;
 use std::thread::Threads;
-use top_in_use::{call, calm};
+use top_in_use::{TWO_PAGES, call, calm};
 use wbt_io::{Clock, FaultyRack, FreeGate, HaltGate, HandClock, JumpClock};
 use wbt_top::Status;
 
@@ -18,10 +18,6 @@ const FOUR_WRITERS: &str =
 // all pages anew, and the first batch is still in flight then, whoever moves the clock.
 const TWO_WRITERS: &str =
     "cpus 1\nset dirty_background_bytes 4096\navail 0 100000\ndevice 0 4 0 100\ncontext 0 0 0\ninode 0 0 64\ntask 0 0\ntask 1 0\nflusher 0 0 0\nwrite 0 0 0 64\nrest 0 100\nwrite 0 0 0 64\nrest 1 100\nwrite 1 0 56 8\nwrite 1 0 0 64\n";
-
-// One CPU, one task that writes two pages.
-const TWO_PAGES: &str =
-    "cpus 1\navail 0 100000\ndevice 0 25600 0 100\ncontext 0 0 0\ninode 0 0 2\ntask 0 0\nflusher 0 0 0\nwrite 0 0 0 2\n";
 
 // No more pages are left than are in their two places.
 const TWICE_ALL: u64 = 128;
