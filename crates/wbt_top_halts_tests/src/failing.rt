@@ -7,7 +7,7 @@ use std::test::Fail;
 use std::thread::Threads;
 use top_in_use::{TWO_PAGES, call, calm};
 use wbt_io::{Clock, FaultyRack, FreeGate, HaltGate, HandClock, JumpClock};
-use wbt_top::Status;
+use wbt_top_plain::Status;
 
 // Four tasks on two CPUs write the same pages again and again, with rests after which a flusher that gave pages back may try again. It is
 // on the CPU of two of them, so that they take turns, and writes back whatever there is.

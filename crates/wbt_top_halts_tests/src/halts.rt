@@ -3,13 +3,14 @@
 //! Both CPUs that write make 139 steps, so both are stopped or neither is. The CPU with the flusher makes its steps in the drain.
 
 use super::ledger::{adds_up, writes_of};
+use plain_in_use::run_whole;
 use std::alloc::Global;
 use std::sync::Wait;
 use std::test::Fail;
 use std::thread::Threads;
-use top_in_use::{THREE_CPUS, call, calm, run_whole};
+use top_in_use::{THREE_CPUS, call, calm};
 use wbt_io::{HaltGate, HandClock, ModelRack};
-use wbt_top::Status;
+use wbt_top_plain::Status;
 
 // The bound of the trace's one domain, in pages.
 const BOUND: u64 = 22235;

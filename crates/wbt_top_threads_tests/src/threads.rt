@@ -1,13 +1,14 @@
 //! Runs over threads: what no clause says of them, that memory is enough and that all is done; and what each refusal leaves.
 
+use plain_in_use::{Outcome, words_of};
 use std::alloc::Global;
 use std::sync::Wait;
 use std::test::Fail;
 use std::thread::Threads;
-use top_in_use::{Input, Outcome, SlowClock, THREE_CPUS, TWO_PAGES, call, calm, words_of};
+use top_in_use::{Input, SlowClock, THREE_CPUS, TWO_PAGES, call, calm};
 use wbt_io::{FaultyRack, FreeGate, HaltGate, JumpClock, ModelRack};
 use wbt_run::MeetingGate;
-use wbt_top::{Route, Status, code, route};
+use wbt_top_plain::{Route, Status, code, route};
 use wbt_trace::{Missing, TraceFault};
 
 // One call at a clock that moves slowly, with a gate that stops nobody and disks that don't fail.
