@@ -1,7 +1,7 @@
 """Reads docs/clauses.txt: what a clause says, or a part of a definition, where the sources have no sentence of their own above it.
 
     wbt_io::read_all all, end: At success the bytes are all that was left, and none is left after.
-    wbt_top::IsControlled ends.done: It is done exactly where ..
+    wbt_top_plain::IsControlled ends.done: It is done exactly where ..
     wbt_queue::Queues::put others; wbt_queue::Queues::take others: Nothing else of the pass changes.
 
 A line has a call or a definition, the clauses or parts of which it speaks, and the sentence; without these it speaks of the whole. Where

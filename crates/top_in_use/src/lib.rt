@@ -1,23 +1,19 @@
-//! Calls of the program over memory, for tests of it: each makes one call, and says by no clause what comes of it. The crates of tests of
-//! the program stand on this.
+//! Calls of the program over memory that run over threads, for tests of it: each makes one call, and says by no clause what comes of it.
 //!
 //! ```text
-//! words    the words of a call
-//! outcome  what came of a call
-//! plain    calls that start no thread
-//! threads  calls that run over threads
+//! threads  the calls
 //! clock    a clock that moves slowly, whoever rests by it
+//! traces   traces that several tests run
+//! lines    lines of a journal's text, word by word
 //! ```
 #![tactic(auto)]
 
 mod clock;
-mod outcome;
-mod plain;
+mod lines;
 mod threads;
-mod words;
+mod traces;
 
 pub use clock::SlowClock;
-pub use outcome::Outcome;
-pub use plain::{run, run_on, run_whole, serve};
+pub use lines::number;
 pub use threads::{Input, call, calm};
-pub use words::words_of;
+pub use traces::{THREE_CPUS, TWO_PAGES};

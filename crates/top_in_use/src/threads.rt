@@ -1,7 +1,6 @@
 //! Calls that run over threads.
 
-use crate::outcome::Outcome;
-use crate::words::words_of;
+use plain_in_use::{Outcome, words_of};
 use std::alloc::Global;
 use std::sync::Wait;
 use std::test::Fail;

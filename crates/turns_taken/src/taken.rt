@@ -11,8 +11,7 @@ use std::test::Fail;
 use wbt_io::{Clock, Gate, NoMemory, Rack, StillClock};
 use wbt_journal::CpuJournal;
 use wbt_kit::{Hands, Kit, Turn};
-use wbt_run::lend::give_posts;
-use wbt_run::workers::make_workers;
+use wbt_run_lend::{give_posts, make_workers};
 use wbt_run_worker::{Condition, CpuSide, Worker};
 use wbt_trace::{Trace, read_trace};
 

@@ -1,7 +1,8 @@
 //! `wbsim`: what a machine's control of dirty pages does on a trace.
 //!
-//! Its calls are those of `wbt_top`. `main` hands them the words, standard input and standard output, the machine's clock, a gate that
-//! stops nobody and a rack of disks that don't fail, and ends as they answer: what it returns is made by such a call alone.
+//! Its calls are those of `wbt_top` and `wbt_top_plain`. `main` hands them the words, standard input and standard output, the machine's
+//! clock, a gate that stops nobody and a rack of disks that don't fail, and ends as they answer: what it returns is made by such a call
+//! alone.
 #![tactic(auto)]
 
 use std::alloc::{AllocError, Global};
@@ -9,7 +10,8 @@ use std::io::ErrorKind;
 use std::{env, io};
 use wbt_io::{FreeGate, ModelRack, RealClock, StdSink, StdSource};
 use wbt_num::Items;
-use wbt_top::{Ended, Route, Words, route};
+use wbt_top::Ended;
+use wbt_top_plain::{Route, Words, route};
 
 // The words after the program's name. Where one of them is no text, no command has them, and they are as none.
 fn words_of(rt: &HostRuntime, alloc: Global) -> Result<Words, AllocError> {

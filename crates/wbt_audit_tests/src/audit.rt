@@ -1,9 +1,9 @@
 //! Journals that are judged: the worked rows, journals that are cut, and a sink that fails.
 
+use plain_in_use::{run, run_on};
 use std::alloc::{AllocError, Global};
 use std::test::Fail;
-use top_in_use::{run, run_on};
-use wbt_top::{Status, code};
+use wbt_top_plain::{Status, code};
 use wbt_trace::TraceFault;
 
 // A trace that writes nothing, and its journal.

@@ -1,10 +1,11 @@
 //! Journals of runs over threads, as they are written, are judged.
 
+use plain_in_use::run_whole;
 use std::alloc::Global;
 use std::test::Fail;
-use top_in_use::{SlowClock, call, calm, run_whole};
+use top_in_use::{SlowClock, call, calm};
 use wbt_io::{FaultyRack, FreeGate, HaltGate, ModelRack};
-use wbt_top::Status;
+use wbt_top_plain::Status;
 
 // Two tasks that write 32 pages each, each on a CPU of its own, and a flusher on a third.
 const THREE_CPUS: &str =

@@ -36,7 +36,7 @@ use Rattle.wbt_run_laws.specs.Worked.{NoneFailed, SomeFailed, SomeSpent}
 use Rattle.wbt_run_drain.specs.Ends.{Any, EndsSo, GoesOn as PostGoesOn, HasEnded, HaveEnded, IsOut, NoneEnds, SomeEnds}
 use Rattle.wbt_run_drain.specs.Standing.{AreStanding, EndsBy, HasFailed, OutBy, SideStands}
 use Rattle.wbt_run_drain.specs.Teams.{faults_by_all, faults_told, logs_of, posts_of, shown_at, teams_of}
-use Rattle.wbt_run.proofs.Lists.{made_at}
+use Rattle.wbt_run_first.proofs.Lists.{made_at}
 
 -- ---- places of a list
 

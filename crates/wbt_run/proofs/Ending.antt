@@ -14,7 +14,7 @@ use Rattle.wbt_run_worker.proofs.Lists.{each_at}
 use Rattle.wbt_trace.specs.declared.trace.Trace.{Trace}
 use Rattle.wbt_run_drain.specs.Ends.{Any, EndsSo, HasCauseToStop, HasEnded, HaveEnded, IsOut, SomeEnds}
 use Rattle.wbt_run_drain.specs.Standing.{AreStanding, NoneStopped, OutBy}
-use Rattle.wbt_run.specs.Voiced.{OutForCause, StopsForCause}
+use Rattle.wbt_run_first.specs.Voiced.{OutForCause, StopsForCause}
 use Rattle.wbt_run.proofs.Causes.{each_of}
 
 module _ {D : Type 0} where

@@ -43,7 +43,7 @@ use Rattle.wbt_run_drain.proofs.Aged.{none_age}
 use Rattle.wbt_run_drain.proofs.Queued.{nothing_waits}
 use Rattle.wbt_run.specs.Finished.{HasFinished}
 use Rattle.wbt_run.specs.Running.{AreHalted, TellMoments}
-use Rattle.wbt_run.specs.Seated.{HasTicked, MakeAll}
+use Rattle.wbt_run_first.specs.Seated.{HasTicked, MakeAll}
 use Rattle.wbt_run.proofs.Causes.{all_faults, eight_told, have_ended, last, none_failed, some_failed, some_spent}
 use Rattle.wbt_run.proofs.Pausing.{all_pause_short}
 use Rattle.wbt_run.proofs.Told.{all_written, are_cleaned, are_halted, none_due, none_waits}

@@ -12,9 +12,9 @@ use Rattle.wbt_rules.specs.declared.moments.TheConstants.{MOST_FAULTS}
 use Rattle.wbt_run_worker.specs.declared.side.CpuSide.{CpuSide}
 use Rattle.wbt_run_drain.specs.Ends.{EndingIs}
 use Rattle.wbt_run_drain.specs.Teams.{faults_told, handed_over}
-use Rattle.wbt_run.specs.Back.{NotFallen}
-use Rattle.wbt_run.specs.declared.closing.Worked.{Worked}
-use Rattle.wbt_run.proofs.Giving.{risen_less, risen_since}
+use Rattle.wbt_run_first.specs.Back.{NotFallen}
+use Rattle.wbt_run_close.specs.declared.closing.Worked.{Worked}
+use Rattle.wbt_run_first.proofs.Giving.{risen_less, risen_since}
 
 grows_by : (handed : ℕ) (by a b c : Option ℕ) → IfSome by (λ total. total ≡ handed) → Grows (Some 0) a b → Grows by b c → Grows (Some handed) a c
 grows_by handed by a b None told one two = tt

@@ -1,16 +1,19 @@
 //! A run of a trace over threads, and its journal.
 //!
 //! ```text
-//! running    a run: a kit for the trace, the work, and the journal with what is left in the closed throttle
-//! working    the work: workers together, then the drain and the sweep, then the notes of all
-//! together   workers beside each other, and their seats together again
-//! beside     the threads: a worker for each CPU, and the timer's
-//! gather     the workers in parts: their sides, and their seats, which come together
-//! notes      the timer's notes take in those of the CPUs
-//! lend       the CPUs' sides before any turn: writers, flushers with a disk each, an empty log; and the disks given back
-//! workers    each side with its CPU's part of the seats; and what the sides leave: logs and disks
-//! closing    the journal of what all told and of what is left in the closed throttle: lawful for the trace
-//! meeting    a gate that tests hold threads with
+//! running   a run: a kit for the trace, the work, and the journal with what is left in the closed throttle
+//! working   the work: workers together, then the drain and the sweep, then the notes of all
+//! meeting   a gate that tests hold threads with
+//! ```
+//!
+//! The crates below have what it is made of:
+//!
+//! ```text
+//! wbt_run_lend       each CPU's side before any turn, with its part of the seats; and what the sides leave: logs and disks
+//! wbt_run_beside     the threads: a worker for each CPU, and the timer's
+//! wbt_run_together   workers beside each other, their seats together again, and the notes of all
+//! wbt_run_drain      the drain and the sweep
+//! wbt_run_close      the journal of what all told and of what is left in the closed throttle: lawful for the trace
 //! ```
 //!
 //! No fact spans two seats before they are joined. What each worker did is told by its log; after the join one record says where the sides
@@ -30,15 +33,8 @@
 //! ```
 #![tactic(auto)]
 
-mod beside;
-pub mod closing;
-mod gather;
-pub mod lend;
 mod meeting;
-mod notes;
 mod running;
-mod together;
-pub mod workers;
 mod working;
 
 pub use meeting::MeetingGate;

@@ -6,10 +6,9 @@ ghost use Rattle.wbt_journal.specs.declared.journal.Ending.{Ending as EndingValu
 ghost use Rattle.wbt_journal.specs.declared.journal.Journal.{Journal as JournalValue};
 ghost use Rattle.wbt_rules.specs.declared.moments.TheConstants.{MOST_FAULTS};
 ghost use Rattle.wbt_trace.specs.Lawful.{IsLawful};
-ghost use Rattle.wbt_run.specs.Back.{NotFallen};
+ghost use Rattle.wbt_run_first.specs.Back.{NotFallen};
 ghost use Rattle.wbt_run.specs.Running.{IsDone, IsFaulted, IsHalted, IsRunOf, IsSpent, NeverStops};
 
-use crate::closing::close;
 use crate::working::work;
 use std::alloc::Global;
 use std::sync::Wait;
@@ -17,6 +16,7 @@ use std::thread::Threads;
 use wbt_io::{Clock, Gate, NoMemory, Rack, told_moment};
 use wbt_journal::{Ending, Journal, has_forms};
 use wbt_kit::{Hands, Kit};
+use wbt_run_close::close;
 use wbt_trace::Trace;
 
 /// How a run ended.

@@ -7,8 +7,8 @@ use std::thread::Threads;
 use wbt_io::{Clock, Gate, HandClock, Rack};
 use wbt_journal::{Ending, Journal};
 use wbt_kit::{Hands, Kit};
-use wbt_run::closing::close;
 use wbt_run::{RunEnd, run, work};
+use wbt_run_close::close;
 use wbt_trace::read_trace;
 
 // The end of the run of a text.

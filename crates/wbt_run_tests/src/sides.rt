@@ -4,8 +4,8 @@ use std::test::Fail;
 use wbt_io::ModelRack;
 use wbt_journal::Ending;
 use wbt_num::Limits;
-use wbt_run::lend::{give_all, make_sides};
 use wbt_run_drain::ending::{all_ended, ending_of};
+use wbt_run_lend::{give_all, make_sides};
 use wbt_trace::read_trace;
 
 const TWO_CPUS: &[u8] =

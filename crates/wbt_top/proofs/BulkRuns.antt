@@ -21,11 +21,13 @@ use Rattle.wbt_journal.specs.Told.{Told}
 use Rattle.wbt_journal.specs.declared.journal.Journal.{Journal}
 use Rattle.wbt_journal.specs.declared.journal.Left.{Left}
 use Rattle.wbt_run.specs.Running.{IsDone, IsRunOf}
-use Rattle.wbt_top.specs.Threads.{IsBulkDone, IsWritten, bulk_line, bulk_text}
-use Rattle.wbt_top.proofs.Pages.{HasPages, HasTask, all_have_tasks}
-use Rattle.wbt_top.proofs.Handing.{is_completion}
-use Rattle.wbt_top.proofs.Sums.{adds_up, by_number, completed_once, dirties_one, dirtied_once, done_is, each_page, fresh_is, is_fresh_write, joined_each, nothing, one_of}
-use Rattle.wbt_top.proofs.Written.{IsDirtied, Reached, no_more, reached}
+use Rattle.wbt_top_plain.specs.Bulk.{bulk_line, bulk_text}
+use Rattle.wbt_top_plain.specs.Written.{IsWritten}
+use Rattle.wbt_top.specs.Threads.{IsBulkDone}
+use Rattle.wbt_top_sums.proofs.Pages.{HasPages, HasTask, all_have_tasks}
+use Rattle.wbt_top_sums.proofs.Handing.{is_completion}
+use Rattle.wbt_top_sums.proofs.Sums.{adds_up, by_number, completed_once, dirties_one, dirtied_once, done_is, each_page, fresh_is, is_fresh_write, joined_each, nothing, one_of}
+use Rattle.wbt_top_sums.proofs.Written.{IsDirtied, Reached, no_more, reached}
 
 -- ---- numbers from one on
 

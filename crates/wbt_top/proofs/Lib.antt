@@ -1,13 +1,3 @@
 mod BulkRuns
-mod Cutting
-mod Each
-mod Handing
-mod Inputs
-mod Judged
-mod Meaning
-mod Pages
-mod Plain
 mod Running
-mod Sums
-mod Told
-mod Written
+pub mod Served

@@ -7,8 +7,8 @@ use Rattle.wbt_journal.specs.declared.text.PrintEnd.{PrintEnd}
 use Rattle.wbt_journal.specs.declared.text.PrintEnd.TheVariants.{WriteFault}
 use Rattle.wbt_run.specs.Running.{IsRunOf}
 use Rattle.wbt_top.specs.Threads.{Ran}
-use Rattle.wbt_top.specs.declared.causes.RanEnd.{RanEnd}
-use Rattle.wbt_top.proofs.Sums.{adds_up}
+use Rattle.wbt_top.specs.declared.ran.RanEnd.{RanEnd}
+use Rattle.wbt_top_sums.proofs.Sums.{adds_up}
 
 -- ---- what was printed
 

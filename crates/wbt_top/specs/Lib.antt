@@ -1,4 +1,1 @@
-pub mod Audit
-pub mod StatusText
 pub mod Threads
-pub mod Top

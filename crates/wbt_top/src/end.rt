@@ -8,20 +8,21 @@ ghost use Rattle.wbt_io.specs.Told.{GainsPart};
 ghost use Rattle.wbt_rules.specs.declared.moments.TheConstants.{MOST_FAULTS};
 ghost use Rattle.wbt_run.specs.Running.{IsDone, IsFaulted, IsSpent as IsRunSpent, NeverStops};
 ghost use Rattle.wbt_trace.specs.declared.fault.TraceFault.{TraceFault as FaultValue};
-ghost use Rattle.wbt_top.specs.Audit.{Answers, Audited, IfAuditTold, IfRunToJudge, IsAudit, IsAuditInput, ReadsText, bad_journal, bad_trace};
-ghost use Rattle.wbt_top.specs.StatusText.{code_of};
-ghost use Rattle.wbt_top.specs.Threads.{Finishes, IsBulk, IsBulkDone, IsRun, IsServed, IsWritten, IsWrittenUnless, OfCommand, Ran, RunsThreads};
-ghost use Rattle.wbt_top.specs.Top.{IsReplay, IsCheck, IsLaw, ReadsTrace, Replayed, ReplayedPart, ReplayedSpent, Checked, CheckedPart, Decided, DecidedPart, IsRefused, IsLawRefused, IsLong, IfLong, IfTold, IfFaulty, IfLawTold, IfLawFaulty, IsSpent, ReadsWhole};
+ghost use Rattle.wbt_top_plain.specs.Audit.{Answers, Audited, IfAuditTold, IfRunToJudge, IsAudit, IsAuditInput, ReadsText, bad_journal, bad_trace};
+ghost use Rattle.wbt_top_plain.specs.StatusText.{code_of};
+ghost use Rattle.wbt_top_plain.specs.Bulk.{IsBulk, IsRun, RunsThreads};
+ghost use Rattle.wbt_top_plain.specs.Written.{IsWritten, IsWrittenUnless};
+ghost use Rattle.wbt_top.specs.Threads.{Finishes, IsBulkDone, IsServed, OfCommand, Ran};
+ghost use Rattle.wbt_top_plain.specs.Top.{IsReplay, IsCheck, IsLaw, ReadsTrace, Replayed, ReplayedPart, ReplayedSpent, Checked, CheckedPart, Decided, DecidedPart, IsRefused, IsLawRefused, IsLong, IfLong, IfTold, IfFaulty, IfLawTold, IfLawFaulty, IsSpent, ReadsWhole};
 
-use crate::status::{Status, Words};
 use crate::threads::run_top;
-use crate::top::{code, plain_top};
 use std::alloc::Global;
 use std::marker::Model;
 use std::process::{ExitCode, Termination};
 use std::sync::Wait;
 use std::thread::Threads;
 use wbt_io::{Clock, Gate, Rack, Sink, Source};
+use wbt_top_plain::{Status, Words, code, plain_top};
 use wbt_trace::TraceFault;
 
 /// What `main` returns. None is made but by a call, or where memory for the words is refused.
@@ -31,7 +32,7 @@ pub struct Ended {
 }
 
 impl Model for Ended {
-    ghost use Rattle.wbt_top.specs.declared.status.Status.{Status as StatusValue};
+    ghost use Rattle.wbt_top_plain.specs.declared.status.Status.{Status as StatusValue};
 
     ghost Value = { StatusValue };
 

@@ -10,20 +10,19 @@ ghost use Rattle.wbt_run.specs.Running.{IsDone, IsFaulted, IsSpent, NeverStops};
 ghost use Rattle.wbt_trace.specs.Bulk.{bulk_trace};
 ghost use Rattle.wbt_trace.specs.Lawful.{IsLawful};
 ghost use Rattle.wbt_trace.specs.declared.fault.TraceFault.{TraceFault as FaultValue};
-ghost use Rattle.wbt_top.specs.Threads.{Finishes, IsBulk, IsBulkDone, IsBulkSize, IsRun, IsServed, IsWritten, IsWrittenUnless, OfCommand, OfRead, Ran, RunsThreads, bulk_text};
-ghost use Rattle.wbt_top.specs.Top.{IfFaulty, IfLong, IfTold, IsLong, IsRefused, ReadsWhole};
+ghost use Rattle.wbt_top_plain.specs.Bulk.{IsBulk, IsBulkSize, IsRun, RunsThreads, bulk_text};
+ghost use Rattle.wbt_top_plain.specs.Written.{IsWritten, IsWrittenUnless};
+ghost use Rattle.wbt_top.specs.Threads.{Finishes, IsBulkDone, IsServed, OfCommand, OfRead, Ran};
+ghost use Rattle.wbt_top_plain.specs.Top.{IfFaulty, IfLong, IfTold, IsLong, IsRefused, ReadsWhole};
 
-use crate::bulk::write_bulk;
-use crate::causes::{RanEnd, of_faulted, of_finished, of_input_end, of_ran, of_spent};
-use crate::input::read_input;
-use crate::status::{Command, Status, Words};
-use crate::words::command_of;
+use crate::ran::{RanEnd, of_faulted, of_finished, of_ran, of_spent};
 use std::alloc::Global;
 use std::sync::Wait;
 use std::thread::Threads;
 use wbt_io::{Clock, Gate, Rack, Sink, Source};
 use wbt_journal::print;
 use wbt_run::{RunEnd, run};
+use wbt_top_plain::{Command, Status, Words, command_of, of_input_end, read_input, write_bulk};
 use wbt_trace::{Trace, TraceFault, generate, text_has_one_answer};
 
 /// Serves the words `run` and `bulk N`: reads a trace from the source, runs it over threads, and writes the journal of the run; or

@@ -1,11 +1,11 @@
 //! The table of faults: texts that are cut, a source and a sink of one byte a call that fail, each with its status and its bytes.
 
 use super::worked::{EMPTY, EMPTY_TEXT};
+use plain_in_use::{Outcome, run, serve};
 use std::alloc::Global;
 use std::test::Fail;
-use top_in_use::{Outcome, run, serve};
 use wbt_io::{MemSink, MemSource};
-use wbt_top::Status;
+use wbt_top_plain::Status;
 use wbt_trace::{Missing, TraceFault};
 
 // The empty trace, and a task that writes two pages.

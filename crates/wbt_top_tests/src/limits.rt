@@ -1,10 +1,10 @@
 //! Inputs at the limits of what a trace may have: memory is enough for them, and each ends with its text.
 
+use plain_in_use::run_whole;
 use std::alloc::{AllocError, Global};
 use std::test::Fail;
-use top_in_use::run_whole;
 use wbt_num::{MOST_ACTIONS, MOST_INPUT, MOST_ORDER_LINES};
-use wbt_top::Status;
+use wbt_top_plain::Status;
 use wbt_trace::TraceFault;
 
 // The machine of 64 CPUs and 16 disks, each CPU with a task that writes the 15 pages of an inode of its own.

@@ -1,11 +1,11 @@
 //! The worked calls of the program, and what no clause says: that memory is enough.
 
+use plain_in_use::{run, run_on, serve};
 use std::alloc::Global;
 use std::test::Fail;
-use top_in_use::{run, run_on, serve};
 use wbt_io::{MemSink, MemSource};
 use wbt_num::MOST_INPUT;
-use wbt_top::{Status, code};
+use wbt_top_plain::{Status, code};
 use wbt_trace::{Missing, TraceFault};
 
 // A trace that writes nothing, up to its flusher, and the flusher.

@@ -1,25 +1,13 @@
 //! Lines of a journal's text, word by word.
 
 use std::alloc::{AllocError, Global};
+use top_in_use::number;
 
 // A batch that a flusher gave to its disk, from a moment to another, in ticks.
 #[derive(Clone, Copy, Debug, PartialEq, Eq)]
 pub(super) struct Batch {
     pub(super) now: u64,
     pub(super) until: u64,
-}
-
-// The number that a word spells; 0 where there is no word.
-pub(super) fn number(word: Option<&[u8]>) -> u64 {
-    let mut value: u64 = 0;
-    if let Some(digits) = word {
-        for digit in digits {
-            value = value
-                .saturating_mul(10)
-                .saturating_add(digit.saturating_sub(b'0') as u64);
-        }
-    }
-    value
 }
 
 // The batches that a text tells of a flusher, in order.

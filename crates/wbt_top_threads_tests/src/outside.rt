@@ -8,7 +8,7 @@ use std::thread::Threads;
 use std::time::Instant;
 use top_in_use::{call, calm};
 use wbt_io::{Clock, FaultyRack, FreeGate, HandClock, ModelRack, RealClock};
-use wbt_top::Status;
+use wbt_top_plain::Status;
 
 // Device 0 writes a page in 50 ticks, and device 1 in one. Flusher 0 is that of device 1, which has two inodes, and flusher 1 that of device 0. So few
 // pages are written in the drain alone.

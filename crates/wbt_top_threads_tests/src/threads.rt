@@ -1,22 +1,15 @@
 //! Runs over threads: what no clause says of them, that memory is enough and that all is done; and what each refusal leaves.
 
+use plain_in_use::{Outcome, words_of};
 use std::alloc::Global;
 use std::sync::Wait;
 use std::test::Fail;
 use std::thread::Threads;
-use top_in_use::{Input, Outcome, SlowClock, call, calm, words_of};
+use top_in_use::{Input, SlowClock, THREE_CPUS, TWO_PAGES, call, calm};
 use wbt_io::{FaultyRack, FreeGate, HaltGate, JumpClock, ModelRack};
 use wbt_run::MeetingGate;
-use wbt_top::{Route, Status, code, route};
+use wbt_top_plain::{Route, Status, code, route};
 use wbt_trace::{Missing, TraceFault};
-
-// One CPU, one task that writes two pages.
-const TWO_PAGES: &str =
-    "cpus 1\navail 0 100000\ndevice 0 25600 0 100\ncontext 0 0 0\ninode 0 0 2\ntask 0 0\nflusher 0 0 0\nwrite 0 0 0 2\n";
-
-// Two tasks that write 32 pages each, each on a CPU of its own, and a flusher on a third.
-pub(super) const THREE_CPUS: &str =
-    "cpus 3\navail 0 100000\ndevice 0 25600 0 100\ncontext 0 0 0\ninode 0 0 64\ntask 0 0\ntask 1 1\nflusher 0 0 2\nwrite 0 0 0 32\nwrite 1 0 32 32\n";
 
 // One call at a clock that moves slowly, with a gate that stops nobody and disks that don't fail.
 fn run<H: Threads + Wait + Sync>(

@@ -4,7 +4,7 @@ use Rattle.wbt_kit.specs.declared.kit.Seats.{Seats}
 use Rattle.wbt_run_worker.specs.Side.{IsSide}
 use Rattle.wbt_run_worker.specs.Team.{team_of}
 use Rattle.wbt_run_worker.specs.declared.worker.Worker.{Worker}
-use Rattle.wbt_run.specs.Lent.{IsFirstWorker}
+use Rattle.wbt_run_first.specs.Lent.{IsFirstWorker}
 use Rattle.wbt_trace.specs.declared.trace.Trace.{Trace}
 use Rattle.turns_taken.proofs.taken.take_of.Goals as goal
 

@@ -1,7 +1,7 @@
 use Rattle.std.proofs.Common.{rules, ◌≡◌, List, length, sym, ◌∙◌, subst}
 use Rattle.wbt_run_worker.specs.declared.side.CpuSide.{CpuSide}
 use Rattle.wbt_run.specs.Finished.{HasFinished}
-use Rattle.wbt_run.specs.Voiced.{OutForCause, StopsForCause}
+use Rattle.wbt_run_first.specs.Voiced.{OutForCause, StopsForCause}
 use Rattle.wbt_run.proofs.Ending.{out_for_cause, stops_after}
 use Rattle.wbt_run.proofs.Finishing.{finished}
 use Rattle.wbt_run.proofs.Holding.{whole_again}

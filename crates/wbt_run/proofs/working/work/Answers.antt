@@ -1,4 +1,4 @@
-use Rattle.wbt_run.proofs.Giving.{fallen_given, fallen_none}
+use Rattle.wbt_run_first.proofs.Giving.{fallen_given, fallen_none}
 use Rattle.wbt_run.proofs.Handed.{done_back, eight_back, faults_back, handed_back}
 use Rattle.wbt_run.proofs.working.work.Goals as goal
 

@@ -4,7 +4,8 @@ use Rattle.wbt_trace.specs.Bulk.{bulk_trace}
 use Rattle.wbt_trace.specs.Lawful.{IsLawful}
 use Rattle.wbt_trace.specs.Sofar.{pages_in}
 use Rattle.wbt_trace.specs.declared.trace.Trace.{Trace}
-use Rattle.wbt_top.specs.Threads.{Finishes, bulk_text}
+use Rattle.wbt_top_plain.specs.Bulk.{bulk_text}
+use Rattle.wbt_top.specs.Threads.{Finishes}
 use Rattle.wbt_top.proofs.BulkRuns.{bulk_done}
 use Rattle.wbt_top.proofs.Running.{on_ok, ran, unless}
 use Rattle.wbt_top.proofs.threads.run_bulk.Goals as goal

@@ -1,5 +1,5 @@
 use Rattle.std.proofs.Common.{rules, Some, inr, ap}
-use Rattle.wbt_top.specs.Threads.{IsBulkSize}
+use Rattle.wbt_top_plain.specs.Bulk.{IsBulkSize}
 use Rattle.wbt_top.proofs.threads.run_top.Goals as goal
 
 pub run_bulk-requires-after_bounds : goal.run_bulk-requires-after_bounds

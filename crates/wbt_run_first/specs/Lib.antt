@@ -1,0 +1,4 @@
+pub mod Lent
+pub mod Back
+pub mod Seated
+pub mod Voiced

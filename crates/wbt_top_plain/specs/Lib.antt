@@ -1,0 +1,5 @@
+pub mod Audit
+pub mod StatusText
+pub mod Top
+pub mod Bulk
+pub mod Written

@@ -1,0 +1,4 @@
+pub mod Handing
+pub mod Pages
+pub mod Sums
+pub mod Written
