@@ -2,6 +2,7 @@
 use Rattle.std.proofs.Common.{◌≡◌, ℕ, zero, suc, ◌+◌, ◌-◌, ◌^◌, ◌<◌, ◌≤◌, Bool, true, false, cond, nat_lt, List, [], ◌∷◌, length, map, get_or, sym, refl, ap, ap₂, ◌∙◌, arith}
 use Rattle.std.proofs.lemmas.List.{get_or-map}
 use Rattle.wbt_fraction.specs.declared.domain.note.Made.{Made}
+use Rattle.wbt_fraction.specs.declared.total.note.Tally.{Tally}
 use Rattle.wbt_fraction.specs.Seat.{Seated}
 use Rattle.wbt_fraction.specs.Totals.{TotalSeated, room_of, sums}
 use Rattle.wbt_fraction.specs.Several.{Shared, Seats, IsSeatOf, HasRoom, HasTotalRoom, IsJoined, AllJoined, IsTotalJoined, IsParted, AreAdded, room_in, stakes_in, left_of, right_of, total_left, total_right, no_seat}
@@ -110,7 +111,9 @@ totals_back old new stakes has is =
     let mine = is.stakes in
     let all : new.stakes ≡ old.stakes = omega arith in
     let rooms = is.rooms ∙ rooms_back old.rooms has in
-    λ i. record { table = is.table i; notes = is.notes i; stakes = all i; rooms = rooms i }
+    let known = same_either (nat_lt (length old.trail.known) (length old.trail.known)) old.trail.known in
+    let trail : new.trail ≡ old.trail = is.trail ∙ ap (λ (l : List Tally). record { own = old.trail.own; known = l }) known in
+    λ i. record { table = is.table i; notes = is.notes i; trail = trail i; stakes = all i; rooms = rooms i }
 
 pub undone : SplitIsUndone
 undone shared old new its has total domains totals =

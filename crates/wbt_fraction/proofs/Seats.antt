@@ -64,7 +64,7 @@ opened key =
       long = omega arith;
     }
 
-later_ends : (b : Bool) (one other all : List Made) → IsEnd one all → IsEnd other all → IsEnd (cond b other one) all
+pub later_ends : {A : Type 0} (b : Bool) (one other all : List A) → IsEnd one all → IsEnd other all → IsEnd (cond b other one) all
 later_ends true one other all a c = c
 later_ends false one other all a c = a
 

@@ -43,12 +43,12 @@ AreInOrder (m ∷ older) = (m.place ≡ length older) × (found_of m.note ≡ wo
     × ((m.left ≡ left_by m.note) ⊎ IsAged m.note m.left older) × AreInOrder older
 
 -- each of these steps is one of those, and none is there twice
-abbrev pub AreAmong : (own all : List Made) → Type 0
-AreAmong own all = (weight : Made → ℕ) → total weight own ≤ total weight all
+abbrev pub AreAmong : {A : Type 0} (own all : List A) → Type 0
+AreAmong {A} own all = (weight : A → ℕ) → total weight own ≤ total weight all
 
 -- a history goes on from another
-abbrev pub IsEnd : (older all : List Made) → Type 0
-IsEnd older all = (newer : List Made) × (all ≡ newer ++ older)
+abbrev pub IsEnd : {A : Type 0} (older all : List A) → Type 0
+IsEnd {A} older all = (newer : List A) × (all ≡ newer ++ older)
 
 -- the step that is made after these
 abbrev pub made_after : (past : List Made) (note : Note) (left : ℕ) → Made
@@ -86,7 +86,7 @@ abbrev pub no_trail : Trail
 no_trail = record { own = []; known = [] }
 
 -- of two histories the longer
-abbrev pub later_of : (one other : List Made) → List Made
+abbrev pub later_of : {A : Type 0} (one other : List A) → List A
 later_of one other = cond (nat_lt (length one) (length other)) other one
 
 -- what two seats made and know, brought together

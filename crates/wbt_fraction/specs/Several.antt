@@ -3,7 +3,7 @@ use Rattle.std.specs.Prelude.{◌≡◌, ℕ, ◌+◌, ◌-◌, ◌*◌, ◌^◌
 use Rattle.atomic_table.specs.Seated.{TableId}
 use Rattle.wbt_fraction.specs.History.{no_trail, joined_trail, fresh_trail}
 use Rattle.wbt_fraction.specs.Seat.{Seated, Shape, HasAllNotes, HasAllSteps}
-use Rattle.wbt_fraction.specs.Totals.{TotalSeated, TotalShape, room_of, sums, HasEachTally}
+use Rattle.wbt_fraction.specs.Totals.{TotalSeated, TotalShape, room_of, sums, HasEachTally, HasEachStep, total_joined, total_fresh}
 
 -- the seats are those of these domains, one for one
 abbrev pub Fits : (domains : List Shape) (seats : List Seated) → Type 0
@@ -105,18 +105,20 @@ HasTotalRoom totals seat = (2 ≤ seat.stakes) × ((i : ℕ) → i < totals.cont
 
 -- a seat at the totals after one was split from it, and the new one
 abbrev pub total_left : (seat : TotalSeated) → TotalSeated
-total_left seat = record { table = seat.table; notes = seat.notes; stakes = seat.stakes - 1; rooms = map (λ r. r - 2 ^ 33) seat.rooms }
+total_left seat = record { table = seat.table; notes = seat.notes; trail = seat.trail; stakes = seat.stakes - 1; rooms = map (λ r. r - 2 ^ 33) seat.rooms }
 
 abbrev pub total_right : (seat : TotalSeated) → TotalSeated
-total_right seat = record { table = seat.table; notes = []; stakes = 1; rooms = map (λ r. 2 ^ 33) seat.rooms }
+total_right seat = record { table = seat.table; notes = []; trail = total_fresh seat.trail; stakes = 1; rooms = map (λ r. 2 ^ 33) seat.rooms }
 
--- a seat at the totals that got what another had: with all stakes it has all notes
+-- a seat at the totals that got what another had: with all stakes it has all notes, and all steps in their places
 pub record IsTotalJoined (old from new : TotalSeated) : Type 0 where
   pub table : new.table ≡ old.table
   pub notes : new.notes ≡ from.notes ++ old.notes
+  pub trail : new.trail ≡ total_joined old.trail from.trail
   pub stakes : new.stakes ≡ old.stakes + from.stakes
   pub rooms : new.rooms ≡ sums old.rooms from.rooms
   pub complete : HasEachTally new
+  pub whole : HasEachStep new
 
 -- a split moved one stake and 2^33 of each room from the old seat to the new one
 pub record IsParted (shared : Shared) (old left right : Seats) : Type 0 where
