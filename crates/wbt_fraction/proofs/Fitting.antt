@@ -1,6 +1,7 @@
 -- Seats at several domains, read and changed at one place, and the first so many of them split.
 use Rattle.std.proofs.Common.{◌≡◌, ℕ, zero, suc, ◌+◌, ◌-◌, ◌^◌, ◌<◌, ◌≤◌, List, [], ◌∷◌, ◌++◌, length, map, replicate, get_or, set, sym, refl, ap, ◌∙◌, subst, arith}
 use Rattle.std.proofs.lemmas.List.Elements.{All-append, All-cons, All-nil}
+use Rattle.wbt_fraction.specs.History.{no_trail, fresh_trail}
 use Rattle.wbt_fraction.specs.Seat.{Seated, Shape}
 use Rattle.wbt_fraction.specs.Several.{Fits, HasRoom, AllFirst, Shared, parts_of, left_of, right_of, no_seat, no_shape}
 
@@ -37,9 +38,9 @@ fits_more (a ∷ more) [] x y h same = absurd h
 fits_more (a ∷ more) (b ∷ bs) x y h same = (h.0, fits_more more bs x y h.1 same)
 
 abbrev IsFirst : Seated → Type 0
-IsFirst s = (s.notes ≡ []) × (s.stakes ≡ 2 ^ 32) × (s.room ≡ 2 ^ 39)
+IsFirst s = (s.notes ≡ []) × (s.stakes ≡ 2 ^ 32) × (s.room ≡ 2 ^ 39) × (s.trail ≡ no_trail)
 
-pub first_more : (ys : List Seated) (y : Seated) → AllFirst ys → (y.notes ≡ []) × (y.stakes ≡ 2 ^ 32) × (y.room ≡ 2 ^ 39) → AllFirst (ys ++ y ∷ [])
+pub first_more : (ys : List Seated) (y : Seated) → AllFirst ys → (y.notes ≡ []) × (y.stakes ≡ 2 ^ 32) × (y.room ≡ 2 ^ 39) × (y.trail ≡ no_trail) → AllFirst (ys ++ y ∷ [])
 first_more ys y h e = All-append IsFirst ys (y ∷ []) h (All-cons IsFirst y [] e (All-nil IsFirst))
 
 pub first_room : (ys : List Seated) → AllFirst ys → HasRoom ys
@@ -131,11 +132,11 @@ rights_fit (x ∷ xs) (y ∷ ys) h = (h.0, rights_fit xs ys h.1)
 pub room_at : (ys : List Seated) (i : ℕ) → HasRoom ys → i < length ys → (2 ≤ (get_or ys i no_seat).stakes) × (2 ^ 33 ≤ (get_or ys i no_seat).room)
 room_at ys i h less = h i no_seat less
 
-pub is_left : (s t : Seated) → t.table ≡ s.table → t.notes ≡ s.notes → t.stakes ≡ s.stakes - 1 → t.room ≡ s.room - 2 ^ 33 → t ≡ left_of s
-is_left s t a b c d = λ i. record { table = a i; notes = b i; stakes = c i; room = d i }
+pub is_left : (s t : Seated) → t.table ≡ s.table → t.notes ≡ s.notes → t.stakes ≡ s.stakes - 1 → t.room ≡ s.room - 2 ^ 33 → t.trail ≡ s.trail → t ≡ left_of s
+is_left s t a b c d e = λ i. record { table = a i; notes = b i; trail = e i; stakes = c i; room = d i }
 
-pub is_right : (s t : Seated) → t.table ≡ s.table → t.notes ≡ [] → t.stakes ≡ 1 → t.room ≡ 2 ^ 33 → t ≡ right_of s
-is_right s t a b c d = λ i. record { table = a i; notes = b i; stakes = c i; room = d i }
+pub is_right : (s t : Seated) → t.table ≡ s.table → t.notes ≡ [] → t.stakes ≡ 1 → t.room ≡ 2 ^ 33 → t.trail ≡ fresh_trail s.trail → t ≡ right_of s
+is_right s t a b c d e = λ i. record { table = a i; notes = b i; trail = e i; stakes = c i; room = d i }
 
 pub replicate_more : (i n : ℕ) → replicate i n ++ n ∷ [] ≡ replicate (i + 1) n
 replicate_more zero n = refl

@@ -1,6 +1,8 @@
 -- Seats after a split and after a join, room by room, and a split that is taken back.
-use Rattle.std.proofs.Common.{◌≡◌, ℕ, zero, suc, ◌+◌, ◌-◌, ◌^◌, ◌<◌, ◌≤◌, List, [], ◌∷◌, length, map, get_or, sym, refl, ap, ap₂, ◌∙◌, arith}
+use Rattle.std.proofs.Common.{◌≡◌, ℕ, zero, suc, ◌+◌, ◌-◌, ◌^◌, ◌<◌, ◌≤◌, Bool, true, false, cond, nat_lt, List, [], ◌∷◌, length, map, get_or, sym, refl, ap, ap₂, ◌∙◌, arith}
 use Rattle.std.proofs.lemmas.List.{get_or-map}
+use Rattle.wbt_fraction.specs.declared.domain.note.Made.{Made}
+use Rattle.wbt_fraction.specs.declared.total.note.Tally.{Tally}
 use Rattle.wbt_fraction.specs.Seat.{Seated}
 use Rattle.wbt_fraction.specs.Totals.{TotalSeated, room_of, sums}
 use Rattle.wbt_fraction.specs.Several.{Shared, Seats, IsSeatOf, HasRoom, HasTotalRoom, IsJoined, AllJoined, IsTotalJoined, IsParted, AreAdded, room_in, stakes_in, left_of, right_of, total_left, total_right, no_seat}
@@ -75,13 +77,19 @@ sums_length [] ys long = sym long
 sums_length (x ∷ xs) [] long = refl
 sums_length (x ∷ xs) (y ∷ ys) long = ap suc (sums_length xs ys (omega arith))
 
+same_either : {A : Type 0} (b : Bool) (a : A) → cond b a a ≡ a
+same_either true a = refl
+same_either false a = refl
+
 one_back : (y n : Seated) → 2 ≤ y.stakes → 2 ^ 33 ≤ y.room → IsJoined (left_of y) (right_of y) n → n ≡ y
 one_back y n stakes room is =
     let mine = is.stakes in
     let rooms = is.room in
     let all : n.stakes ≡ y.stakes = omega arith in
     let whole : n.room ≡ y.room = omega arith in
-    λ i. record { table = is.table i; notes = is.notes i; stakes = all i; room = whole i }
+    let known = same_either (nat_lt (length y.trail.known) (length y.trail.known)) y.trail.known in
+    let trail : n.trail ≡ y.trail = is.trail ∙ ap (λ (l : List Made). record { own = y.trail.own; known = l }) known in
+    λ i. record { table = is.table i; notes = is.notes i; trail = trail i; stakes = all i; room = whole i }
 
 each_back : (ys ns : List Seated) → HasRoom ys → AllJoined (map left_of ys) (map right_of ys) ns → ns ≡ ys
 each_back [] [] has all = refl
@@ -103,7 +111,9 @@ totals_back old new stakes has is =
     let mine = is.stakes in
     let all : new.stakes ≡ old.stakes = omega arith in
     let rooms = is.rooms ∙ rooms_back old.rooms has in
-    λ i. record { table = is.table i; notes = is.notes i; stakes = all i; rooms = rooms i }
+    let known = same_either (nat_lt (length old.trail.known) (length old.trail.known)) old.trail.known in
+    let trail : new.trail ≡ old.trail = is.trail ∙ ap (λ (l : List Tally). record { own = old.trail.own; known = l }) known in
+    λ i. record { table = is.table i; notes = is.notes i; trail = trail i; stakes = all i; rooms = rooms i }
 
 pub undone : SplitIsUndone
 undone shared old new its has total domains totals =

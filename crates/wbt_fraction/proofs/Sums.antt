@@ -1,5 +1,5 @@
 -- Sums over lists, where one item becomes another.
-use Rattle.std.proofs.Common.{◌≡◌, ℕ, zero, suc, ◌+◌, ◌≤◌, List, [], ◌∷◌, ◌++◌, set, sym, refl, ap, arith}
+use Rattle.std.proofs.Common.{◌≡◌, ℕ, zero, suc, ◌+◌, ◌≤◌, List, [], ◌∷◌, ◌++◌, map, set, sym, refl, ap, arith}
 use mathlib.Core.Option.{some, some-injective, some-ne-none}
 use lib.ListN.{get_elem?}
 use Rattle.wbt_fraction.specs.Sums.{total}
@@ -46,6 +46,14 @@ module _ {V : Type 0} where
       let rest = sum_of_two f g xs in
       omega arith
 
+  pub total_as : (f g : V → ℕ) (items : List V) → ((v : V) → f v ≡ g v) → total f items ≡ total g items
+  unfolding total
+  total_as f g [] same = refl
+  total_as f g (x ∷ xs) same =
+      let here = same x in
+      let rest = total_as f g xs same in
+      omega arith
+
   -- one view became two
   pub parted : (f : V → ℕ) (views : List V) (id : ℕ) (v left right : V) → get_elem? views id ≡ some v
       → total f (set views id left ++ right ∷ []) + f v ≡ total f views + f left + f right
@@ -71,6 +79,11 @@ module _ {V : Type 0} where
   pub only_one : (first : V) (j : ℕ) (v : V) → get_elem? (first ∷ []) j ≡ some v → first ≡ v
   only_one first zero v at = some-injective first v at
   only_one first (suc j) v at = absurd (some-ne-none v (sym at))
+
+pub total_map : {A B : Type 0} (f : A → B) (h : B → ℕ) (items : List A) → total h (map f items) ≡ total (λ a. h (f a)) items
+unfolding total
+total_map f h [] = refl
+total_map f h (x ∷ xs) = ap (λ n. h (f x) + n) (total_map f h xs)
 
 -- who has all stakes has all notes, since a view without a stake has none
 module _ {V N : Type 0} (stakes : V → ℕ) (notes : V → List N) where

@@ -2,6 +2,7 @@ pub mod Words
 pub mod Sums
 pub mod Numbers
 pub mod Notes
+pub mod History
 pub mod Rule
 pub mod Steps
 pub mod Seat

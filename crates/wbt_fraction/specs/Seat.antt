@@ -5,15 +5,18 @@ use Rattle.wbt_flex.specs.declared.share.Fraction.{Fraction}
 use Rattle.wbt_flex.specs.Proportions.{fraction_of, after_period}
 use Rattle.wbt_fraction.specs.declared.domain.note.Note.{Note}
 use Rattle.wbt_fraction.specs.declared.domain.note.Note.TheVariants.{Found, Added, Period}
-use Rattle.wbt_fraction.specs.declared.domain.rule.View.{View}
+use Rattle.wbt_fraction.specs.declared.domain.note.Trail.{Trail}
 use Rattle.wbt_fraction.specs.declared.domain.words.Again.{Again}
 use Rattle.wbt_fraction.specs.Words.{period_of, half_of}
 use Rattle.wbt_fraction.specs.Notes.{NoneAfter, IsComplete}
+use Rattle.wbt_fraction.specs.History.{notes_of, aged_to, Makes, AreMade, IsWhole}
 
--- whose words the seat is at, its notes, the newest first, its stakes, and the events that it may still add
+-- whose words the seat is at, its notes, the newest first, the steps that it made, each in its place, and what it knows of all steps,
+-- its stakes, and the events that it may still add
 pub record Seated : Type 0 where
   pub table : TableId
   pub notes : List Note
+  pub trail : Trail
   pub stakes : ℕ
   pub room : ℕ
 
@@ -21,14 +24,18 @@ pub record Seated : Type 0 where
 abbrev pub HasAllNotes : (seat : Seated) → Type 0
 HasAllNotes seat = seat.stakes ≡ 2 ^ 32 → IsComplete seat.notes
 
+-- and its steps are all that were ever made, each in its place in one history
+abbrev pub HasAllSteps : (seat : Seated) → Type 0
+HasAllSteps seat = seat.stakes ≡ 2 ^ 32 → IsWhole seat.trail
+
+-- a note of each own step, and no other
+abbrev pub NotesSteps : (seat : Seated) → Type 0
+NotesSteps seat = seat.notes ≡ notes_of seat.trail.own
+
 -- whose words a domain has, and how many parts
 pub record Shape : Type 0 where
   pub table : TableId
   pub parts : ℕ
-
--- these notes more, the newest first
-abbrev pub looked : (more : List Note) (view : View) → View
-looked more view = record view { notes = more ++ view.notes }
 
 -- an addition first looks at the domain and at the part, and brings the part to the domain's period where it is behind
 abbrev pub Ready : (part : ℕ) (more : List Note) → Type 0
@@ -36,15 +43,24 @@ Ready part more = (domain first : ℕ)
     × (((period_of domain ≤ period_of first) × (more ≡ Found (suc part) first ∷ Found 0 domain ∷ []))
     ⊎ ((period_of first < period_of domain) × (more ≡ Found (suc part) first ∷ Found (suc part) first ∷ Found 0 domain ∷ [])))
 
+-- those looks in their places: the exchange found the part's word as it was loaded, and left it at the domain's period
+abbrev pub MakesReady : (part : ℕ) (old new : Trail) → Type 0
+MakesReady part old new = (domain first : ℕ) × (mid : Trail) × AreMade (Found (suc part) first ∷ Found 0 domain ∷ []) old mid
+    × (((period_of domain ≤ period_of first) × (new ≡ mid))
+    ⊎ ((period_of first < period_of domain) × Makes (Found (suc part) first) (aged_to (period_of domain) first) mid new))
+
 -- there it found that another thread had changed the part
 abbrev pub Missed : (part : ℕ) (again : Again) (more : List Note) → Type 0
 Missed part again more = (domain : ℕ) × (period_of again.first < period_of domain) × (again.first ≢ again.second)
     × (more ≡ Found (suc part) again.second ∷ Found (suc part) again.first ∷ Found 0 domain ∷ [])
 
--- only these notes came
+-- only these notes came, of steps that were made one after another. Each found the word that then stood in its place
 pub record Looks (more : List Note) (old new : Seated) : Type 0 where
   pub table : new.table ≡ old.table
   pub notes : new.notes ≡ more ++ old.notes
+  pub made : AreMade more old.trail new.trail
+  pub noted : NotesSteps new
+  pub whole : HasAllSteps new
   pub stakes : new.stakes ≡ old.stakes
   pub room : new.room ≡ old.room
   pub complete : HasAllNotes new
@@ -65,6 +81,11 @@ pub record Adds (part n : ℕ) (old new : Seated) : Type 0 where
   pub in_domain : ℕ
   pub table : new.table ≡ old.table
   pub notes : new.notes ≡ Added 0 in_domain n ∷ Added (suc part) in_part n ∷ looks ++ old.notes
+  pub looked : Trail
+  pub makes_ready : MakesReady part old.trail looked
+  pub made : AreMade (Added 0 in_domain n ∷ Added (suc part) in_part n ∷ []) looked new.trail
+  pub noted : NotesSteps new
+  pub whole : HasAllSteps new
   pub stakes : new.stakes ≡ old.stakes
   pub room : new.room ≡ old.room - n
   pub complete : HasAllNotes new

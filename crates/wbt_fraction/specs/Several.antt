@@ -1,8 +1,9 @@
 -- Several domains, each with words of its own, and the seats of one thread at them.
 use Rattle.std.specs.Prelude.{◌≡◌, ℕ, ◌+◌, ◌-◌, ◌*◌, ◌^◌, ◌++◌, ◌≤◌, ◌==◌, cond, List, [], ◌∷◌, map, All, slice_set, slice_index_or, ◌<◌, ◌⊎◌, length}
 use Rattle.atomic_table.specs.Seated.{TableId}
-use Rattle.wbt_fraction.specs.Seat.{Seated, Shape, HasAllNotes}
-use Rattle.wbt_fraction.specs.Totals.{TotalSeated, TotalShape, room_of, sums, HasEachTally}
+use Rattle.wbt_fraction.specs.History.{no_trail, joined_trail, fresh_trail}
+use Rattle.wbt_fraction.specs.Seat.{Seated, Shape, HasAllNotes, HasAllSteps}
+use Rattle.wbt_fraction.specs.Totals.{TotalSeated, TotalShape, room_of, sums, HasEachTally, HasEachStep, total_joined, total_fresh}
 
 -- the seats are those of these domains, one for one
 abbrev pub Fits : (domains : List Shape) (seats : List Seated) → Type 0
@@ -19,15 +20,15 @@ abbrev pub no_shape : Shape
 no_shape = record { table = no_table; parts = 0 }
 
 abbrev pub no_seat : Seated
-no_seat = record { table = no_table; notes = []; stakes = 0; room = 0 }
+no_seat = record { table = no_table; notes = []; trail = no_trail; stakes = 0; room = 0 }
 
 -- how many parts each domain has
 abbrev pub parts_of : (domains : List Shape) → List ℕ
 parts_of domains = map (λ (s : Shape). s.parts) domains
 
--- the seats of `make`: no note, all stakes, all room
+-- the seats of `make`: no note, no step, all stakes, all room
 abbrev pub AllFirst : (seats : List Seated) → Type 0
-AllFirst seats = All (λ (s : Seated). (s.notes ≡ []) × (s.stakes ≡ 2 ^ 32) × (s.room ≡ 2 ^ 39)) seats
+AllFirst seats = All (λ (s : Seated). (s.notes ≡ []) × (s.stakes ≡ 2 ^ 32) × (s.room ≡ 2 ^ 39) × (s.trail ≡ no_trail)) seats
 
 -- each seat has two stakes and 2^33 of room
 abbrev pub HasRoom : (seats : List Seated) → Type 0
@@ -54,22 +55,24 @@ TakesRoom domain n old new = (d : ℕ) → room_in d new ≡ room_in d old - con
 
 -- a seat after one was split from it, and the new one
 abbrev pub left_of : (seat : Seated) → Seated
-left_of s = record { table = s.table; notes = s.notes; stakes = s.stakes - 1; room = s.room - 2 ^ 33 }
+left_of s = record { table = s.table; notes = s.notes; trail = s.trail; stakes = s.stakes - 1; room = s.room - 2 ^ 33 }
 
 abbrev pub right_of : (seat : Seated) → Seated
-right_of s = record { table = s.table; notes = []; stakes = 1; room = 2 ^ 33 }
+right_of s = record { table = s.table; notes = []; trail = fresh_trail s.trail; stakes = 1; room = 2 ^ 33 }
 
 -- the seat at one domain changes so, and no other
 abbrev pub Changes : (domain : ℕ) (so : Seated → Seated → Type 0) (old new : List Seated) → Type 0
 Changes domain so old new = (mid : Seated) × so (slice_index_or old domain no_seat) mid × (new ≡ slice_set old domain mid)
 
--- a seat that got what another had: with all stakes it has all notes
+-- a seat that got what another had: with all stakes it has all notes, and all steps in their places
 pub record IsJoined (old from new : Seated) : Type 0 where
   pub table : new.table ≡ old.table
   pub notes : new.notes ≡ from.notes ++ old.notes
+  pub trail : new.trail ≡ joined_trail old.trail from.trail
   pub stakes : new.stakes ≡ old.stakes + from.stakes
   pub room : new.room ≡ old.room + from.room
   pub complete : HasAllNotes new
+  pub whole : HasAllSteps new
 
 -- each of them, domain by domain
 abbrev pub AllJoined : (old from new : List Seated) → Type 0
@@ -102,18 +105,20 @@ HasTotalRoom totals seat = (2 ≤ seat.stakes) × ((i : ℕ) → i < totals.cont
 
 -- a seat at the totals after one was split from it, and the new one
 abbrev pub total_left : (seat : TotalSeated) → TotalSeated
-total_left seat = record { table = seat.table; notes = seat.notes; stakes = seat.stakes - 1; rooms = map (λ r. r - 2 ^ 33) seat.rooms }
+total_left seat = record { table = seat.table; notes = seat.notes; trail = seat.trail; stakes = seat.stakes - 1; rooms = map (λ r. r - 2 ^ 33) seat.rooms }
 
 abbrev pub total_right : (seat : TotalSeated) → TotalSeated
-total_right seat = record { table = seat.table; notes = []; stakes = 1; rooms = map (λ r. 2 ^ 33) seat.rooms }
+total_right seat = record { table = seat.table; notes = []; trail = total_fresh seat.trail; stakes = 1; rooms = map (λ r. 2 ^ 33) seat.rooms }
 
--- a seat at the totals that got what another had: with all stakes it has all notes
+-- a seat at the totals that got what another had: with all stakes it has all notes, and all steps in their places
 pub record IsTotalJoined (old from new : TotalSeated) : Type 0 where
   pub table : new.table ≡ old.table
   pub notes : new.notes ≡ from.notes ++ old.notes
+  pub trail : new.trail ≡ total_joined old.trail from.trail
   pub stakes : new.stakes ≡ old.stakes + from.stakes
   pub rooms : new.rooms ≡ sums old.rooms from.rooms
   pub complete : HasEachTally new
+  pub whole : HasEachStep new
 
 -- a split moved one stake and 2^33 of each room from the old seat to the new one
 pub record IsParted (shared : Shared) (old left right : Seats) : Type 0 where

@@ -10,10 +10,13 @@
 //! new_period   load domain, exchange it                        Again where the word changed between
 //! ```
 //!
-//! A seat notes each step with the word that it found. Between any two steps of any threads all notes of all seats stand in
-//! one history, and each word is the number that the history makes where everything is halved at once in each period: the
-//! laws say so in the words of `wbt_flex`. A seat has stakes, 2^32 in all, and who has them all has all notes; and rooms, so
-//! that no addition ever reaches the period's bits.
+//! A seat notes each step with the word that it found. Between any two steps of any threads all steps of all seats stand in
+//! one history. Each has its place in it, the number of steps before it by anyone; it found the word that the last step there
+//! had left; and a new step comes after all that were made. Each word is the number that the history makes where everything is
+//! halved at once in each period: the laws say so in the words of `wbt_flex`. What a call tells is a trail: the steps that its
+//! seat made, in their places, and all that anyone had made up to the last of them. A split gives the new seat what the old
+//! one knows. A seat has stakes, 2^32 in all, and who has them all has all steps, each in its place; and rooms, so that no
+//! addition ever reaches the period's bits. The written totals are told in the same way.
 //!
 //! ```
 //! use wbt_flex::Fraction;

@@ -5,7 +5,7 @@ ghost use Rattle.wbt_num.specs.declared.most.TheConstants.{MOST_CGROUPS, MOST_CO
 ghost use Rattle.wbt_fraction.specs.declared.total.note.TotalNote.TheVariants.{Saw, Wrote};
 ghost use Rattle.wbt_fraction.specs.Sums.{total};
 ghost use Rattle.wbt_fraction.specs.Seat.{Adds, Missed, Looks, Reads, Between, Begins, Lost};
-ghost use Rattle.wbt_fraction.specs.Totals.{room_of, lowered, HasEachTally, NoneAbove, wrote_at};
+ghost use Rattle.wbt_fraction.specs.Totals.{room_of, lowered, HasEachTally, HasEachStep, NotesTallies, MakesTally, no_tallies, NoneAbove, wrote_at};
 ghost use Rattle.wbt_fraction.specs.Several.{IsSeatOf, HasShare, HasRoom, HasTotalRoom, AllFirst, AllJoined, IsTotalJoined, IsParted, CanSplit, AreAdded, Changes, KeepsStakes, KeepsRooms, TakesRoom, room_in, left_of, right_of, total_left, total_right};
 
 use crate::domain::words::Again;
@@ -67,7 +67,7 @@ impl Shares {
         ensures homes { IfOk result (λ made. made.0.homes ≡ contexts.now) }
         ensures contexts { IfOk result (λ made. length contexts.now ≤ made.0.totals.contexts) }
         ensures seat { IfOk result (λ made. IsSeatOf made.0 made.1) }
-        ensures first { IfOk result (λ made. AllFirst made.1.domains × (made.1.totals.notes ≡ []) × (made.1.totals.stakes ≡ 2 ^ 32)) }
+        ensures first { IfOk result (λ made. AllFirst made.1.domains × (made.1.totals.notes ≡ []) × (made.1.totals.stakes ≡ 2 ^ 32) × (made.1.totals.trail ≡ no_tallies)) }
         ensures totals { IfOk result (λ made. (i : _) → i < length contexts.now → room_of i made.1.totals.rooms ≡ 2 ^ 39) }
         ensures room { IfOk result (λ made. HasRoom made.1.domains × HasTotalRoom made.0.totals made.1.totals) }
         ensures splits { IfOk result (λ made. CanSplit 64 made.0 made.1) }
@@ -89,7 +89,8 @@ impl Shares {
         ))
     }
 
-    /// Moves one stake and 2^33 of each room to a seat for a further thread. Without memory the seat is as it was.
+    /// Moves one stake and 2^33 of each room to a seat for a further thread, which knows what this one knows. Without memory the
+    /// seat is as it was.
     ///
     /// Requires: a seat at these shares with two stakes, and 2^33 of each room, at least.
     pub fn split(&self, alloc: Global, seat: &mut ShareSeat) -> Result<ShareSeat, NoMemory>
@@ -110,7 +111,8 @@ impl Shares {
         }
     }
 
-    /// Brings two seats together: notes, stakes and rooms. With all stakes the seat has all notes.
+    /// Brings two seats together: notes, steps, stakes and rooms. With all stakes the seat has all steps that were ever made, each
+    /// in its place in one history.
     ///
     /// Requires: two seats at these shares.
     pub fn join(&self, into: &mut ShareSeat, from: ShareSeat)
@@ -126,7 +128,8 @@ impl Shares {
     }
 
     /// Adds `n` events to the context's part of the domain, and then to the domain. Again comes where another thread
-    /// changed the part between two looks: then nothing was added.
+    /// changed the part between two looks: then nothing was added. Each look and addition is a step that was made after all
+    /// that anyone had made, and found the word that then stood in its place.
     ///
     /// Requires: a seat at these shares with room for `n` events in the domain. The domain and the context exist, and the domain is the
     /// global one or the context's own.
@@ -146,7 +149,8 @@ impl Shares {
     }
 
     /// The context's fraction of the domain, as it was in one period. Again comes where a period began between the two
-    /// looks at the domain.
+    /// looks at the domain. Each look is a step that was made after all that anyone had made, and found the word that then stood
+    /// in its place.
     ///
     /// Requires: a seat at these shares. The domain and the context exist, and the domain is the global one or the context's own.
     pub fn read(&self, seat: &mut ShareSeat, domain: u32, wb: u32) -> Result<Fraction, Again>
@@ -164,7 +168,8 @@ impl Shares {
     }
 
     /// Begins `k` periods of the domain at once. False comes exactly where the word that was loaded has nothing to halve,
-    /// or no period is left; Again where another thread changed the word before the exchange.
+    /// or no period is left; Again where another thread changed the word before the exchange. Both words stood in the domain's
+    /// place when they were found, the second after the first.
     ///
     /// Requires: a seat at these shares, and at least one period. The domain exists.
     pub fn new_period(&self, seat: &mut ShareSeat, domain: u32, k: u64) -> Result<bool, Again>
@@ -191,7 +196,11 @@ impl Shares {
         ensures same { seat.new.totals.stakes ≡ seat.old.totals.stakes }
         ensures room { seat.new.totals.rooms ≡ lowered wb n seat.old.totals.rooms }
         ensures noted { (word : _) × (seat.new.totals.notes ≡ Wrote wb word n ∷ seat.old.totals.notes) }
+        // The step was made after all that anyone had made, and found the sum of what was counted then.
+        ensures made { (word : _) × MakesTally (Wrote wb word n) seat.old.totals.trail seat.new.totals.trail }
+        ensures notes { NotesTallies seat.new.totals }
         ensures complete { HasEachTally seat.new.totals }
+        ensures whole { HasEachStep seat.new.totals }
     {
         self.totals.wrote(&mut seat.totals, wb as u64, n)
     }
@@ -205,7 +214,11 @@ impl Shares {
         ensures seat { IsSeatOf self.now seat.new × (seat.new.domains ≡ seat.old.domains) }
         ensures same { (seat.new.totals.stakes ≡ seat.old.totals.stakes) × (seat.new.totals.rooms ≡ seat.old.totals.rooms) }
         ensures noted { seat.new.totals.notes ≡ Saw wb result ∷ seat.old.totals.notes }
+        // The answer is the sum of what was counted by anyone before this step.
+        ensures made { MakesTally (Saw wb result) seat.old.totals.trail seat.new.totals.trail }
+        ensures notes { NotesTallies seat.new.totals }
         ensures complete { HasEachTally seat.new.totals }
+        ensures whole { HasEachStep seat.new.totals }
         ensures bound { result ≤ 2 ^ 39 }
         ensures never_back { NoneAbove wb result seat.old.totals.notes }
         ensures own { total (wrote_at wb) seat.old.totals.notes ≤ result }

@@ -6,9 +6,10 @@ ghost use Rattle.wbt_flex.specs.Proportions.{after_period};
 ghost use Rattle.wbt_fraction.specs.declared.domain.note.Note.TheVariants.{Found, Added, Period};
 ghost use Rattle.wbt_fraction.specs.Words.{period_of, events_of, word_of};
 ghost use Rattle.wbt_fraction.specs.Notes.{IsReached};
-ghost use Rattle.wbt_fraction.specs.Steps.{noted_by, KnowsAll};
+ghost use Rattle.wbt_fraction.specs.History.{notes_of, aged_to, Makes, AreMade};
+ghost use Rattle.wbt_fraction.specs.Steps.{with_trail, KnowsAll};
 ghost use Rattle.wbt_fraction.specs.Words.{half_of};
-ghost use Rattle.wbt_fraction.specs.Seat.{looked, Ready, Missed, Looks, Adds, Reads, Between, Begins, Lost};
+ghost use Rattle.wbt_fraction.specs.Seat.{Ready, MakesReady, Missed, Looks, Adds, Reads, Between, Begins, Lost};
 
 use crate::domain::seat::{Domain, DomainSeat};
 use crate::domain::words::{Again, Place, Words};
@@ -63,9 +64,10 @@ impl Words {
         requires stake { 1 ≤ place.old.me.0.stakes }
         requires part { part < self.now.parts }
         requires later { (period_of first < period) × (period < 2 ^ 24) }
-        requires reached { IsReached period place.old.me.0.notes }
+        requires reached { IsReached period (notes_of place.old.me.0.trail.own) }
         ensures seat { (place.new.table_id ≡ place.old.table_id) × (place.new.id ≡ place.old.id) }
-        ensures noted { MatchResult result (λ _. place.new.me ≡ (noted_by (Found (suc part) first) place.old.me.0, place.old.me.1)) (λ again. (again.first ≡ first) × (again.first ≢ again.second) × (place.new.me ≡ (noted_by (Found (suc part) again.second) place.old.me.0, place.old.me.1))) }
+        ensures made { MatchResult result (λ _. Makes (Found (suc part) first) (aged_to period first) place.old.me.0.trail place.new.me.0.trail) (λ again. (again.first ≡ first) × (again.first ≢ again.second) × Makes (Found (suc part) again.second) again.second place.old.me.0.trail place.new.me.0.trail) }
+        ensures same { place.new.me ≡ with_trail place.new.me.0.trail place.old.me }
         ensures complete { KnowsAll place.new.me }
     {
         let new = aged_word(first, period);
@@ -83,7 +85,8 @@ impl Words {
         requires stake { 1 ≤ place.old.me.0.stakes }
         requires part { part < self.now.parts }
         ensures seat { (place.new.table_id ≡ place.old.table_id) × (place.new.id ≡ place.old.id) }
-        ensures noted { MatchResult result (λ _. (more : _) × Ready part more × (place.new.me ≡ (looked more place.old.me.0, place.old.me.1))) (λ again. (more : _) × Missed part again more × (place.new.me ≡ (looked more place.old.me.0, place.old.me.1))) }
+        ensures made { MatchResult result (λ _. (more : _) × Ready part more × (notes_of place.new.me.0.trail.own ≡ more ++ notes_of place.old.me.0.trail.own) × MakesReady part place.old.me.0.trail place.new.me.0.trail) (λ again. (more : _) × Missed part again more × AreMade more place.old.me.0.trail place.new.me.0.trail) }
+        ensures same { place.new.me ≡ with_trail place.new.me.0.trail place.old.me }
         ensures complete { KnowsAll place.new.me }
     {
         let domain = self.load_domain(place);
@@ -102,7 +105,8 @@ impl Words {
         requires part { part < self.now.parts }
         requires room { (n ≤ place.old.me.0.part_room) × (n ≤ place.old.me.0.domain_room) }
         ensures seat { (place.new.table_id ≡ place.old.table_id) × (place.new.id ≡ place.old.id) }
-        ensures noted { place.new.me ≡ (record { notes = Added 0 result.1 n ∷ Added (suc part) result.0 n ∷ place.old.me.0.notes; stakes = place.old.me.0.stakes; domain_room = place.old.me.0.domain_room - n; part_room = place.old.me.0.part_room - n }, place.old.me.1) }
+        ensures made { AreMade (Added 0 result.1 n ∷ Added (suc part) result.0 n ∷ []) place.old.me.0.trail place.new.me.0.trail }
+        ensures same { place.new.me ≡ (record { trail = place.new.me.0.trail; stakes = place.old.me.0.stakes; domain_room = place.old.me.0.domain_room - n; part_room = place.old.me.0.part_room - n }, place.old.me.1) }
         ensures complete { KnowsAll place.new.me }
     {
         let in_part = self.add_part(place, part, n);

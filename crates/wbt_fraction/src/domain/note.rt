@@ -1,4 +1,6 @@
-//! What a seat notes of each step.
+//! What a seat notes of each step, and the step's place among all steps.
+
+use std::collections::LinkedList;
 
 /// One step on a domain's words, with the word that it found. Place 0 is the domain's word, place `1 + i` that of part `i`.
 #[derive(Clone, Copy)]
@@ -26,4 +28,22 @@ pub enum Note {
         /// How many periods began at once.
         k: u64,
     },
+}
+
+/// One step in its place in the history of all steps on a domain's words. No value of it is made.
+pub struct Made {
+    /// As many steps were made before it, by anyone.
+    pub place: u64,
+    /// What it noted.
+    pub note: Note,
+    /// The word that it left.
+    pub left: u64,
+}
+
+/// The steps of a seat. No value of it is made.
+pub struct Trail {
+    /// Its own steps, the newest first.
+    pub own: LinkedList<Made>,
+    /// All that anyone had made when the seat last made a step, the newest first.
+    pub known: LinkedList<Made>,
 }

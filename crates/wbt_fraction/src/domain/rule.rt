@@ -1,13 +1,12 @@
 //! What a seat knows, the rule of a domain's words, and what each kind of step tells.
 
-use crate::domain::note::Note;
+use crate::domain::note::Trail;
 use atomic_table::{Join, Play, Split, TableRule};
-use std::collections::LinkedList;
 
 /// What a seat knows. No value of it is made.
 pub struct View {
-    /// Its steps, the newest first.
-    pub notes: LinkedList<Note>,
+    /// What it made, and what it knows of all that was made.
+    pub trail: Trail,
     /// Its part of 2^32: who has them all has all notes.
     pub stakes: u64,
     /// Events that it may still add to the domain's word.
@@ -23,7 +22,7 @@ pub struct Layout {
     pub parts: u64,
 }
 
-// One history of all notes made the words.
+// One history of all steps made the words.
 pub struct Law;
 
 impl TableRule<(), View, Layout> for Law {
@@ -96,7 +95,7 @@ impl Split<View> for Parts {
 
     ghost left = { left_view };
 
-    ghost right = { λ v. right_view };
+    ghost right = { right_view };
 }
 
 // One seat gets what another had.

@@ -25,11 +25,12 @@ pub struct DomainSeat {
 
 impl Model for DomainSeat {
     ghost use Rattle.std.specs.Prelude.{◌≡◌, ◌≤◌, []};
+    ghost use Rattle.wbt_fraction.specs.History.{notes_of};
     ghost use Rattle.wbt_fraction.specs.Seat.{Seated};
 
     ghost Value = { Seated };
 
-    ghost view = { λ s. record { table = s.place.table_id; notes = s.place.me.0.notes; stakes = s.place.me.0.stakes; room = s.place.me.0.domain_room } };
+    ghost view = { λ s. record { table = s.place.table_id; notes = notes_of s.place.me.0.trail.own; trail = s.place.me.0.trail; stakes = s.place.me.0.stakes; room = s.place.me.0.domain_room } };
 
     ghost invariant = { λ s. (s.place.me.1 ≡ []) × (1 ≤ s.place.me.0.stakes) × (s.place.me.0.part_room ≡ s.place.me.0.domain_room) };
 }

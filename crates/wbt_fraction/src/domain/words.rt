@@ -1,11 +1,12 @@
 //! The steps on a domain's words, one function for each kind.
 
-ghost use Rattle.std.specs.Prelude.{◌≡◌, ◌≢◌, ◌+◌, ◌-◌, ◌<◌, ◌≤◌, ◌^◌, ◌==◌, suc, cond, ◌∷◌};
+ghost use Rattle.std.specs.Prelude.{◌≡◌, ◌≢◌, ◌+◌, ◌-◌, ◌<◌, ◌≤◌, ◌^◌, ◌==◌, suc, cond};
 ghost use Rattle.wbt_flex.specs.Eager.{halved};
 ghost use Rattle.wbt_fraction.specs.declared.domain.note.Note.TheVariants.{Found, Added, Period};
 ghost use Rattle.wbt_fraction.specs.Words.{period_of, events_of, word_of};
 ghost use Rattle.wbt_fraction.specs.Notes.{NoneAfter, IsReached};
-ghost use Rattle.wbt_fraction.specs.Steps.{noted_by, KnowsAll};
+ghost use Rattle.wbt_fraction.specs.History.{Makes, notes_of};
+ghost use Rattle.wbt_fraction.specs.Steps.{with_trail, KnowsAll};
 
 use crate::domain::rule::{AddsDomain, AddsPart, Ages, Begins, Law, Layout, Loads, Tells, View};
 use atomic_table::{Seat, Table};
@@ -38,8 +39,9 @@ impl Words {
         requires seat { place.old.table_id ≡ self.now.table.shared.table_id }
         requires stake { 1 ≤ place.old.me.0.stakes }
         ensures seat { (place.new.table_id ≡ place.old.table_id) × (place.new.id ≡ place.old.id) }
-        ensures noted { place.new.me ≡ (noted_by (Found 0 result) place.old.me.0, place.old.me.1) }
-        ensures newest { NoneAfter (period_of result) place.old.me.0.notes }
+        ensures made { Makes (Found 0 result) result place.old.me.0.trail place.new.me.0.trail }
+        ensures same { place.new.me ≡ with_trail place.new.me.0.trail place.old.me }
+        ensures newest { NoneAfter (period_of result) (notes_of place.old.me.0.trail.own) }
         ensures complete { KnowsAll place.new.me }
     {
         self.table.shared.load::<Loads>(place, 0)
@@ -50,7 +52,8 @@ impl Words {
         requires stake { 1 ≤ place.old.me.0.stakes }
         requires part { part < self.now.parts }
         ensures seat { (place.new.table_id ≡ place.old.table_id) × (place.new.id ≡ place.old.id) }
-        ensures noted { place.new.me ≡ (noted_by (Found (suc part) result) place.old.me.0, place.old.me.1) }
+        ensures made { Makes (Found (suc part) result) result place.old.me.0.trail place.new.me.0.trail }
+        ensures same { place.new.me ≡ with_trail place.new.me.0.trail place.old.me }
         ensures complete { KnowsAll place.new.me }
     {
         self.table.shared.load::<Loads>(place, (part + 1) as usize)
@@ -62,10 +65,11 @@ impl Words {
         requires stake { 1 ≤ place.old.me.0.stakes }
         requires part { part < self.now.parts }
         requires later { period_of old ≤ period }
-        requires reached { IsReached period place.old.me.0.notes }
+        requires reached { IsReached period (notes_of place.old.me.0.trail.own) }
         requires new { new ≡ word_of period (halved (period - period_of old) (events_of old)) }
         ensures seat { (place.new.table_id ≡ place.old.table_id) × (place.new.id ≡ place.old.id) }
-        ensures noted { place.new.me ≡ (noted_by (Found (suc part) result) place.old.me.0, place.old.me.1) }
+        ensures made { Makes (Found (suc part) result) (cond (result == old) new result) place.old.me.0.trail place.new.me.0.trail }
+        ensures same { place.new.me ≡ with_trail place.new.me.0.trail place.old.me }
         ensures complete { KnowsAll place.new.me }
     {
         self.table
@@ -79,7 +83,8 @@ impl Words {
         requires part { part < self.now.parts }
         requires room { n ≤ place.old.me.0.part_room }
         ensures seat { (place.new.table_id ≡ place.old.table_id) × (place.new.id ≡ place.old.id) }
-        ensures noted { place.new.me ≡ (record { notes = Added (suc part) result n ∷ place.old.me.0.notes; stakes = place.old.me.0.stakes; domain_room = place.old.me.0.domain_room; part_room = place.old.me.0.part_room - n }, place.old.me.1) }
+        ensures made { Makes (Added (suc part) result n) (result + n) place.old.me.0.trail place.new.me.0.trail }
+        ensures same { place.new.me ≡ (record { trail = place.new.me.0.trail; stakes = place.old.me.0.stakes; domain_room = place.old.me.0.domain_room; part_room = place.old.me.0.part_room - n }, place.old.me.1) }
         ensures complete { KnowsAll place.new.me }
     {
         self.table
@@ -92,7 +97,8 @@ impl Words {
         requires stake { 1 ≤ place.old.me.0.stakes }
         requires room { n ≤ place.old.me.0.domain_room }
         ensures seat { (place.new.table_id ≡ place.old.table_id) × (place.new.id ≡ place.old.id) }
-        ensures noted { place.new.me ≡ (record { notes = Added 0 result n ∷ place.old.me.0.notes; stakes = place.old.me.0.stakes; domain_room = place.old.me.0.domain_room - n; part_room = place.old.me.0.part_room }, place.old.me.1) }
+        ensures made { Makes (Added 0 result n) (result + n) place.old.me.0.trail place.new.me.0.trail }
+        ensures same { place.new.me ≡ (record { trail = place.new.me.0.trail; stakes = place.old.me.0.stakes; domain_room = place.old.me.0.domain_room - n; part_room = place.old.me.0.part_room }, place.old.me.1) }
         ensures complete { KnowsAll place.new.me }
     {
         self.table.shared.fetch_add::<AddsDomain>(place, 0, n)
@@ -105,7 +111,8 @@ impl Words {
         requires may { (1 ≤ k) × (1 < events_of old) × (period_of old + k < 2 ^ 24) }
         requires new { new ≡ word_of (period_of old + k) (halved k (events_of old)) }
         ensures seat { (place.new.table_id ≡ place.old.table_id) × (place.new.id ≡ place.old.id) }
-        ensures noted { place.new.me ≡ (noted_by (cond (result == old) (Period result k) (Found 0 result)) place.old.me.0, place.old.me.1) }
+        ensures made { Makes (cond (result == old) (Period result k) (Found 0 result)) (cond (result == old) new result) place.old.me.0.trail place.new.me.0.trail }
+        ensures same { place.new.me ≡ with_trail place.new.me.0.trail place.old.me }
         ensures complete { KnowsAll place.new.me }
     {
         self.table

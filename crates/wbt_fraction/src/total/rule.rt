@@ -1,13 +1,13 @@
 //! What a seat knows of the totals, their rule, and what each kind of step tells.
 
-use crate::total::note::TotalNote;
+use crate::total::note::TotalTrail;
 use atomic_table::{Join, Play, Split, TableRule};
 use std::collections::LinkedList;
 
 /// What a seat knows. No value of it is made.
 pub struct TotalView {
-    /// Its steps, the newest first.
-    pub notes: LinkedList<TotalNote>,
+    /// What it made, and what it knows of all that was made.
+    pub trail: TotalTrail,
     /// Its part of 2^32: who has them all has all notes.
     pub stakes: u64,
     /// What it may still count into each total.
@@ -21,7 +21,7 @@ pub struct Contexts {
     pub contexts: u64,
 }
 
-// One history of all notes made the totals.
+// One history of all steps made the totals.
 pub struct Law;
 
 impl TableRule<(), TotalView, Contexts> for Law {

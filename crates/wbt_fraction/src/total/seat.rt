@@ -3,7 +3,7 @@
 ghost use Rattle.std.specs.Prelude.{◌≡◌, ◌+◌, ◌-◌, ◌<◌, ◌≤◌, ◌^◌, ◌∷◌, ◌++◌, [], length, map, IfOk, replicate};
 ghost use Rattle.wbt_fraction.specs.declared.total.note.TotalNote.TheVariants.{Saw, Wrote};
 ghost use Rattle.wbt_fraction.specs.Sums.{total};
-ghost use Rattle.wbt_fraction.specs.Totals.{room_of, lowered, NoneAbove, HasEachTally, sums, wrote_at};
+ghost use Rattle.wbt_fraction.specs.Totals.{room_of, lowered, NoneAbove, HasEachTally, HasEachStep, NotesTallies, MakesTally, no_tallies, total_fresh, total_joined, sums, wrote_at};
 
 use crate::total::rule::{Contexts, Parts, Together};
 use crate::total::words::{Counters, Place};
@@ -33,11 +33,11 @@ pub struct TotalSeat {
 
 impl Model for TotalSeat {
     ghost use Rattle.std.specs.Prelude.{◌≡◌, ◌≤◌, []};
-    ghost use Rattle.wbt_fraction.specs.Totals.{TotalSeated};
+    ghost use Rattle.wbt_fraction.specs.Totals.{TotalSeated, total_notes};
 
     ghost Value = { TotalSeated };
 
-    ghost view = { λ s. record { table = s.place.table_id; notes = s.place.me.0.notes; stakes = s.place.me.0.stakes; rooms = s.place.me.0.rooms } };
+    ghost view = { λ s. record { table = s.place.table_id; notes = total_notes s.place.me.0.trail.own; trail = s.place.me.0.trail; stakes = s.place.me.0.stakes; rooms = s.place.me.0.rooms } };
 
     ghost invariant = { λ s. (s.place.me.1 ≡ []) × (1 ≤ s.place.me.0.stakes) };
 }
@@ -46,7 +46,7 @@ impl Totals {
     // So many totals of 0, and their first seat.
     pub fn make(alloc: Global, contexts: u64) -> Result<(Totals, TotalSeat), AllocError>
         requires { (1 ≤ contexts) × (contexts ≤ 64) }
-        ensures { IfOk result (λ t. (t.0.contexts ≡ contexts) × (t.1.table ≡ t.0.table) × (t.1.notes ≡ []) × (t.1.stakes ≡ 2 ^ 32) × (t.1.rooms ≡ replicate contexts (2 ^ 39))) }
+        ensures { IfOk result (λ t. (t.0.contexts ≡ contexts) × (t.1.table ≡ t.0.table) × (t.1.notes ≡ []) × (t.1.stakes ≡ 2 ^ 32) × (t.1.rooms ≡ replicate contexts (2 ^ 39)) × (t.1.trail ≡ no_tallies)) }
     {
         let words = vec![in alloc; 0u64; contexts as usize]?;
         let (table, place) = Table::of_words(alloc, words.as_slice(), &Contexts { contexts })?;
@@ -63,22 +63,24 @@ impl Totals {
         requires seat { seat.old.table ≡ self.now.table }
         requires stakes { 2 ≤ seat.old.stakes }
         requires room { (i : _) → i < self.now.contexts → 2 ^ 33 ≤ room_of i seat.old.rooms }
-        ensures old { (seat.new.table ≡ seat.old.table) × (seat.new.notes ≡ seat.old.notes) × (seat.new.stakes ≡ seat.old.stakes - 1) × (seat.new.rooms ≡ map (λ r. r - 2 ^ 33) seat.old.rooms) }
-        ensures new { (result.table ≡ seat.old.table) × (result.notes ≡ []) × (result.stakes ≡ 1) × (result.rooms ≡ map (λ r. 2 ^ 33) seat.old.rooms) }
+        ensures old { (seat.new.table ≡ seat.old.table) × (seat.new.notes ≡ seat.old.notes) × (seat.new.stakes ≡ seat.old.stakes - 1) × (seat.new.rooms ≡ map (λ r. r - 2 ^ 33) seat.old.rooms) × (seat.new.trail ≡ seat.old.trail) }
+        ensures new { (result.table ≡ seat.old.table) × (result.notes ≡ []) × (result.stakes ≡ 1) × (result.rooms ≡ map (λ r. 2 ^ 33) seat.old.rooms) × (result.trail ≡ total_fresh seat.old.trail) }
     {
         TotalSeat {
             place: self.words.table.shared.split_seat::<Parts>(&mut seat.place),
         }
     }
 
-    // Brings notes, stakes and rooms together. With all stakes the seat then has all notes.
+    // Brings notes, stakes and rooms together. With all stakes the seat then has all notes, and all steps in their places.
     pub fn join(&self, into: &mut TotalSeat, from: TotalSeat)
         requires seats { (into.old.table ≡ self.now.table) × (from.table ≡ self.now.table) }
         ensures table { into.new.table ≡ into.old.table }
         ensures notes { into.new.notes ≡ from.notes ++ into.old.notes }
         ensures stakes { into.new.stakes ≡ into.old.stakes + from.stakes }
         ensures rooms { into.new.rooms ≡ sums into.old.rooms from.rooms }
+        ensures trail { into.new.trail ≡ total_joined into.old.trail from.trail }
         ensures complete { HasEachTally into.new }
+        ensures whole { HasEachStep into.new }
     {
         let TotalSeat { place } = from;
         self.words
@@ -96,7 +98,10 @@ impl Totals {
         ensures same { (seat.new.table ≡ seat.old.table) × (seat.new.stakes ≡ seat.old.stakes) }
         ensures room { seat.new.rooms ≡ lowered context n seat.old.rooms }
         ensures noted { (word : _) × (seat.new.notes ≡ Wrote context word n ∷ seat.old.notes) }
+        ensures made { (word : _) × MakesTally (Wrote context word n) seat.old.trail seat.new.trail }
+        ensures notes { NotesTallies seat.new }
         ensures complete { HasEachTally seat.new }
+        ensures whole { HasEachStep seat.new }
     {
         self.words.count(&mut seat.place, context, n);
     }
@@ -107,11 +112,14 @@ impl Totals {
         requires context { context < self.now.contexts }
         ensures same { (seat.new.table ≡ seat.old.table) × (seat.new.stakes ≡ seat.old.stakes) × (seat.new.rooms ≡ seat.old.rooms) }
         ensures noted { seat.new.notes ≡ Saw context result ∷ seat.old.notes }
+        ensures made { MakesTally (Saw context result) seat.old.trail seat.new.trail }
+        ensures notes { NotesTallies seat.new }
         ensures never_back { NoneAbove context result seat.old.notes }
         ensures own { total (wrote_at context) seat.old.notes ≤ result }
         ensures all { seat.old.stakes ≡ 2 ^ 32 → result ≡ total (wrote_at context) seat.old.notes }
         ensures bound { result ≤ 2 ^ 39 }
         ensures complete { HasEachTally seat.new }
+        ensures whole { HasEachStep seat.new }
     {
         self.words.load(&mut seat.place, context)
     }

@@ -1,9 +1,9 @@
 //! The steps on the totals, one function for each kind.
 
-ghost use Rattle.std.specs.Prelude.{◌≡◌, ◌<◌, ◌≤◌, ◌^◌, ◌∷◌};
+ghost use Rattle.std.specs.Prelude.{◌≡◌, ◌<◌, ◌≤◌, ◌^◌};
 ghost use Rattle.wbt_fraction.specs.declared.total.note.TotalNote.TheVariants.{Saw, Wrote};
 ghost use Rattle.wbt_fraction.specs.Sums.{total};
-ghost use Rattle.wbt_fraction.specs.Totals.{room_of, lowered, NoneAbove, HasAllTallies, KnowsAll, wrote_at};
+ghost use Rattle.wbt_fraction.specs.Totals.{room_of, lowered, NoneAbove, HasAllTallies, IsEachTally, MakesTally, total_notes, KnowsAll, wrote_at};
 
 use crate::total::rule::{Contexts, Counts, Law, Loads, Tells, TotalView};
 use atomic_table::{Seat, Table};
@@ -29,10 +29,11 @@ impl Counters {
         requires stake { 1 ≤ place.old.me.0.stakes }
         requires at { at < self.now.contexts }
         ensures seat { (place.new.table_id ≡ place.old.table_id) × (place.new.id ≡ place.old.id) }
-        ensures noted { place.new.me ≡ (record { notes = Saw at result ∷ place.old.me.0.notes; stakes = place.old.me.0.stakes; rooms = place.old.me.0.rooms }, place.old.me.1) }
-        ensures never_back { NoneAbove at result place.old.me.0.notes }
-        ensures own { total (wrote_at at) place.old.me.0.notes ≤ result }
-        ensures all { place.old.me.0.stakes ≡ 2 ^ 32 → result ≡ total (wrote_at at) place.old.me.0.notes }
+        ensures made { MakesTally (Saw at result) place.old.me.0.trail place.new.me.0.trail }
+        ensures same { place.new.me ≡ (record { trail = place.new.me.0.trail; stakes = place.old.me.0.stakes; rooms = place.old.me.0.rooms }, place.old.me.1) }
+        ensures never_back { NoneAbove at result (total_notes place.old.me.0.trail.own) }
+        ensures own { total (wrote_at at) (total_notes place.old.me.0.trail.own) ≤ result }
+        ensures all { place.old.me.0.stakes ≡ 2 ^ 32 → result ≡ total (wrote_at at) (total_notes place.old.me.0.trail.own) }
         ensures bound { result ≤ 2 ^ 39 }
         ensures complete { KnowsAll place.new.me }
     {
@@ -44,7 +45,7 @@ impl Counters {
         requires seat { place.old.table_id ≡ self.now.table.shared.table_id }
         requires at { at < self.now.contexts }
         ensures seat { (place.new.table_id ≡ place.old.table_id) × (place.new.id ≡ place.old.id) × (place.new.me ≡ place.old.me) }
-        ensures complete { place.old.me.0.stakes ≡ 2 ^ 32 → HasAllTallies place.old.me.0.notes × (result ≡ total (wrote_at at) place.old.me.0.notes) }
+        ensures complete { place.old.me.0.stakes ≡ 2 ^ 32 → HasAllTallies (total_notes place.old.me.0.trail.own) × IsEachTally place.old.me.0.trail × (result ≡ total (wrote_at at) (total_notes place.old.me.0.trail.own)) }
     {
         self.table.shared.load::<Tells>(place, at as usize)
     }
@@ -56,7 +57,8 @@ impl Counters {
         requires at { at < self.now.contexts }
         requires room { n ≤ room_of at place.old.me.0.rooms }
         ensures seat { (place.new.table_id ≡ place.old.table_id) × (place.new.id ≡ place.old.id) }
-        ensures noted { place.new.me ≡ (record { notes = Wrote at result n ∷ place.old.me.0.notes; stakes = place.old.me.0.stakes; rooms = lowered at n place.old.me.0.rooms }, place.old.me.1) }
+        ensures made { MakesTally (Wrote at result n) place.old.me.0.trail place.new.me.0.trail }
+        ensures same { place.new.me ≡ (record { trail = place.new.me.0.trail; stakes = place.old.me.0.stakes; rooms = lowered at n place.old.me.0.rooms }, place.old.me.1) }
         ensures complete { KnowsAll place.new.me }
     {
         self.table.shared.fetch_add::<Counts>(place, at as usize, n)

@@ -60,7 +60,7 @@ loop-seat-preserved c =
     let mine = read_at now now i c.index_mut-mine.result.now no_seat c.index_mut-mine.ensures.value refl (omega arith) in
     let e = c.join.ensures in
     let is : IsJoined (get_or now i no_seat) c.in-Some.seat c.join.new.into =
-    subst (λ (s : Seated). IsJoined s c.in-Some.seat c.join.new.into) mine record { table = e.table; notes = e.notes; stakes = e.stakes; room = e.room; complete = e.complete } in
+    subst (λ (s : Seated). IsJoined s c.in-Some.seat c.join.new.into) mine record { table = e.table; notes = e.notes; trail = e.trail; stakes = e.stakes; room = e.room; complete = e.complete; whole = e.whole } in
     record {
       can = tt;
       finite = tt;

@@ -17,7 +17,7 @@ loop-n-preserved c =
           ∙ ap₂ (λ (a : List ℕ) (n : ℕ). a ++ n ∷ []) i.parts made.0 ∙ replicate_more c.loop-n._n c.args.parts;
       count = ap length ds ∙ (let n = i.count in omega (arith, length-append c.loop-n.domains.items (shares ∷ [])));
       fits = subst (λ (z : List Shape × List Seated). Fits z.0 z.1) (λ x. (sym ds x, sym ss x)) (fits_more c.loop-n.domains.items c.loop-n.seats.items shares seat i.fits made.1);
-      first = subst AllFirst (sym ss) (first_more c.loop-n.seats.items seat i.first (made.2, made.3, made.4));
+      first = subst AllFirst (sym ss) (first_more c.loop-n.seats.items seat i.first (made.2, made.3, made.4, made.5));
     }
 
 pub returns-clause-count : goal.returns-clause-count

@@ -71,8 +71,8 @@ loop-i-preserved c =
     let mine = split_mine c.loop-i.seat-inside.seats.items all i c.index_mut-mine.result.now v.mine c.index_mut-mine.ensures.value low in
     let old = c.split-other.ensures.old in
     let new = c.split-other.ensures.new in
-    let left : c.split-other.new.seat ≡ left_of (get_or all i no_seat) = is_left c.index_mut-mine.result.now c.split-other.new.seat old.0 old.1 old.2 old.3 ∙ ap left_of mine in
-    let right : c.split-other.result ≡ right_of (get_or all i no_seat) = is_right c.index_mut-mine.result.now c.split-other.result new.0 new.1 new.2 new.3 ∙ ap right_of mine in record {
+    let left : c.split-other.new.seat ≡ left_of (get_or all i no_seat) = is_left c.index_mut-mine.result.now c.split-other.new.seat old.0 old.1 old.2 old.3 old.4 ∙ ap left_of mine in
+    let right : c.split-other.result ≡ right_of (get_or all i no_seat) = is_right c.index_mut-mine.result.now c.split-other.result new.0 new.1 new.2 new.3 new.4 ∙ ap right_of mine in record {
       mine = ap₂ (λ (l : List Seated) (s : Seated). set l i s) v.mine left ∙ split_more i all (omega arith);
       others = c.push_reserved.ensures.items ∙ ap₂ (λ (l : List Seated) (s : Seated). l ++ s ∷ []) v.others right ∙ rights_more i all (omega arith);
       place = let cap = c.push_reserved.ensures.capacity in let place = v.place in omega arith;

@@ -17,6 +17,7 @@ returns-in-Ok-clause-parted c =
       totals = record {
         table = (old.0 ∙ ap (λ (s : Seats). (total_left s.totals).table) at) i;
         notes = (old.1 ∙ ap (λ (s : Seats). (total_left s.totals).notes) at) i;
+        trail = (old.4 ∙ ap (λ (s : Seats). (total_left s.totals).trail) at) i;
         stakes = (old.2 ∙ ap (λ (s : Seats). (total_left s.totals).stakes) at) i;
         rooms = (old.3 ∙ ap (λ (s : Seats). (total_left s.totals).rooms) at) i;
       };
@@ -26,6 +27,7 @@ returns-in-Ok-clause-parted c =
       totals = record {
         table = (new.0 ∙ ap (λ (s : Seats). (total_right s.totals).table) at) i;
         notes = new.1 i;
+        trail = (new.4 ∙ ap (λ (s : Seats). (total_right s.totals).trail) at) i;
         stakes = new.2 i;
         rooms = (new.3 ∙ ap (λ (s : Seats). (total_right s.totals).rooms) at) i;
       };

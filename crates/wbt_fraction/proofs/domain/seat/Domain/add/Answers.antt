@@ -1,26 +1,23 @@
-use Rattle.std.proofs.Common.{◌-◌, ◌∷◌, ◌∙◌, ℕ, suc, ap, subst}
-use Rattle.wbt_fraction.specs.declared.domain.note.Note.TheVariants.{Added}
-use Rattle.wbt_fraction.specs.Steps.{Sat}
-use Rattle.wbt_fraction.specs.Seat.{Seated, Adds}
+use Rattle.std.proofs.Common.{◌∙◌, List, subst}
+use Rattle.wbt_fraction.specs.declared.domain.note.Note.{Note}
+use Rattle.wbt_fraction.specs.Seat.{Seated, Adds, Missed, Looks}
+use Rattle.wbt_fraction.proofs.Answering.{seat_of, adds_are, looks_are}
 use Rattle.wbt_fraction.proofs.domain.seat.Domain.add.Goals as goal
 
 pub returns-in-Ok-clause-told : goal.returns-in-Ok-clause-told
 returns-in-Ok-clause-told c =
     let t = c.in-Ok.ensures in
-    let r = c.add_both.result in
-    let n : ℕ = c.args.n in
-    let e = c.add_both.ensures.noted in
-    let m = t.noted in
-    let place = c.add_both.new.place in
-    let new : Seated = record { table = place.table_id; notes = place.me.0.notes; stakes = place.me.0.stakes; room = place.me.0.domain_room } in
-    subst (λ (s : Seated). Adds c.args.part n s new) c.seat.view_is (record {
-      looks = m.0;
-      ready = m.1;
-      in_part = r.0;
-      in_domain = r.1;
-      table = c.add_both.ensures.seat.0 ∙ t.seat.0;
-      notes = ap (λ (x : Sat). x.0.notes) e ∙ ap (λ (x : Sat). Added 0 r.1 n ∷ Added (suc c.args.part) r.0 n ∷ x.0.notes) m.2;
-      stakes = ap (λ (x : Sat). x.0.stakes) e ∙ ap (λ (x : Sat). x.0.stakes) m.2;
-      room = ap (λ (x : Sat). x.0.domain_room) e ∙ ap (λ (x : Sat). x.0.domain_room - n) m.2;
-      complete = c.add_both.ensures.complete;
-    })
+    let old = c.seat.inside.place in
+    let mid = c.make_ready.new.place in
+    let new = c.add_both.new.place in
+    subst (λ (s : Seated). Adds c.args.part c.args.n s (seat_of new.table_id new.me)) c.seat.view_is
+    (adds_are c.args.part c.args.n old.table_id new.table_id c.add_both.result t.made.0 old.me mid.me new.me (c.add_both.ensures.seat.0 ∙ t.seat.0)
+    t.made.1 t.made.2 t.made.3 t.same c.add_both.ensures.made c.add_both.ensures.same c.add_both.ensures.complete)
+
+pub returns-in-Err-clause-told : goal.returns-in-Err-clause-told
+returns-in-Err-clause-told c =
+    let t = c.in-Err.ensures in
+    let old = c.seat.inside.place in
+    let new = c.make_ready.new.place in
+    subst (λ (s : Seated). (more : List Note) × Missed c.args.part c.in-Err.again more × Looks more s (seat_of new.table_id new.me)) c.seat.view_is
+    (t.made.0, t.made.1, looks_are t.made.0 old.table_id new.table_id old.me new.me t.seat.0 t.made.2 t.same t.complete)
