@@ -1,2 +1,4 @@
 pub mod Sums
+pub mod Histories
+pub mod Telling
 pub mod Keeping

@@ -1,8 +1,9 @@
--- Sums over views, where one view becomes another; and what fits a word.
+-- Sums over views, where one view becomes another; and what fits the words.
 use Rattle.std.proofs.Common.{◌≡◌, ◌≢◌, ℕ, zero, suc, ◌+◌, ◌≤◌, List, [], ◌∷◌, ◌++◌, set, sym, refl, ap, subst, arith}
 use mathlib.Core.Option.{some, some-injective, some-ne-none}
 use lib.ListN.{get_elem?}
-use Rattle.wbt_signals.specs.Signals.{AllFit, Fits, total}
+use Rattle.atomic_table.proofs.Lists.{set_else}
+use Rattle.wbt_signals.specs.Signals.{AllFit, Fits, spent, total}
 use Rattle.wbt_signals.specs.declared.rule.View.{View}
 
 pub total_set : (of : View → ℕ) (views : List View) (id : ℕ) (v w : View) → get_elem? views id ≡ some v
@@ -17,76 +18,95 @@ unfolding total
 total_one of [] w = omega arith
 total_one of (x ∷ xs) w = let rest = total_one of xs w in omega arith
 
-pub fits_set : (bell writers : ℕ) (views : List View) (id : ℕ) (w : View) → AllFit bell writers views → Fits bell writers w → AllFit bell writers (set views id w)
-fits_set bell writers [] id w all one = tt
-fits_set bell writers (x ∷ xs) zero w all one = (one, all.1)
-fits_set bell writers (x ∷ xs) (suc id) w all one = (all.0, fits_set bell writers xs id w all.1 one)
-
-pub fits_one : (bell writers : ℕ) (views : List View) (w : View) → AllFit bell writers views → Fits bell writers w → AllFit bell writers (views ++ w ∷ [])
-fits_one bell writers [] w all one = (one, tt)
-fits_one bell writers (x ∷ xs) w all one = (all.0, fits_one bell writers xs w all.1 one)
-
-pub fits_at : (bell writers : ℕ) (views : List View) (id : ℕ) (v : View) → AllFit bell writers views → get_elem? views id ≡ some v → Fits bell writers v
-fits_at bell writers [] id v all at = absurd (some-ne-none v (sym at))
-fits_at bell writers (x ∷ xs) zero v all at = subst (λ (u : View). Fits bell writers u) (some-injective x v at) all.0
-fits_at bell writers (x ∷ xs) (suc id) v all at = fits_at bell writers xs id v all.1 at
-
--- a bell that was rung fits all
-pub fits_rung : (was bell writers : ℕ) (views : List View) → bell ≢ 0 → AllFit was writers views → AllFit bell writers views
-fits_rung was bell writers [] rung all = tt
-fits_rung was bell writers (x ∷ xs) rung all = (record { poor = all.0.poor; heard = λ _. rung; quiet = all.0.quiet }, fits_rung was bell writers xs rung all.1)
-
--- and so does a count that fell
-pub fits_less : (bell was writers : ℕ) (views : List View) → writers ≤ was → AllFit bell was views → AllFit bell writers views
-fits_less bell was writers [] less all = tt
-fits_less bell was writers (x ∷ xs) less all = (
-  record { poor = all.0.poor; heard = all.0.heard; quiet = λ quiet. let none = all.0.quiet quiet in omega arith },
-  fits_less bell was writers xs less all.1,
-)
-
--- of this number a view with no stake has none
-abbrev Staked : (bell writers : ℕ) (of : View → ℕ) → Type 0
-Staked bell writers of = (v : View) → Fits bell writers v → v.stakes ≡ 0 → of v ≡ 0
-
-none_left : (of : View → ℕ) (bell writers : ℕ) (views : List View) → Staked bell writers of → AllFit bell writers views → total (λ v. v.stakes) views ≡ 0
-    → total of views ≡ 0
-unfolding total
-none_left of bell writers [] staked all none = refl
-none_left of bell writers (x ∷ xs) staked all none =
-    let empty : x.stakes ≡ 0 = omega arith in
-    let here = staked x all.0 empty in
-    let rest = none_left of bell writers xs staked all.1 (omega arith) in
-    omega arith
-
 pub at_most : (of : View → ℕ) (views : List View) (id : ℕ) (v : View) → get_elem? views id ≡ some v → of v ≤ total of views
 unfolding total
 at_most of [] id v at = absurd (some-ne-none v (sym at))
 at_most of (x ∷ xs) zero v at = let same : of x ≡ of v = ap of (some-injective x v at) in omega arith
 at_most of (x ∷ xs) (suc id) v at = let rest = at_most of xs id v at in omega arith
 
--- a view with all stakes has all of such a number
-own_all : (of : View → ℕ) (bell writers : ℕ) (views : List View) (id : ℕ) (v : View) → Staked bell writers of → AllFit bell writers views
-    → get_elem? views id ≡ some v → total (λ u. u.stakes) views ≡ v.stakes → total of views ≡ of v
-unfolding total
-own_all of bell writers [] id v staked all at whole = absurd (some-ne-none v (sym at))
-own_all of bell writers (x ∷ xs) zero v staked all at whole =
-    let is = some-injective x v at in
-    let mine : x.stakes ≡ v.stakes = ap (λ (u : View). u.stakes) is in
-    let same : of x ≡ of v = ap of is in
-    let rest = none_left of bell writers xs staked all.1 (omega arith) in
-    omega arith
-own_all of bell writers (x ∷ xs) (suc id) v staked all at whole =
-    let less = at_most (λ u. u.stakes) xs id v at in
-    let empty : x.stakes ≡ 0 = omega arith in
-    let here = staked x all.0 empty in
-    let rest = own_all of bell writers xs id v staked all.1 at (omega arith) in
-    omega arith
+-- beside a view with all stakes no other has any
+pub others_poor : (views : List View) (id j : ℕ) (v w : View) → get_elem? views id ≡ some v → get_elem? views j ≡ some w → j ≢ id
+    → total (λ u. u.stakes) views ≡ v.stakes → w.stakes ≡ 0
+others_poor views id j v w at there apart whole =
+    let less = total_set (λ u. u.stakes) views id v spent at in
+    let most = at_most (λ u. u.stakes) (set views id spent) j w (trans_at views id j w apart there) in
+    omega (arith, less, most, whole)
+  where
+    trans_at : (views : List View) (id j : ℕ) (w : View) → j ≢ id → get_elem? views j ≡ some w → get_elem? (set views id spent) j ≡ some w
+    trans_at views id j w apart there = subst (λ o. o ≡ some w) (sym (set_else views id j spent apart)) there
 
--- as of rings, and of workers that still write
-pub own_rings : (bell writers : ℕ) (views : List View) (id : ℕ) (v : View) → AllFit bell writers views → get_elem? views id ≡ some v
-    → total (λ u. u.stakes) views ≡ v.stakes → total (λ u. u.rings) views ≡ v.rings
-own_rings bell writers views id v all at whole = own_all (λ u. u.rings) bell writers views id v (λ u fits empty. (fits.poor empty).0) all at whole
+module _ (workers bell writers there : ℕ) where
+  pub fits_set : (views : List View) (id : ℕ) (w : View) → AllFit workers bell writers there views → Fits workers bell writers there w
+      → AllFit workers bell writers there (set views id w)
+  fits_set [] id w all one = tt
+  fits_set (x ∷ xs) zero w all one = (one, all.1)
+  fits_set (x ∷ xs) (suc id) w all one = (all.0, fits_set xs id w all.1 one)
 
-pub own_writes : (bell writers : ℕ) (views : List View) (id : ℕ) (v : View) → AllFit bell writers views → get_elem? views id ≡ some v
-    → total (λ u. u.stakes) views ≡ v.stakes → total (λ u. u.writes) views ≡ v.writes
-own_writes bell writers views id v all at whole = own_all (λ u. u.writes) bell writers views id v (λ u fits empty. (fits.poor empty).1) all at whole
+  pub fits_one : (views : List View) (w : View) → AllFit workers bell writers there views → Fits workers bell writers there w
+      → AllFit workers bell writers there (views ++ w ∷ [])
+  fits_one [] w all one = (one, tt)
+  fits_one (x ∷ xs) w all one = (all.0, fits_one xs w all.1 one)
+
+  pub fits_at : (views : List View) (id : ℕ) (v : View) → AllFit workers bell writers there views → get_elem? views id ≡ some v
+      → Fits workers bell writers there v
+  fits_at [] id v all at = absurd (some-ne-none v (sym at))
+  fits_at (x ∷ xs) zero v all at = subst (λ (u : View). Fits workers bell writers there u) (some-injective x v at) all.0
+  fits_at (x ∷ xs) (suc id) v all at = fits_at xs id v all.1 at
+
+  -- of this number a view with no stake has none
+  abbrev Staked : (of : View → ℕ) → Type 0
+  Staked of = (v : View) → Fits workers bell writers there v → v.stakes ≡ 0 → of v ≡ 0
+
+  none_left : (of : View → ℕ) (views : List View) → Staked of → AllFit workers bell writers there views → total (λ v. v.stakes) views ≡ 0
+      → total of views ≡ 0
+  unfolding total
+  none_left of [] staked all none = refl
+  none_left of (x ∷ xs) staked all none =
+      let empty : x.stakes ≡ 0 = omega arith in
+      let here = staked x all.0 empty in
+      let rest = none_left of xs staked all.1 (omega arith) in
+      omega arith
+
+  -- a view with all stakes has all of such a number
+  own_all : (of : View → ℕ) (views : List View) (id : ℕ) (v : View) → Staked of → AllFit workers bell writers there views
+      → get_elem? views id ≡ some v → total (λ u. u.stakes) views ≡ v.stakes → total of views ≡ of v
+  unfolding total
+  own_all of [] id v staked all at whole = absurd (some-ne-none v (sym at))
+  own_all of (x ∷ xs) zero v staked all at whole =
+      let is = some-injective x v at in
+      let mine : x.stakes ≡ v.stakes = ap (λ (u : View). u.stakes) is in
+      let same : of x ≡ of v = ap of is in
+      let rest = none_left of xs staked all.1 (omega arith) in
+      omega arith
+  own_all of (x ∷ xs) (suc id) v staked all at whole =
+      let less = at_most (λ u. u.stakes) xs id v at in
+      let empty : x.stakes ≡ 0 = omega arith in
+      let here = staked x all.0 empty in
+      let rest = own_all of xs id v staked all.1 at (omega arith) in
+      omega arith
+
+  module _ (views : List View) (id : ℕ) (v : View) (all : AllFit workers bell writers there views) (at : get_elem? views id ≡ some v) (whole : total (λ u. u.stakes) views ≡ v.stakes) where
+    -- as of rings, of workers that still write, and of those that are there
+    pub own_rings : total (λ u. u.rings) views ≡ v.rings
+    own_rings = own_all (λ u. u.rings) views id v (λ u fits empty. (fits.poor empty).0) all at whole
+
+    pub own_writes : total (λ u. u.writes) views ≡ v.writes
+    own_writes = own_all (λ u. u.writes) views id v (λ u fits empty. (fits.poor empty).1) all at whole
+
+    pub own_there : total (λ u. u.there) views ≡ v.there
+    own_there = own_all (λ u. u.there) views id v (λ u fits empty. (fits.poor empty).2) all at whole
+
+-- a bell that was rung fits all, and so does a count that fell
+pub fits_moved : (workers bell writers there bell' writers' there' : ℕ) (views : List View) → (bell ≢ 0 → bell' ≢ 0) → (writers ≡ 0 → writers' ≡ 0)
+    → (there ≡ 0 → there' ≡ 0) → AllFit workers bell writers there views → AllFit workers bell' writers' there' views
+fits_moved workers bell writers there bell' writers' there' [] rung less gone all = tt
+fits_moved workers bell writers there bell' writers' there' (x ∷ xs) rung less gone all = (
+  record {
+    poor = all.0.poor;
+    known = all.0.known;
+    heard = λ heard. rung (all.0.heard heard);
+    quiet = λ quiet. less (all.0.quiet quiet);
+    gone = λ left. gone (all.0.gone left);
+  },
+  fits_moved workers bell writers there bell' writers' there' xs rung less gone all.1,
+)

@@ -9,7 +9,9 @@ split_seat-requires c =
     let x = ap (λ (s : Known). s.signals) c.voice.view_is in
     let stakes = ap (λ (s : Known). s.stakes) c.voice.view_is in
     let writes = ap (λ (s : Known). s.writes) c.voice.view_is in
+    let there = ap (λ (s : Known). s.there) c.voice.view_is in
     let h = c.requires.stakes in
     let k = c.requires.writes in
-    let two = c.self.inside.words.two in
-    (x ∙ c.requires.voice ∙ sym e, omega arith, splits c.voice.inside.place.id c.voice.inside.place.me.0 (omega arith) (omega arith))
+    let l = c.requires.there in
+    let three = c.self.inside.words.three in
+    (x ∙ c.requires.voice ∙ sym e, omega arith, splits c.self.inside.words.table.shared.key c.voice.inside.place.id c.voice.inside.place.me.0 (omega arith) (omega arith) (omega arith))

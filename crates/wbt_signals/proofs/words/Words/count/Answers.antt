@@ -5,5 +5,5 @@ use Rattle.wbt_signals.proofs.words.Words.count.Goals as goal
 pub load-requires : goal.load-requires
 load-requires c =
     let t = c.args.self.now.table.shared in
-    let two = c.args.self.now.two in
-    (c.requires.seat, omega arith, counts t.table_id.slots c.args.place.now.id c.args.place.now.me)
+    let three = c.args.self.now.three in
+    (c.requires.seat, omega arith, counts t.key t.table_id.slots c.args.place.now.id c.args.place.now.me c.requires.stake)
