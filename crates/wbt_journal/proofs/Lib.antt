@@ -27,16 +27,3 @@ pub mod LastDigit
 pub mod Ranging
 pub mod Unmarking
 mod Ordered
-pub mod ReadDigits
-pub mod ReadWords
-pub mod ReadFields
-pub mod ReadRows
-pub mod ReadLines
-pub mod ReadParts
-pub mod ReadStages
-pub mod ReadPlain
-pub mod ReadRuns
-pub mod ReadTexts
-pub mod ReadGoesOn
-pub mod ReadWhole
-pub mod ReadFaults

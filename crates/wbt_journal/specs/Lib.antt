@@ -29,10 +29,5 @@ pub mod Verdict
 pub mod Laws
 pub mod Forms
 pub mod Ranges
-pub mod Fields
-pub mod Rows
-pub mod RowOf
-pub mod Rebuilding
 pub mod PlainJournal
-pub mod Reading
 pub mod Marks

@@ -4,7 +4,8 @@ use crate::texts::EVERY_LINE;
 use std::alloc::{AllocError, Global};
 use std::test::Fail;
 use wbt_io::MemSink;
-use wbt_journal::{Journal, JournalFault, print, read_journal};
+use wbt_journal::{Journal, print};
+use wbt_journal_reader::{JournalFault, read_journal};
 
 // A text with numbers at the ends of their ranges.
 const GREAT_NUMBERS: &[u8] =

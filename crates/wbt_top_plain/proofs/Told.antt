@@ -8,9 +8,9 @@ use Rattle.wbt_trace.specs.declared.fault.TraceFault.{TraceFault}
 use Rattle.wbt_trace.specs.declared.fault.TraceFault.TheVariants.{NoMemory}
 use Rattle.wbt_trace.specs.declared.trace.Trace.{Trace}
 use Rattle.wbt_journal.specs.declared.journal.Journal.{Journal}
-use Rattle.wbt_journal.specs.declared.reading.read.JournalFault.TheVariants as journal_fault
+use Rattle.wbt_journal_reader.specs.declared.read.JournalFault.TheVariants as journal_fault
 use Rattle.wbt_journal.specs.Plain.{TextFixesJournal}
-use Rattle.wbt_journal.specs.PlainJournal.{IsFirstBad}
+use Rattle.wbt_journal_reader.specs.FirstBad.{IsFirstBad}
 use Rattle.wbt_audit.specs.declared.verdict.Verdict.{Verdict}
 use Rattle.wbt_audit.specs.declared.verdict.Verdict.TheVariants as verdict
 use Rattle.wbt_top_plain.specs.Audit.{Told, bad_trace, bad_journal, both, Tells, PartsTell, HasParts, IsCut, IsUncut, IsBadAt, IsJournalOf, IfAuditTold, IsAuditInput, Answers, AnswersVerdict, Shows}

@@ -11,9 +11,10 @@ use Rattle.wbt_journal.specs.Checks.{with_marks}
 use Rattle.wbt_journal.specs.Each.{Each}
 use Rattle.wbt_journal.specs.Forms.{HasForm}
 use Rattle.wbt_journal.specs.Lawful as journal
-use Rattle.wbt_journal.specs.PlainJournal.{IsPlainJournal, IsFirstBad}
+use Rattle.wbt_journal.specs.PlainJournal.{IsPlainJournal}
 use Rattle.wbt_journal.specs.Text.{journal_lines, journal_text}
 use Rattle.wbt_journal.specs.declared.journal.Journal.{Journal}
+use Rattle.wbt_journal_reader.specs.FirstBad.{IsFirstBad}
 use Rattle.wbt_audit.specs.Audited.{audit_of, unsettled_task}
 use Rattle.wbt_audit.specs.declared.verdict.Verdict.{Verdict}
 use Rattle.wbt_audit.specs.declared.verdict.Verdict.TheVariants as verdict

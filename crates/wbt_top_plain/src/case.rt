@@ -21,7 +21,8 @@ use std::fmt::Write;
 use wbt_audit::laws::{broken_verdicts_are_right, lawful_verdicts_are_right};
 use wbt_audit::{Verdict, audit};
 use wbt_io::{ReadEnd, Sink, Source, write_all};
-use wbt_journal::{Journal, JournalFault, PrintEnd, read_journal};
+use wbt_journal::{Journal, PrintEnd};
+use wbt_journal_reader::{JournalFault, read_journal};
 use wbt_trace::{Trace, TraceFault, read_trace};
 
 /// A trace, and a journal that is to be judged for it.

@@ -7,7 +7,8 @@ ghost use Rattle.wbt_top_plain.specs.Audit.{AnswersVerdict};
 use crate::status::Status;
 use wbt_audit::Verdict;
 use wbt_io::ReadEnd;
-use wbt_journal::{Ending, JournalFault, PrintEnd};
+use wbt_journal::{Ending, PrintEnd};
+use wbt_journal_reader::JournalFault;
 use wbt_trace::TraceFault;
 
 /// Why there is no input to work on.

@@ -1,5 +1,5 @@
 use Rattle.std.proofs.Common.{◌≡◌, ◌∙◌, ap}
-use Rattle.wbt_journal.specs.declared.reading.read.JournalFault.TheVariants.{BadLine}
+use Rattle.wbt_journal_reader.specs.declared.read.JournalFault.TheVariants.{BadLine}
 use Rattle.wbt_top_plain.specs.declared.causes.CaseEnd.TheVariants.{BadTrace, BadJournal}
 use Rattle.wbt_top_plain.proofs.causes.of_case_end.Goals as goal
 

@@ -1,0 +1,13 @@
+pub mod Digits
+pub mod Words
+pub mod Fields
+pub mod Rows
+pub mod Lines
+pub mod Parts
+pub mod Stages
+pub mod Plain
+pub mod Runs
+pub mod Texts
+pub mod GoesOn
+pub mod Whole
+pub mod Faults
