@@ -4,7 +4,7 @@ use std::alloc::{AllocError, Global};
 use std::test::Fail;
 use top_in_use::{run, run_on};
 use wbt_top::{Status, code};
-use wbt_trace::TraceFault;
+use wbt_trace_text::TraceFault;
 
 // A trace that writes nothing, and its journal.
 const EMPTY: &str =

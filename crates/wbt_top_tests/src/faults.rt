@@ -6,7 +6,7 @@ use std::test::Fail;
 use top_in_use::{Outcome, run, serve};
 use wbt_io::{MemSink, MemSource};
 use wbt_top::Status;
-use wbt_trace::{Missing, TraceFault};
+use wbt_trace_text::{Missing, TraceFault};
 
 // The empty trace, and a task that writes two pages.
 const TWO_PAGES: &str =

@@ -8,7 +8,7 @@ use top_in_use::{Input, Outcome, SlowClock, call, calm, words_of};
 use wbt_io::{FaultyRack, FreeGate, HaltGate, JumpClock, ModelRack};
 use wbt_run::MeetingGate;
 use wbt_top::{Route, Status, code, route};
-use wbt_trace::{Missing, TraceFault};
+use wbt_trace_text::{Missing, TraceFault};
 
 // One CPU, one task that writes two pages.
 const TWO_PAGES: &str =
