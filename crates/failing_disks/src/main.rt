@@ -19,7 +19,8 @@ use wbt_io::{Clock, FreeGate, RealClock, Source, StdSink, StdSource, read_all};
 use wbt_journal::{Journal, print};
 use wbt_num::MOST_INPUT;
 use wbt_run::{RunEnd, run};
-use wbt_trace::{Trace, read_trace};
+use wbt_trace::Trace;
+use wbt_trace_text::read_trace;
 
 // The most writes that may be told to fail.
 const MOST_FAILS: u64 = 1000;

@@ -13,7 +13,8 @@ use wbt_journal::CpuJournal;
 use wbt_kit::{Hands, Kit, Turn};
 use wbt_run_lend::{give_posts, make_workers};
 use wbt_run_worker::{Condition, CpuSide, Worker};
-use wbt_trace::{Trace, read_trace};
+use wbt_trace::Trace;
+use wbt_trace_text::read_trace;
 
 /// One CPU, of which a task writes two pages, and a flusher.
 pub const TWO_PAGES: &[u8] =

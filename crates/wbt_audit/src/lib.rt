@@ -4,7 +4,7 @@
 //! use wbt_audit::{Verdict, audit};
 //! use wbt_journal_reader::read_journal;
 //!
-//! // `trace` is one that `wbt_trace::read_trace` answered, of a machine of one CPU whose tasks write nothing.
+//! // `trace` is one that `wbt_trace_text::read_trace` answered, of a machine of one CPU whose tasks write nothing.
 //! let text = b"timer\nlimits 0 1 19995 9985 19995\ncpu 0\ncensus 0 0\ntotals 0 0\nend done\n";
 //! let Ok(journal) = read_journal(alloc, text) else { return Ok(()); };
 //! match audit(alloc, &trace, &journal) {

@@ -5,7 +5,7 @@
 //! ```
 //! use wbt_audit_reads::{counts::counts_fault, folds::folds_fault};
 //!
-//! // `trace` is one that `wbt_trace::read_trace` answered, `journal` one that `wbt_journal_reader::read_journal` did.
+//! // `trace` is one that `wbt_trace_text::read_trace` answered, `journal` one that `wbt_journal_reader::read_journal` did.
 //! assert_eq!(rt; folds_fault(alloc, &trace, &journal)?, None);
 //! // Where a check tells a count that isn't the sum of the folds up to its version, the answer is the line that tells it.
 //! if let Some(line) = counts_fault(alloc, &trace, &journal)? {

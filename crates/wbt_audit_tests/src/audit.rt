@@ -4,7 +4,7 @@ use plain_in_use::{run, run_on};
 use std::alloc::{AllocError, Global};
 use std::test::Fail;
 use wbt_top_plain::{Status, code};
-use wbt_trace::TraceFault;
+use wbt_trace_text::TraceFault;
 
 // A trace that writes nothing, and its journal.
 const EMPTY: &str =

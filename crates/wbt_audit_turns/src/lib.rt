@@ -6,7 +6,7 @@
 //! ```
 //! use wbt_audit_turns::{ending::ending_fault, flights::flights_fault};
 //!
-//! // `trace` is one that `wbt_trace::read_trace` answered, `journal` one that `wbt_journal_reader::read_journal` did.
+//! // `trace` is one that `wbt_trace_text::read_trace` answered, `journal` one that `wbt_journal_reader::read_journal` did.
 //! assert_eq!(rt; flights_fault(alloc, &trace, &journal)?, None);
 //! // Where the run didn't end as the journal says, the answer is the number of its line `end`.
 //! if let Some(line) = ending_fault(alloc, &trace, &journal)? {

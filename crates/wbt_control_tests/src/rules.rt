@@ -10,7 +10,8 @@ use wbt_rules::{
     avail_at, chunk_of, context_of, due_after, is_ageing, is_over_own, limits_after, next_period,
     periods_by,
 };
-use wbt_trace::{Avail, Trace, read_trace};
+use wbt_trace::{Avail, Trace};
+use wbt_trace_text::read_trace;
 
 // Two devices; a context of the second says after how long its inodes are due, and each of its two contexts has an inode.
 static TEXT: &[u8] =

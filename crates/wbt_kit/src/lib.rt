@@ -9,7 +9,7 @@
 //! ```
 //! use wbt_kit::Kit;
 //!
-//! // `trace` is one that `wbt_trace::read_trace` answered, of two CPUs. The run opens at moment 1.
+//! // `trace` is one that `wbt_trace_text::read_trace` answered, of two CPUs. The run opens at moment 1.
 //! let (kit, mut seats) = Kit::make(alloc, &trace, 1)?;
 //! // Seats of its own for CPU 1, which another thread takes. The others keep CPU 0, and the timer, whose number is that of the CPUs.
 //! let other = kit.split(&rt, alloc, &mut seats, 1)?;

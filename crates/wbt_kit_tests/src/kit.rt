@@ -10,7 +10,7 @@ use wbt_io::NoMemory;
 use wbt_journal::writers_in_order;
 use wbt_kit::{Kit, Seats};
 use wbt_rules::first_limits;
-use wbt_trace::{TraceFault, read_trace};
+use wbt_trace_text::{TraceFault, read_trace};
 
 // One CPU and two pages of one task.
 const TWO_PAGES: &[u8] =

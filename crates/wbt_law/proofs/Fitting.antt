@@ -4,9 +4,9 @@ use Rattle.wbt_num.specs.Limits.{IsLawful}
 use Rattle.wbt_num.specs.declared.limits.TheConstants.{MAX_LIMIT}
 use Rattle.wbt_position.specs.declared.ratio.DomainRead.{DomainRead}
 use Rattle.wbt_text.specs.Reading.{Lead, Ends}
-use Rattle.wbt_trace.specs.declared.fault.TraceFault.{TraceFault}
-use Rattle.wbt_trace.specs.declared.fault.TraceFault.TheVariants as fault
-use Rattle.wbt_trace.proofs.Tests.{left_off, right_off, not_below, not_none}
+use Rattle.wbt_trace_text.specs.declared.fault.TraceFault.{TraceFault}
+use Rattle.wbt_trace_text.specs.declared.fault.TraceFault.TheVariants as fault
+use Rattle.wbt_trace_text.proofs.Tests.{left_off, right_off, not_below, not_none}
 use Rattle.wbt_law.specs.Accept.{law_with, with_cpus, with_cap, with_now, with_task, with_estimate, with_context, domain_from, is_out_of_range, put_global, put_cgroup, and_next, unless}
 use Rattle.wbt_law.specs.Draft.{start, rates_of}
 use Rattle.wbt_law.specs.Law.{IsDecidable}

@@ -1,8 +1,8 @@
 -- What a law text tells: what one decision is made from, or the text's first fault.
 use Rattle.std.specs.Prelude.{ℕ, ◌+◌, if◌then◌else◌, List, Result, Ok, Err}
 use Rattle.wbt_text.specs.Reading.{Format, HasAnswer, Tells as told}
-use Rattle.wbt_trace.specs.declared.fault.TraceFault.{TraceFault}
-use Rattle.wbt_trace.specs.declared.fault.TraceFault.TheVariants as fault
+use Rattle.wbt_trace_text.specs.declared.fault.TraceFault.{TraceFault}
+use Rattle.wbt_trace_text.specs.declared.fault.TraceFault.TheVariants as fault
 use Rattle.wbt_law.specs.Accept.{accept}
 use Rattle.wbt_law.specs.Draft.{start}
 use Rattle.wbt_law.specs.Rows.{IsRow, may_end}

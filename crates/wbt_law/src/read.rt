@@ -1,7 +1,7 @@
 //! Reading a law text.
 
 ghost use Rattle.std.specs.Prelude.{◌≡◌, ◌⊎◌, ℕ, List, Result, IfOk};
-ghost use Rattle.wbt_trace.specs.declared.fault.TraceFault.{TraceFault as FaultValue};
+ghost use Rattle.wbt_trace_text.specs.declared.fault.TraceFault.{TraceFault as FaultValue};
 ghost use Rattle.wbt_text.specs.Reading.{EachHasAnswer, EachHasOne};
 ghost use Rattle.wbt_law.specs.Draft.{start};
 ghost use Rattle.wbt_law.specs.Law.{IsDecidable};
@@ -16,7 +16,7 @@ use crate::row::row;
 use std::alloc::Global;
 use wbt_num::NoMemory;
 use wbt_text::{Reader, Verdict, read_lines};
-use wbt_trace::TraceFault;
+use wbt_trace_text::TraceFault;
 
 /// Each text tells what one decision is made from, or has one first fault.
 pub fn law_has_one_answer()

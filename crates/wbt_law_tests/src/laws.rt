@@ -6,7 +6,7 @@ use wbt_law::{law_text, read_law};
 use wbt_limits::freerun;
 use wbt_num::Limits;
 use wbt_position::setpoint;
-use wbt_trace::TraceFault;
+use wbt_trace_text::TraceFault;
 
 // What a text shows, the text, and what is printed.
 type Row = (&'static str, &'static [u8], &'static [u8]);

@@ -8,7 +8,7 @@
 //! use wbt_replay::replay;
 //! use wbt_journal::Ending;
 //!
-//! // A trace as `wbt_trace::read_trace` answers it: one task that writes two pages.
+//! // A trace as `wbt_trace_text::read_trace` answers it: one task that writes two pages.
 //! let journal = replay(alloc, &trace)?;
 //! assert_eq!(rt; journal.ending, Ending::Done);
 //! // The run made 23 steps, each with its count and the bound, and left no page.

@@ -5,7 +5,7 @@ use std::test::Fail;
 use wbt_io::MemSink;
 use wbt_journal::{Journal, PrintEnd, print};
 use wbt_replay::replay;
-use wbt_trace::read_trace;
+use wbt_trace_text::read_trace;
 
 // A trace that writes nothing, one that writes the two pages of its inode, and one of two CPUs, of which the second makes a
 // step between two steps of the first one's write.

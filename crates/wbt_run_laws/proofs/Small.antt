@@ -28,7 +28,7 @@ use Rattle.wbt_published.specs.Known.{first_one}
 use Rattle.wbt_published.specs.Publishing.{IsRising}
 use Rattle.wbt_published.proofs.Places.{first_version}
 use Rattle.wbt_trace.specs.Lawful.{IsLawful, IsDevice, IsCgroup, IsContext, IsInode, IsTask, IsFlusher, IsAction, IsOrder}
-use Rattle.wbt_trace.specs.Reading.{has_flusher}
+use Rattle.wbt_trace.specs.Lawful.{has_flusher}
 use Rattle.wbt_trace.specs.declared.trace.Trace.{Trace}
 use Rattle.wbt_journal.specs.Checks.{IsInRange}
 use Rattle.wbt_journal.specs.Machine.{pages, page_context}

@@ -9,7 +9,7 @@ use wbt_journal::{Ending, Journal};
 use wbt_kit::{Hands, Kit};
 use wbt_run::{RunEnd, run, work};
 use wbt_run_close::close;
-use wbt_trace::read_trace;
+use wbt_trace_text::read_trace;
 
 // The end of the run of a text.
 pub(super) fn run_text<H: Threads + Wait + Sync, C: Clock + Sync, G: Gate + Sync, R: Rack>(

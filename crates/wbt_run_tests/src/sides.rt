@@ -6,7 +6,7 @@ use wbt_journal::Ending;
 use wbt_num::Limits;
 use wbt_run_drain::ending::{all_ended, ending_of};
 use wbt_run_lend::{give_all, make_sides};
-use wbt_trace::read_trace;
+use wbt_trace_text::read_trace;
 
 const TWO_CPUS: &[u8] =
     b"cpus 2\navail 0 100000\ndevice 0 25600 0 100\ncontext 0 0 0\ninode 0 0 2\ntask 0 0\nflusher 0 0 1\nflusher 1 0 1\nwrite 0 0 0 2\n";

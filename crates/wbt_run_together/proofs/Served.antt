@@ -11,7 +11,7 @@ use Rattle.wbt_run_worker.specs.declared.side.CpuSide.{CpuSide}
 use Rattle.wbt_run_worker.specs.declared.side.Post.{Post}
 use Rattle.wbt_run_worker.specs.declared.side.Stand.TheVariants.{Open, Done}
 use Rattle.wbt_trace.specs.Lawful.{IsLawful}
-use Rattle.wbt_trace.specs.Reading.{has_flusher}
+use Rattle.wbt_trace.specs.Lawful.{has_flusher}
 use Rattle.wbt_trace.specs.declared.trace.FlusherLine.{FlusherLine}
 use Rattle.wbt_trace.specs.declared.trace.Trace.{Trace}
 use Rattle.wbt_run_drain.specs.Ends.{Any}

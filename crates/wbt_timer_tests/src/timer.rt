@@ -11,7 +11,8 @@ use wbt_journal::TimerEntry;
 use wbt_kit::{Kit, Seats, Turn};
 use wbt_num::Limits;
 use wbt_timer::TimerSide;
-use wbt_trace::{Trace, TraceFault, read_trace};
+use wbt_trace::Trace;
+use wbt_trace_text::{TraceFault, read_trace};
 
 // Half the pages are there from tick 150 on.
 const HALVED: &[u8] =

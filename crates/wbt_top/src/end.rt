@@ -7,7 +7,7 @@ ghost use Rattle.wbt_io.specs.Faults.{HasRisen, HasRisenBy};
 ghost use Rattle.wbt_io.specs.Told.{GainsPart};
 ghost use Rattle.wbt_rules.specs.declared.moments.TheConstants.{MOST_FAULTS};
 ghost use Rattle.wbt_run.specs.Running.{IsDone, IsFaulted, IsSpent as IsRunSpent, NeverStops};
-ghost use Rattle.wbt_trace.specs.declared.fault.TraceFault.{TraceFault as FaultValue};
+ghost use Rattle.wbt_trace_text.specs.declared.fault.TraceFault.{TraceFault as FaultValue};
 ghost use Rattle.wbt_top_plain.specs.Audit.{Answers, Audited, IfAuditTold, IfRunToJudge, IsAudit, IsAuditInput, ReadsText, bad_journal, bad_trace};
 ghost use Rattle.wbt_top_plain.specs.StatusText.{code_of};
 ghost use Rattle.wbt_top_plain.specs.Bulk.{IsBulk, IsRun, RunsThreads};
@@ -23,7 +23,7 @@ use std::sync::Wait;
 use std::thread::Threads;
 use wbt_io::{Clock, Gate, Rack, Sink, Source};
 use wbt_top_plain::{Status, Words, code, plain_top};
-use wbt_trace::TraceFault;
+use wbt_trace_text::TraceFault;
 
 /// What `main` returns. None is made but by a call, or where memory for the words is refused.
 #[derive(Drop)]

@@ -1,7 +1,7 @@
 //! Which status the end of a run over threads becomes. None of it takes memory, so that refused memory is told for nothing else.
 
 ghost use Rattle.std.specs.Prelude.{◌≡◌, ◌≢◌, ◌↔◌, ◌⊎◌, ℕ, Err, IsOk};
-ghost use Rattle.wbt_trace.specs.declared.fault.TraceFault.{TraceFault as FaultValue};
+ghost use Rattle.wbt_trace_text.specs.declared.fault.TraceFault.{TraceFault as FaultValue};
 
 use wbt_journal::PrintEnd;
 use wbt_top_plain::Status;

@@ -9,7 +9,7 @@ ghost use Rattle.wbt_rules.specs.declared.moments.TheConstants.{MOST_FAULTS};
 ghost use Rattle.wbt_run.specs.Running.{IsDone, IsFaulted, IsSpent, NeverStops};
 ghost use Rattle.wbt_trace.specs.Bulk.{bulk_trace};
 ghost use Rattle.wbt_trace.specs.Lawful.{IsLawful};
-ghost use Rattle.wbt_trace.specs.declared.fault.TraceFault.{TraceFault as FaultValue};
+ghost use Rattle.wbt_trace_text.specs.declared.fault.TraceFault.{TraceFault as FaultValue};
 ghost use Rattle.wbt_top_plain.specs.Bulk.{IsBulk, IsBulkSize, IsRun, RunsThreads, bulk_text};
 ghost use Rattle.wbt_top_plain.specs.Written.{IsWritten, IsWrittenUnless};
 ghost use Rattle.wbt_top.specs.Threads.{Finishes, IsBulkDone, IsServed, OfCommand, OfRead, Ran};
@@ -23,7 +23,8 @@ use wbt_io::{Clock, Gate, Rack, Sink, Source};
 use wbt_journal::print;
 use wbt_run::{RunEnd, run};
 use wbt_top_plain::{Command, Status, Words, command_of, of_input_end, read_input, write_bulk};
-use wbt_trace::{Trace, TraceFault, generate, text_has_one_answer};
+use wbt_trace::{Trace, generate};
+use wbt_trace_text::{TraceFault, text_has_one_answer};
 
 /// Serves the words `run` and `bulk N`: reads a trace from the source, runs it over threads, and writes the journal of the run; or
 /// reads nothing, runs the trace of N pages, and writes how many pages were dirtied and cleaned and how many are left.

@@ -3,8 +3,8 @@ use Rattle.std.proofs.Common.{inl, inr, ◌≡◌, ◌≢◌, ◌⊎◌, ◌↔�
 use Rattle.std.specs.Option.{IfSome}
 use Rattle.wbt_num.specs.declared.most.TheConstants.{MOST_INPUT}
 use Rattle.wbt_io.specs.declared.source.ReadEnd.TheVariants as read_end
-use Rattle.wbt_trace.specs.declared.fault.TraceFault.{TraceFault}
-use Rattle.wbt_trace.specs.declared.fault.TraceFault.TheVariants.{BadLine, UnknownName, Twice, OutOfRange, Limit, Missing, NoMemory}
+use Rattle.wbt_trace_text.specs.declared.fault.TraceFault.{TraceFault}
+use Rattle.wbt_trace_text.specs.declared.fault.TraceFault.TheVariants.{BadLine, UnknownName, Twice, OutOfRange, Limit, Missing, NoMemory}
 use Rattle.wbt_top_plain.specs.Top.{IsLong}
 use Rattle.wbt_top_plain.specs.declared.causes.InputEnd.{InputEnd}
 use Rattle.wbt_top_plain.specs.declared.causes.InputEnd.TheVariants.{Unread, Refused}

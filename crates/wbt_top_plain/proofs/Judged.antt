@@ -4,13 +4,13 @@ use Rattle.wbt_text.specs.Cut.{Without}
 use Rattle.wbt_text.specs.Reading.{Lead, Ends}
 use Rattle.wbt_text.proofs.Cuts.{no_cut, lacks, from_lacks, without_append}
 use Rattle.wbt_text.proofs.Spaces.{are_no_feed}
-use Rattle.wbt_trace.specs.Lines.{kind_text, kind_of, numbers_of, IsLine}
-use Rattle.wbt_trace.specs.Reading.{IsAnswer, traces}
+use Rattle.wbt_trace_text.specs.Lines.{kind_text, kind_of, numbers_of, IsLine}
+use Rattle.wbt_trace_text.specs.Reading.{IsAnswer, traces}
 use Rattle.wbt_trace.specs.Sofar.{Sofar, start}
-use Rattle.wbt_trace.specs.declared.kind.Kind.{Kind}
-use Rattle.wbt_trace.specs.declared.kind.Kind.TheVariants as kind
-use Rattle.wbt_trace.specs.declared.fault.TraceFault.{TraceFault}
-use Rattle.wbt_trace.specs.declared.line.Line.{Line}
+use Rattle.wbt_trace_text.specs.declared.kind.Kind.{Kind}
+use Rattle.wbt_trace_text.specs.declared.kind.Kind.TheVariants as kind
+use Rattle.wbt_trace_text.specs.declared.fault.TraceFault.{TraceFault}
+use Rattle.wbt_trace_text.specs.declared.line.Line.{Line}
 use Rattle.wbt_trace.specs.declared.trace.Trace.{Trace}
 use Rattle.wbt_journal.specs.declared.journal.Journal.{Journal}
 use Rattle.wbt_journal.specs.Checks.{with_marks}

@@ -3,9 +3,9 @@ use Rattle.std.proofs.Common.{arith, inl, inr, ◌≡◌, ◌≢◌, ◌⊎◌, 
 use Rattle.std.proofs.lemmas.Bool.{cases_lt}
 use Rattle.std.specs.Option.{IfSome, IfNone}
 use Rattle.wbt_io.specs.declared.source.ReadEnd.TheVariants as read_end
-use Rattle.wbt_trace.specs.Reading.{IsAnswer, Tells as TraceTells}
-use Rattle.wbt_trace.specs.declared.fault.TraceFault.{TraceFault}
-use Rattle.wbt_trace.specs.declared.fault.TraceFault.TheVariants.{NoMemory}
+use Rattle.wbt_trace_text.specs.Reading.{IsAnswer, Tells as TraceTells}
+use Rattle.wbt_trace_text.specs.declared.fault.TraceFault.{TraceFault}
+use Rattle.wbt_trace_text.specs.declared.fault.TraceFault.TheVariants.{NoMemory}
 use Rattle.wbt_trace.specs.declared.trace.Trace.{Trace}
 use Rattle.wbt_journal.specs.declared.journal.Journal.{Journal}
 use Rattle.wbt_journal_reader.specs.declared.read.JournalFault.TheVariants as journal_fault

@@ -4,8 +4,8 @@ use Rattle.std.specs.Fmt.{decimal}
 use Rattle.wbt_num.specs.declared.most.TheConstants.{MOST_INPUT}
 use Rattle.wbt_text.specs.Cut.{Without}
 use Rattle.wbt_trace.specs.Lawful.{IsLawful}
-use Rattle.wbt_trace.specs.Reading.{IsAnswer}
-use Rattle.wbt_trace.specs.declared.fault.TraceFault.{TraceFault}
+use Rattle.wbt_trace_text.specs.Reading.{IsAnswer}
+use Rattle.wbt_trace_text.specs.declared.fault.TraceFault.{TraceFault}
 use Rattle.wbt_trace.specs.declared.trace.Trace.{Trace}
 use Rattle.wbt_journal.specs.Checks.{with_marks}
 use Rattle.wbt_journal.specs.Each.{Each}

@@ -1,8 +1,8 @@
 -- What a status prints, and its exit code.
 use Rattle.std.specs.Prelude.{ℕ, List, ◌++◌, codes}
 use Rattle.std.specs.Fmt.{decimal}
-use Rattle.wbt_trace.specs.declared.fault.Missing.TheVariants as missing
-use Rattle.wbt_trace.specs.declared.fault.TraceFault.TheVariants as fault
+use Rattle.wbt_trace_text.specs.declared.fault.Missing.TheVariants as missing
+use Rattle.wbt_trace_text.specs.declared.fault.TraceFault.TheVariants as fault
 use Rattle.wbt_top_plain.specs.declared.status.Status.{Status}
 use Rattle.wbt_top_plain.specs.declared.status.Status.TheVariants.{Good, BadWords, BadTrace, BadJournal, Unsettled, Unlawful, ReadFault, WriteFault, DiskFault, NoMemory, Spent, TooLong}
 

@@ -4,9 +4,9 @@ use Rattle.std.specs.Io.KnownBytes.{append_known}
 use Rattle.wbt_num.specs.declared.most.TheConstants.{MOST_INPUT}
 use Rattle.wbt_io.specs.Told.{GainsPart}
 use Rattle.wbt_trace.specs.Lawful.{IsLawful}
-use Rattle.wbt_trace.specs.Reading.{IsAnswer}
-use Rattle.wbt_trace.specs.Writing.{trace_text}
-use Rattle.wbt_trace.specs.declared.fault.TraceFault.{TraceFault}
+use Rattle.wbt_trace_text.specs.Reading.{IsAnswer}
+use Rattle.wbt_trace_text.specs.Writing.{trace_text}
+use Rattle.wbt_trace_text.specs.declared.fault.TraceFault.{TraceFault}
 use Rattle.wbt_trace.specs.declared.trace.Trace.{Trace}
 use Rattle.wbt_journal.specs.declared.journal.Ending.TheVariants as ending
 use Rattle.wbt_replay_order.specs.Claims.Bound.{IsBounded, IsCounted, PrintsBound, PeaksArePrinted, HasEnded}

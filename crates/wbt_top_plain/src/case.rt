@@ -5,7 +5,7 @@ ghost use Rattle.std.specs.Io.KnownBytes.{append_known, IsAtEnd};
 ghost use Rattle.wbt_io.specs.Faults.{HasRisen};
 ghost use Rattle.wbt_io.specs.Told.{GainsPart};
 ghost use Rattle.wbt_trace.specs.Lawful.{IsLawful};
-ghost use Rattle.wbt_trace.specs.declared.fault.TraceFault.{TraceFault as FaultValue};
+ghost use Rattle.wbt_trace_text.specs.declared.fault.TraceFault.{TraceFault as FaultValue};
 ghost use Rattle.wbt_journal.specs.PlainJournal.{IsPlainJournal};
 ghost use Rattle.wbt_audit.specs.Audited.{audit_of};
 ghost use Rattle.wbt_top_plain.specs.Audit.{AnswersVerdict, IsAuditInput, Means, Tells, bad_trace, bad_journal, both, verdict_text as verdict_text_value};
@@ -23,7 +23,8 @@ use wbt_audit::{Verdict, audit};
 use wbt_io::{ReadEnd, Sink, Source, write_all};
 use wbt_journal::{Journal, PrintEnd};
 use wbt_journal_reader::{JournalFault, read_journal};
-use wbt_trace::{Trace, TraceFault, read_trace};
+use wbt_trace::Trace;
+use wbt_trace_text::{TraceFault, read_trace};
 
 /// A trace, and a journal that is to be judged for it.
 #[derive(Drop)]

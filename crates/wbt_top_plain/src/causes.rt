@@ -1,7 +1,7 @@
 //! Which status a cause becomes. None of it takes memory, so that refused memory is told for nothing else.
 
 ghost use Rattle.std.specs.Prelude.{◌≡◌, ◌≢◌, ◌↔◌, ◌⊎◌, ℕ, Ok, Err, IsOk};
-ghost use Rattle.wbt_trace.specs.declared.fault.TraceFault.{TraceFault as FaultValue};
+ghost use Rattle.wbt_trace_text.specs.declared.fault.TraceFault.{TraceFault as FaultValue};
 ghost use Rattle.wbt_top_plain.specs.Audit.{AnswersVerdict};
 
 use crate::status::Status;
@@ -9,7 +9,7 @@ use wbt_audit::Verdict;
 use wbt_io::ReadEnd;
 use wbt_journal::{Ending, PrintEnd};
 use wbt_journal_reader::JournalFault;
-use wbt_trace::TraceFault;
+use wbt_trace_text::TraceFault;
 
 /// Why there is no input to work on.
 #[derive(Clone, Copy)]

@@ -3,14 +3,15 @@
 ghost use Rattle.std.specs.Prelude.{◌≡◌, ◌≢◌, ◌≤◌, ◌⊎◌, IfOk, OnOk, IsErrOf, IfSome, length};
 ghost use Rattle.std.specs.Io.KnownBytes.{IsAtEnd};
 ghost use Rattle.wbt_io.specs.Faults.{HasRisen};
-ghost use Rattle.wbt_trace.specs.declared.fault.TraceFault.{TraceFault as FaultValue};
+ghost use Rattle.wbt_trace_text.specs.declared.fault.TraceFault.{TraceFault as FaultValue};
 ghost use Rattle.wbt_top_plain.specs.Top.{IsRead, IsRefused, IsLong, IfLong};
 
 use crate::causes::InputEnd;
 use std::alloc::Global;
 use wbt_io::{ReadEnd, Source, read_all};
 use wbt_num::MOST_INPUT;
-use wbt_trace::{Trace, TraceFault, read_trace};
+use wbt_trace::Trace;
+use wbt_trace_text::{TraceFault, read_trace};
 
 /// Reads a trace from a source, to the end of its input, or says why there is none.
 pub fn read_input<S: Source>(alloc: Global, source: &mut S) -> Result<Trace, InputEnd>

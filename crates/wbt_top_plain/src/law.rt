@@ -6,7 +6,7 @@ ghost use Rattle.wbt_io.specs.Faults.{HasRisen};
 ghost use Rattle.wbt_io.specs.Told.{GainsPart};
 ghost use Rattle.wbt_law.specs.Law.{IsDecidable};
 ghost use Rattle.wbt_law.specs.Text.{law_text as law_text_value};
-ghost use Rattle.wbt_trace.specs.declared.fault.TraceFault.{TraceFault as FaultValue};
+ghost use Rattle.wbt_trace_text.specs.declared.fault.TraceFault.{TraceFault as FaultValue};
 ghost use Rattle.wbt_top_plain.specs.Top.{IsLawRead, IsLawRefused, IsLong, IfLong};
 
 use crate::causes::{InputEnd, OutputEnd};
@@ -14,7 +14,7 @@ use crate::input::read_text;
 use std::alloc::Global;
 use wbt_io::{ReadEnd, Sink, Source, write_all};
 use wbt_law::{LawInput, law_text, read_law};
-use wbt_trace::TraceFault;
+use wbt_trace_text::TraceFault;
 
 /// Reads a law text from a source, to the end of its input, or says why there is none.
 pub fn read_law_input<S: Source>(alloc: Global, source: &mut S) -> Result<LawInput, InputEnd>

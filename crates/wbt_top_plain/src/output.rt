@@ -5,7 +5,7 @@ ghost use Rattle.std.specs.Io.KnownBytes.{append_known};
 ghost use Rattle.wbt_io.specs.Faults.{HasRisen};
 ghost use Rattle.wbt_io.specs.Told.{GainsPart};
 ghost use Rattle.wbt_trace.specs.Lawful.{IsLawful};
-ghost use Rattle.wbt_trace.specs.Writing.{trace_text};
+ghost use Rattle.wbt_trace_text.specs.Writing.{trace_text};
 ghost use Rattle.wbt_top_plain.specs.Top.{IsControlled, IsSpent, replay_text};
 
 use crate::causes::{OutputEnd, of_print};
@@ -13,7 +13,8 @@ use std::alloc::Global;
 use wbt_io::{Sink, write_all};
 use wbt_journal::print;
 use wbt_replay::replay;
-use wbt_trace::{Trace, write_trace};
+use wbt_trace::Trace;
+use wbt_trace_text::write_trace;
 
 /// Writes the text of the journal of the trace's ordered run. That the run is spent is told after its text was written, and
 /// before that the sink failed.

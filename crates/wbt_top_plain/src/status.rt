@@ -5,7 +5,7 @@ ghost use Rattle.wbt_top_plain.specs.StatusText.{status_text};
 
 use std::fmt;
 use wbt_num::Items;
-use wbt_trace::{Missing, TraceFault};
+use wbt_trace_text::{Missing, TraceFault};
 
 /// The words after the program's name.
 #[derive(Drop)]

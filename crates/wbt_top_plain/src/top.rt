@@ -4,7 +4,7 @@ ghost use Rattle.std.specs.Prelude.{◌≡◌, ◌≢◌, ◌↔◌, ◌⊎◌, 
 ghost use Rattle.std.specs.Io.KnownBytes.{IsAtEnd};
 ghost use Rattle.wbt_io.specs.Faults.{HasRisen};
 ghost use Rattle.wbt_io.specs.Told.{GainsPart};
-ghost use Rattle.wbt_trace.specs.declared.fault.TraceFault.{TraceFault as FaultValue};
+ghost use Rattle.wbt_trace_text.specs.declared.fault.TraceFault.{TraceFault as FaultValue};
 ghost use Rattle.wbt_top_plain.specs.Audit.{Answers, Audited, IfAuditTold, IfRunToJudge, IsAudit, IsAuditInput, ReadsText, bad_journal, bad_trace};
 ghost use Rattle.wbt_top_plain.specs.StatusText.{code_of};
 ghost use Rattle.wbt_top_plain.specs.Bulk.{RunsThreads};
@@ -22,7 +22,7 @@ use std::alloc::Global;
 use wbt_io::{Sink, Source};
 use wbt_journal::laws::{lawful_is_told, text_fixes_journal};
 use wbt_law::law_has_one_answer;
-use wbt_trace::{TraceFault, text_has_one_answer};
+use wbt_trace_text::{TraceFault, text_has_one_answer};
 
 /// Which call serves the words.
 pub fn route(words: &Words) -> Route

@@ -6,7 +6,7 @@ use std::alloc::Global;
 use std::test::Fail;
 use wbt_io::{MemSink, MemSource};
 use wbt_top_plain::Status;
-use wbt_trace::{Missing, TraceFault};
+use wbt_trace_text::{Missing, TraceFault};
 
 // The empty trace, and a task that writes two pages.
 const TWO_PAGES: &str =

@@ -5,7 +5,7 @@ use std::alloc::{AllocError, Global};
 use std::test::Fail;
 use wbt_num::{MOST_ACTIONS, MOST_INPUT, MOST_ORDER_LINES};
 use wbt_top_plain::Status;
-use wbt_trace::TraceFault;
+use wbt_trace_text::TraceFault;
 
 // The machine of 64 CPUs and 16 disks, each CPU with a task that writes the 15 pages of an inode of its own.
 fn wide_machine(alloc: Global) -> Result<Vec<u8>, AllocError> {

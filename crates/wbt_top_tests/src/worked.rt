@@ -6,7 +6,7 @@ use std::test::Fail;
 use wbt_io::{MemSink, MemSource};
 use wbt_num::MOST_INPUT;
 use wbt_top_plain::{Status, code};
-use wbt_trace::{Missing, TraceFault};
+use wbt_trace_text::{Missing, TraceFault};
 
 // A trace that writes nothing, up to its flusher, and the flusher.
 const MACHINE: &str =

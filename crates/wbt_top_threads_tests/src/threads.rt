@@ -9,7 +9,7 @@ use top_in_use::{Input, SlowClock, THREE_CPUS, TWO_PAGES, call, calm};
 use wbt_io::{FaultyRack, FreeGate, HaltGate, JumpClock, ModelRack};
 use wbt_run::MeetingGate;
 use wbt_top_plain::{Route, Status, code, route};
-use wbt_trace::{Missing, TraceFault};
+use wbt_trace_text::{Missing, TraceFault};
 
 // One call at a clock that moves slowly, with a gate that stops nobody and disks that don't fail.
 fn run<H: Threads + Wait + Sync>(

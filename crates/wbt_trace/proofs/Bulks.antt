@@ -4,7 +4,7 @@ use Rattle.std.specs.List.{All}
 use Rattle.std.proofs.lemmas.List.Elements.{All-cons, All-nil}
 use Rattle.wbt_trace.specs.Bulk.{bulk_trace, bulk_inodes, bulk_write, disk, pages_of}
 use Rattle.wbt_trace.specs.Lawful.{IsLawful, AreInodes, IsInode, IsDevice, IsContext, IsTask, IsFlusher, IsAction, IsCgroup, IsOrder}
-use Rattle.wbt_trace.specs.Reading.{has_flusher}
+use Rattle.wbt_trace.specs.Lawful.{has_flusher}
 use Rattle.wbt_trace.specs.Sofar.{pages_in}
 
 -- one where a page of those that are over comes to the i-th inode

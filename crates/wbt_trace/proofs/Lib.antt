@@ -1,16 +1,2 @@
-mod Avails
 mod Bulks
-mod Contexts
-mod Deciding
-mod Devices
-mod Flushers
 pub mod InOrder
-mod Keeping
-mod Kept
-mod KindLaws
-mod LineLaws
-mod Rereading
-mod RoundTrips
-mod Small
-pub mod Tests
-mod Texts

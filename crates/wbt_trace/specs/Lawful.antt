@@ -1,8 +1,8 @@
 -- What a lawful trace is: its things meet the names, ranges and limits of a trace, and nothing is missing.
-use Rattle.std.specs.Prelude.{◌≡◌, ℕ, ◌+◌, ◌<◌, ◌≤◌, List, [], ◌∷◌, length, Option, Some, None, IfSome, IsTrue, All}
+use Rattle.std.specs.Prelude.{◌≡◌, ℕ, ◌+◌, ◌<◌, ◌≤◌, Bool, ◌==◌, List, [], ◌∷◌, length, Option, Some, None, IfSome, IsTrue, All}
+use Rattle.std.specs.List.{list_any}
 use Rattle.wbt_num.specs.declared.most.TheConstants.{MOST_ACTIONS, MOST_AVAIL_LINES, MOST_CAP, MOST_CGROUPS, MOST_CONTEXTS, MOST_CPUS, MOST_DEVICES, MOST_FLUSHERS, MOST_INODES, MOST_ORDER_LINES, MOST_PAGES, MOST_TASKS, MOST_WRITERS}
 use Rattle.wbt_num.specs.declared.limits.Settings.{Settings}
-use Rattle.wbt_trace.specs.Reading.{has_flusher}
 use Rattle.wbt_trace.specs.Sofar.{least_shares, pages_in, inode_at}
 use Rattle.wbt_trace.specs.WriterList.{with_writer}
 use Rattle.wbt_trace.specs.declared.trace.Action.{Action}
@@ -125,6 +125,10 @@ pub record IsWithin (trace : Trace) : Type 0 where
   pub order : All (IsOrder trace.cpus) trace.order
   pub few_orders : length trace.order ≤ MOST_ORDER_LINES
   pub halt : IfSome trace.halt (λ steps. steps ≤ MOST_COUNT)
+
+-- some flusher is the device's
+abbrev pub has_flusher : (device : ℕ) (flushers : List FlusherLine) → Bool
+has_flusher device flushers = list_any (λ flusher. flusher.device == device) flushers
 
 -- There are CPUs and available pages, and each device has a flusher.
 pub record IsWhole (trace : Trace) : Type 0 where

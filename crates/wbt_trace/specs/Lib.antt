@@ -1,10 +1,4 @@
-pub mod Accept
 pub mod Bulk
 pub mod Lawful
-pub mod Lines
-pub mod Reading
-pub mod RoundTrip
-pub mod Seen
 pub mod Sofar
 pub mod WriterList
-pub mod Writing

@@ -3,7 +3,7 @@
 use crate::traces::{fault_of, with_lines};
 use std::alloc::{AllocError, Global};
 use std::test::Fail;
-use wbt_trace::TraceFault;
+use wbt_trace_text::TraceFault;
 
 // One of each thing, with 64 CPUs and an inode of nine pages. What follows is line 9.
 static FRONT: &[u8] =

@@ -2,9 +2,8 @@
 
 use std::alloc::{AllocError, Global};
 use std::test::Fail;
-use wbt_trace::{
-    Action, Context, Device, Inode, Missing, Trace, TraceFault, generate, read_trace, write_trace,
-};
+use wbt_trace::{Action, Context, Device, Inode, Trace, generate};
+use wbt_trace_text::{Missing, TraceFault, read_trace, write_trace};
 
 // A text with a line of each kind, in the order in which a trace is written, and one with the same lines in another.
 static EACH_KIND: &[u8] =

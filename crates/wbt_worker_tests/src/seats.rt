@@ -16,7 +16,7 @@ use wbt_kit::{Kit, Seats};
 use wbt_num::{Items, Limits};
 use wbt_run_seats::{join_each, left_in, publishes_all, split_each, take_notes, take_records};
 use wbt_table::{Census, CpuSeat, Layout, Place, Throttle, Writer};
-use wbt_trace::{TraceFault, read_trace};
+use wbt_trace_text::{TraceFault, read_trace};
 
 // Two devices, whose flushers are on the last CPUs.
 const THREE_CPUS: &[u8] =

@@ -1,7 +1,7 @@
 -- What a lawful trace says of its things by number.
 use Rattle.std.proofs.Common.{◌≡◌, ℕ, suc, ◌<◌, Bool, true, false, ◌||◌, eqb, List, [], ◌∷◌, length, get_or, refl, arith, eqb-true, None, Option, Some, IfSome, unwrap_or, ◌*◌, ◌≤◌}
 use Rattle.wbt_trace.specs.Lawful.{IsLawful, IsContext, IsInode, IsExpire}
-use Rattle.wbt_trace.specs.Reading.{has_flusher}
+use Rattle.wbt_trace.specs.Lawful.{has_flusher}
 use Rattle.wbt_trace.specs.declared.trace.Cgroup.{Cgroup}
 use Rattle.wbt_trace.specs.declared.trace.Context.{Context}
 use Rattle.wbt_trace.specs.declared.trace.Device.{Device}

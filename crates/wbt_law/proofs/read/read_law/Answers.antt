@@ -1,7 +1,7 @@
 use Rattle.std.proofs.Common.{ℕ, List, Result, Ok, Err, IfOk, inl, inr}
 use Rattle.wbt_text.proofs.Leading.{told_exact}
-use Rattle.wbt_trace.specs.declared.fault.TraceFault.{TraceFault}
-use Rattle.wbt_trace.specs.declared.fault.TraceFault.TheVariants as fault
+use Rattle.wbt_trace_text.specs.declared.fault.TraceFault.{TraceFault}
+use Rattle.wbt_trace_text.specs.declared.fault.TraceFault.TheVariants as fault
 use Rattle.wbt_law.specs.Draft.{start}
 use Rattle.wbt_law.specs.Law.{IsDecidable}
 use Rattle.wbt_law.specs.Reading.{laws, Tells}

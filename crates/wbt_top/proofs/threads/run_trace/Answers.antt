@@ -1,6 +1,6 @@
 use Rattle.std.proofs.Common.{Err, ap}
 use Rattle.wbt_io.specs.Faults.{HasRisen}
-use Rattle.wbt_trace.specs.Reading.{IsAnswer}
+use Rattle.wbt_trace_text.specs.Reading.{IsAnswer}
 use Rattle.wbt_top_plain.proofs.Each.{end_told, end_failed, is_told, no_fault}
 use Rattle.wbt_top.proofs.Served.{served, no_memory_is_served}
 use Rattle.wbt_top.proofs.threads.run_trace.Goals as goal

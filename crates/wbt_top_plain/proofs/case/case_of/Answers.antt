@@ -1,5 +1,5 @@
 use Rattle.std.proofs.Common.{◌≡◌, Some, None, Err, ap, subst}
-use Rattle.wbt_trace.specs.declared.fault.TraceFault.TheVariants.{NoMemory}
+use Rattle.wbt_trace_text.specs.declared.fault.TraceFault.TheVariants.{NoMemory}
 use Rattle.wbt_journal_reader.specs.declared.read.JournalFault.TheVariants.{BadLine}
 use Rattle.wbt_top_plain.specs.Audit.{Tells, bad_trace}
 use Rattle.wbt_top_plain.proofs.Inputs.{answer}

@@ -1,5 +1,5 @@
 use Rattle.std.proofs.Common.{◌≡◌, subst}
-use Rattle.wbt_trace.specs.declared.fault.TraceFault.TheVariants.{NoMemory}
+use Rattle.wbt_trace_text.specs.declared.fault.TraceFault.TheVariants.{NoMemory}
 use Rattle.wbt_top_plain.specs.Top.{IsLawRefused}
 use Rattle.wbt_top_plain.proofs.Inputs.{law_refused}
 use Rattle.wbt_top_plain.proofs.law.read_law_input.Goals as goal

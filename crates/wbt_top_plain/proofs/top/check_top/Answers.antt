@@ -1,6 +1,6 @@
 use Rattle.std.proofs.Common.{Err, inr, ap}
 use Rattle.wbt_io.specs.Faults.{HasRisen}
-use Rattle.wbt_trace.specs.Reading.{IsAnswer}
+use Rattle.wbt_trace_text.specs.Reading.{IsAnswer}
 use Rattle.wbt_top_plain.proofs.Each.{end_told, end_failed, is_told, no_fault, done}
 use Rattle.wbt_top_plain.proofs.top.check_top.Goals as goal
 

@@ -1,5 +1,0 @@
-use Rattle.wbt_trace.proofs.LineLaws.{clear}
-use Rattle.wbt_trace.proofs.read.read.Goals as goal
-
-pub read_lines-requires : goal.read_lines-requires
-read_lines-requires c = record { clear = clear }

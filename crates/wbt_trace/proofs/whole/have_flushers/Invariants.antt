@@ -1,6 +1,0 @@
-use Rattle.std.proofs.Common.{◌≡◌, true}
-use Rattle.wbt_trace.specs.Reading.{have_flushers}
-use Rattle.wbt_trace.proofs.whole.have_flushers.Given as goal
-
-abbrev pub invariant-loop-device : goal.invariant-loop-device
-invariant-loop-device l = have_flushers l.device l.flushers ≡ true

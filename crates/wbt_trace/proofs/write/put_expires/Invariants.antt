@@ -1,9 +1,0 @@
-use Rattle.std.proofs.Common.{◌≡◌, ◌++◌, drop, string_bytes}
-use Rattle.wbt_trace.specs.Writing.{lines_text, expire_lines}
-use Rattle.wbt_trace.proofs.write.put_expires.Given as goal
-
-abbrev pub invariant-loop-context : goal.invariant-loop-context
-invariant-loop-context l = record {
-  text : string_bytes l.text ++ lines_text (expire_lines l.number (drop l.context-index l.contexts)) ≡ string_bytes l.initial.text ++ lines_text (expire_lines 0 l.contexts);
-  count : l.number ≡ l.context-index;
-}

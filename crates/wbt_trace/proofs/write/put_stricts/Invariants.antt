@@ -1,9 +1,0 @@
-use Rattle.std.proofs.Common.{◌≡◌, ◌++◌, drop, string_bytes}
-use Rattle.wbt_trace.specs.Writing.{lines_text, strict_lines}
-use Rattle.wbt_trace.proofs.write.put_stricts.Given as goal
-
-abbrev pub invariant-loop-device : goal.invariant-loop-device
-invariant-loop-device l = record {
-  text : string_bytes l.text ++ lines_text (strict_lines l.number (drop l.device-index l.devices)) ≡ string_bytes l.initial.text ++ lines_text (strict_lines 0 l.devices);
-  count : l.number ≡ l.device-index;
-}

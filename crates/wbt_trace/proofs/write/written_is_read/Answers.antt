@@ -1,5 +1,0 @@
-use Rattle.wbt_trace.proofs.RoundTrips.{written_read}
-use Rattle.wbt_trace.proofs.write.written_is_read.Goals as goal
-
-pub returns : goal.returns
-returns c = written_read
