@@ -82,6 +82,7 @@ pub fn work<H: Threads + Wait + Sync, C: Clock + Sync, G: Gate + Sync, R: Rack>(
         log: lines,
         refused: false,
         halted: false,
+        in_turn: false,
         voice,
     };
     let logs = Vec::with_capacity(hands.alloc, trace.cpus as usize)?;
@@ -184,6 +185,7 @@ fn end<R: Rack>(
         log,
         refused,
         halted: _,
+        in_turn: _,
         voice: _,
     } = timer;
     if refused {

@@ -6,7 +6,7 @@ use Rattle.wbt_kit.specs.declared.kit.Seats.{Seats}
 use Rattle.wbt_run_worker.specs.Answers.{ComesOut, Goes}
 use Rattle.wbt_run_worker.specs.Course.{HasRun, end_of}
 use Rattle.wbt_run_worker.specs.Team.{Team}
-use Rattle.wbt_run_worker.specs.Voices.{Speaks}
+use Rattle.wbt_run_worker.specs.Voices.{HasSpoken}
 use Rattle.wbt_run_worker.specs.declared.side.End.{End}
 use Rattle.wbt_run_worker.specs.declared.side.End.TheVariants.{Ended, Halted, Faulted, Spent, Refused, Stopped}
 use Rattle.wbt_run_worker.specs.declared.worker.Worker.{Worker}
@@ -15,7 +15,7 @@ use Rattle.wbt_run_worker.proofs.Coursing.{run_on}
 use Rattle.wbt_run_worker.proofs.Lists.{each_at}
 use Rattle.wbt_run_worker.proofs.Going.{as_named, goes_more, own_side, stands_more}
 use Rattle.wbt_run_worker.proofs.Posts.{faulted_since}
-use Rattle.wbt_run_worker.proofs.Speaking.{speaks_more}
+use Rattle.wbt_run_worker.proofs.Speaking.{spoke_still, spoken_more}
 use Rattle.wbt_trace.specs.declared.trace.Trace.{Trace}
 use Rattle.wbt_run_beside.specs.Beside.{AllDid, AllHaveGone, AllHaveWorked, AllMay, AllMayWork, HasEnded, HasGone, HasGoneOn, HasWorked, MayGoOn, cpu_in, stance_in, team_in, trace_in}
 
@@ -43,7 +43,7 @@ module _ {D : Type 0} (signals : TableId) (told : ℕ → Type 0) (said : ℕ �
   may_go a b gone served = record {
     side = own_side (trace_in a) (cpu_in a) kit (team_in written faults b) b.seats
         (subst (λ (end : Option End). ComesOut said (trace_in a) (cpu_in a) kit end (team_in written faults a) (team_in written faults b) b.seats) (not_ended b served) gone.comes);
-    voice = gone.speaks.may;
+    voice = (spoke_still signals b.writes a.voice b.voice (subst (λ (end : Option End). HasSpoken signals b.writes end a.voice b.voice) (not_ended b served) gone.speaks)).may;
   }
 
   both_gone : (a b c : Worker D) → b.in_turn ≡ true → HasGone signals told said written faults kit a b → HasGone signals told said written faults kit b c
@@ -59,8 +59,8 @@ module _ {D : Type 0} (signals : TableId) (told : ℕ → Type 0) (said : ℕ �
             (as_named (λ (x : Trace) (y : ℕ). ComesOut said x y kit (end_of c) B C c.seats) (trace_in a) (cpu_in a) kit B b.seats p.goes.stands q.comes);
         run = run_on told said kit (end_of c) (stance_in written faults a) (stance_in written faults b) (stance_in written faults c)
             (subst (λ (end : Option End). HasRun told said kit end (stance_in written faults a) (stance_in written faults b)) (not_ended b served) p.run) q.run;
-        speaks = speaks_more signals b.writes c.writes (end_of c) a.voice b.voice c.voice
-            (subst (λ (end : Option End). Speaks signals b.writes end a.voice b.voice) (not_ended b served) p.speaks) q.speaks;
+        speaks = spoken_more signals b.writes c.writes (end_of c) a.voice b.voice c.voice
+            (subst (λ (end : Option End). HasSpoken signals b.writes end a.voice b.voice) (not_ended b served) p.speaks) q.speaks;
       }
 
   goes_further : (a b c : Worker D) → HasGone signals told said written faults kit a b → HasGoneOn signals told said written faults kit b c → HasGone signals told said written faults kit a c
@@ -75,8 +75,8 @@ module _ {D : Type 0} (signals : TableId) (told : ℕ → Type 0) (said : ℕ �
     stands = gone.stands;
     ends = subst (λ (end : Option End). ComesOut said (trace_in a) (cpu_in a) kit end (team_in written faults a) (team_in written faults b) b.seats) is gone.comes;
     run = subst (λ (end : Option End). HasRun told said kit end (stance_in written faults a) (stance_in written faults b)) is gone.run;
-    speaks = subst (λ (s : TableId). Speaks s b.writes (Some b.side.end) a.voice b.voice) (sym its)
-        (subst (λ (end : Option End). Speaks signals b.writes end a.voice b.voice) is gone.speaks);
+    speaks = subst (λ (s : TableId). HasSpoken s b.writes (Some b.side.end) a.voice b.voice) (sym its)
+        (subst (λ (end : Option End). HasSpoken signals b.writes end a.voice b.voice) is gone.speaks);
   }
 
   -- each may go on that is to be served, and has gone on since its first turn where it did

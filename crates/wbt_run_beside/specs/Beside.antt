@@ -6,7 +6,7 @@ use Rattle.wbt_run_worker.specs.Answers.{ComesOut, EndsSo, Goes}
 use Rattle.wbt_run_worker.specs.Course.{HasRun, Stance, end_of, stance_of}
 use Rattle.wbt_run_worker.specs.Side.{IsSide}
 use Rattle.wbt_run_worker.specs.Team.{Team, team_of}
-use Rattle.wbt_run_worker.specs.Voices.{MaySpeak, Speaks}
+use Rattle.wbt_run_worker.specs.Voices.{HasSpoken, MaySpeak}
 use Rattle.wbt_run_worker.specs.Went.{StandsStay}
 use Rattle.wbt_run_worker.specs.declared.worker.Worker.{Worker}
 use Rattle.wbt_trace.specs.declared.trace.Trace.{Trace}
@@ -36,7 +36,7 @@ pub record HasGone {D : Type 0} (signals : TableId) (told : ℕ → Type 0) (sai
   pub stands : StandsStay old.side.posts.items new.side.posts.items
   pub comes : ComesOut said (trace_in old) (cpu_in old) kit (end_of new) (team_in written faults old) (team_in written faults new) new.seats
   pub run : HasRun told said kit (end_of new) (stance_in written faults old) (stance_in written faults new)
-  pub speaks : Speaks signals new.writes (end_of new) old.voice new.voice
+  pub speaks : HasSpoken signals new.writes (end_of new) old.voice new.voice
 
 -- and its side has ended
 pub record HasWorked {D : Type 0} (told : ℕ → Type 0) (said : ℕ → ℕ → Bool → Type 0) (written : D → Option ℕ) (faults : D → ℕ) (kit : Kit) (old new : Worker D)
@@ -45,7 +45,7 @@ pub record HasWorked {D : Type 0} (told : ℕ → Type 0) (said : ℕ → ℕ �
   pub stands : StandsStay old.side.posts.items new.side.posts.items
   pub ends : EndsSo said (trace_in old) (cpu_in old) kit new.side.end (team_in written faults old) (team_in written faults new) new.seats
   pub run : HasRun told said kit (Some new.side.end) (stance_in written faults old) (stance_in written faults new)
-  pub speaks : Speaks old.voice.signals new.writes (Some new.side.end) old.voice new.voice
+  pub speaks : HasSpoken old.voice.signals new.writes (Some new.side.end) old.voice new.voice
 
 abbrev pub HasEnded : {D : Type 0} (worker : Worker D) → Type 0
 HasEnded worker = worker.in_turn ≡ false

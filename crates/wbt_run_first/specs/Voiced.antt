@@ -1,8 +1,8 @@
 -- What the voices of all workers tell when they are together.
-use Rattle.std.specs.Prelude.{◌≡◌, ◌⊎◌, ℕ, ◌+◌, ◌-◌, ◌^◌, ◌<◌, Bool, true, false, ◌||◌, List, [], ◌∷◌, map, length, get_or}
+use Rattle.std.specs.Prelude.{◌≡◌, ◌⊎◌, ℕ, ◌+◌, ◌-◌, ◌^◌, ◌<◌, Bool, true, List, [], ◌∷◌, map, length, get_or}
 use Rattle.atomic_table.specs.Seated.{TableId}
 use Rattle.wbt_journal.specs.Each.{Each}
-use Rattle.wbt_signals.specs.Signals.{Known}
+use Rattle.wbt_signals.specs.Signals.{Known, both_voices, new_voice}
 use Rattle.wbt_run_worker.specs.declared.side.CpuSide.{CpuSide}
 use Rattle.wbt_run_worker.specs.declared.side.End.TheVariants.{Faulted, Spent, Refused, Stopped}
 use Rattle.wbt_run_worker.specs.declared.side.Post.{Post}
@@ -10,18 +10,14 @@ use Rattle.wbt_run_worker.specs.declared.side.Stand.TheVariants.{Out}
 use Rattle.wbt_run_worker.specs.declared.worker.Worker.{Worker}
 use Rattle.wbt_run_drain.specs.Ends.{SomeEnds}
 
--- a new voice, which may say of one CPU that it writes no more
-abbrev pub new_voice : (signals : TableId) → Known
-new_voice signals = record { signals = signals; stakes = 1; rings = 0; heard = false; writes = 1; quiet = false }
-
 -- a worker with a new voice, which hasn't said so
 pub record IsVoiced {D : Type 0} (signals : TableId) (worker : Worker D) : Type 0 where
-  pub voice : worker.voice ≡ new_voice signals
+  pub voice : worker.voice ≡ new_voice signals worker.voice.workers
   pub writes : worker.writes ≡ true
 
 -- a voice that handed out so many
 abbrev pub handed_out : (many : ℕ) (voice : Known) → Known
-handed_out many voice = record voice { stakes = voice.stakes - many; writes = voice.writes - many }
+handed_out many voice = record voice { stakes = voice.stakes - many; writes = voice.writes - many; there = voice.there - many }
 
 -- the first voice, and so many that it handed out, are all there are
 pub record AreVoiced {D : Type 0} (signals : TableId) (voice : Known) (workers : List (Worker D)) : Type 0 where
@@ -30,17 +26,7 @@ pub record AreVoiced {D : Type 0} (signals : TableId) (voice : Known) (workers :
   pub stakes : voice.stakes + length workers ≡ 2 ^ 32
   pub rings : voice.rings ≡ 0
 
--- one voice after it took in another, and after it took in all of these
-abbrev pub both_voices : (into from : Known) → Known
-both_voices into from = record {
-  signals = into.signals;
-  stakes = into.stakes + from.stakes;
-  rings = into.rings + from.rings;
-  heard = into.heard || from.heard;
-  writes = into.writes + from.writes;
-  quiet = into.quiet || from.quiet;
-}
-
+-- one voice after it took in all of these
 abbrev pub all_voices : (into : Known) (voices : List Known) → Known
 all_voices into [] = into
 all_voices into (from ∷ more) = all_voices (both_voices into from) more

@@ -41,7 +41,7 @@ pub fn make_workers<'t, H: Wait, C, G, R: Rack>(
     requires owners { HasOwners hands.now.kit.now }
     requires seats { AreSeatsOf hands.now.kit.now seats.old }
     requires first { AreFirst hands.now.kit.now seats.old }
-    requires voice { (voice.old.signals ≡ condition.now.signals) × (voice.old.stakes ≡ 2 ^ 32) × (voice.old.rings ≡ 0) × (trace.now.cpus ≤ voice.old.writes) }
+    requires voice { (voice.old.signals ≡ condition.now.signals) × (voice.old.stakes ≡ 2 ^ 32) × (voice.old.rings ≡ 0) × (trace.now.cpus ≤ voice.old.writes) × (trace.now.cpus ≤ voice.old.there) }
     ensures made { IfOk result (λ workers. AreFirstWorkers R.D.written R.D.faults trace.now now hands.now.kit.now seats.old workers.items) }
     ensures voiced { IfOk result (λ workers. AreVoiced condition.now.signals voice.new workers.items) }
     ensures left { IfOk result (λ _. IsLeft hands.now.kit.now trace.now.cpus seats.old seats.new) }
@@ -77,7 +77,7 @@ fn seat_each<'t, D: Disk>(
     requires many { vec_len sides ≡ vec_len parts }
     requires none { vec_len workers ≡ 0 }
     requires room { vec_len parts ≤ vec_capacity workers }
-    requires voice { (voice.old.signals ≡ condition.now.signals) × (vec_len parts + 2 ≤ voice.old.stakes) × (vec_len parts ≤ voice.old.writes) }
+    requires voice { (voice.old.signals ≡ condition.now.signals) × (vec_len parts + 2 ≤ voice.old.stakes) × (vec_len parts ≤ voice.old.writes) × (vec_len parts ≤ voice.old.there) }
     ensures put { ArePut parts.items sides.entry.items result.items }
     ensures voiced { Each (IsVoiced condition.now.signals) result.items }
     ensures voice { voice.new ≡ handed_out (length result.items) voice.old }

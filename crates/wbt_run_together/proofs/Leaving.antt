@@ -56,6 +56,7 @@ module _ {D : Type 0} (told : ℕ → Type 0) (said : ℕ → ℕ → Bool → T
         voice = record {
           its = ap (λ (known : Known). known.signals) its.voice;
           leave = ap (λ (known : Known). known.writes) its.voice ∙ sym (ap (λ (b : Bool). cond b 1 0) its.writes);
+          there = ap (λ (known : Known). known.there) its.voice;
         };
       }
 

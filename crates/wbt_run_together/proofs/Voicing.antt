@@ -1,10 +1,10 @@
 -- The voices of all workers together: who was told to stop has another's cause.
-use Rattle.std.proofs.Common.{◌≡◌, ◌⊎◌, inl, inr, ⊎_elim, ℕ, zero, suc, ◌+◌, ◌-◌, ◌^◌, ◌<◌, ◌≤◌, Bool, true, false, ◌||◌, List, [], ◌∷◌, map, length, get_or, Option, refl, sym, ap, ◌∙◌, subst, arith}
+use Rattle.std.proofs.Common.{◌≡◌, ◌⊎◌, inl, inr, ⊎_elim, ℕ, zero, suc, ◌+◌, ◌-◌, ◌^◌, ◌<◌, ◌≤◌, Bool, true, false, ◌||◌, List, [], ◌∷◌, map, length, get_or, Option, Some, None, refl, sym, ap, ◌∙◌, subst, arith}
 use Rattle.atomic_table.specs.Seated.{TableId}
 use Rattle.wbt_journal.specs.Each.{Each}
 use Rattle.wbt_kit.specs.declared.kit.Kit.{Kit}
-use Rattle.wbt_signals.specs.Signals.{Known}
-use Rattle.wbt_run_worker.specs.Voices.{Speaks, TimerSpeaks, rings_for}
+use Rattle.wbt_signals.specs.Signals.{Known, both_voices}
+use Rattle.wbt_run_worker.specs.Voices.{HasLeft, HasSpoken, TimerSpeaks, rings_for}
 use Rattle.wbt_run_worker.specs.declared.side.CpuSide.{CpuSide}
 use Rattle.wbt_run_worker.specs.declared.side.End.{End}
 use Rattle.wbt_run_worker.specs.declared.side.End.TheVariants.{Ended, Halted, Faulted, Spent, Refused, Stopped}
@@ -12,7 +12,7 @@ use Rattle.wbt_run_worker.specs.declared.worker.Worker.{Worker}
 use Rattle.wbt_run_drain.specs.Ends.{Any, EndsSo, SomeEnds}
 use Rattle.wbt_run_beside.specs.Beside.{AllHaveWorked, HasWorked}
 use Rattle.wbt_run_together.specs.Gather.{sides_of}
-use Rattle.wbt_run_first.specs.Voiced.{AreVoiced, IsVoiced, StopsForCause, all_voices, both_voices, new_voice, voices_of}
+use Rattle.wbt_run_first.specs.Voiced.{AreVoiced, IsVoiced, StopsForCause, all_voices, voices_of}
 
 -- ---- one after another
 
@@ -21,25 +21,39 @@ module _ {D : Type 0} (signals : TableId) (items rest : List (Worker D)) (worker
       → (worker.voice.signals ≡ signals) × Each (λ (known : Known). known.signals ≡ signals) (voices_of rest)
   theirs_so all = subst (λ (l : List (Worker D)). Each (λ (known : Known). known.signals ≡ signals) (voices_of l)) are all
 
-  pub voice_so : (voice joined : Known) → voice.signals ≡ signals
-      → joined ≡ record {
-        signals = signals;
-        stakes = voice.stakes + worker.voice.stakes;
-        rings = voice.rings + worker.voice.rings;
-        heard = voice.heard || worker.voice.heard;
-        writes = voice.writes + worker.voice.writes;
-        quiet = voice.quiet || worker.voice.quiet;
-      }
-      → all_voices joined (voices_of rest) ≡ all_voices voice (voices_of items)
-  voice_so voice joined its is =
-      ap (λ (known : Known). all_voices known (voices_of rest)) (is ∙ ap (λ (s : TableId). record (both_voices voice worker.voice) { signals = s }) (sym its))
-      ∙ sym (ap (λ (l : List (Worker D)). all_voices voice (voices_of l)) are)
+  pub voice_so : (voice joined : Known) → joined ≡ both_voices voice worker.voice → all_voices joined (voices_of rest) ≡ all_voices voice (voices_of items)
+  voice_so voice joined is =
+      ap (λ (known : Known). all_voices known (voices_of rest)) is ∙ sym (ap (λ (l : List (Worker D)). all_voices voice (voices_of l)) are)
 
 pub signals_of : {D : Type 0} (workers : List (Worker D)) (into : Known) → (all_voices into (voices_of workers)).signals ≡ into.signals
 signals_of [] into = refl
 signals_of (worker ∷ more) into = signals_of more (both_voices into worker.voice)
 
 -- ---- what each said
+
+-- what it said stays where it leaves
+record IsLast (old new : Known) : Type 0 where
+  its : new.signals ≡ old.signals
+  stakes : new.stakes ≡ old.stakes
+  rings : new.rings ≡ old.rings
+  heard : new.heard ≡ old.heard
+
+left_so : (end : Option End) (old new : Known) → HasLeft end old new → IsLast old new
+left_so None old new is = record {
+  its = ap (λ (known : Known). known.signals) is;
+  stakes = ap (λ (known : Known). known.stakes) is;
+  rings = ap (λ (known : Known). known.rings) is;
+  heard = ap (λ (known : Known). known.heard) is;
+}
+left_so (Some end) old new left = record {
+  its = ap (λ (known : Known). known.signals) left.0;
+  stakes = ap (λ (known : Known). known.stakes) left.0;
+  rings = ap (λ (known : Known). known.rings) left.0;
+  heard = ap (λ (known : Known). known.heard) left.0;
+}
+
+its_still : {signals : TableId} {writes : Bool} {end : Option End} {old new : Known} → HasSpoken signals writes end old new → new.signals ≡ signals
+its_still {signals} {writes} {end} {old} {new} spoken = (left_so end spoken.last new spoken.left).its ∙ spoken.speaks.may.its
 
 record IsSpoken {D : Type 0} (worker : Worker D) : Type 0 where
   stakes : worker.voice.stakes ≡ 1
@@ -108,11 +122,12 @@ module _ {D : Type 0} where
 module _ {D : Type 0} (told : ℕ → Type 0) (said : ℕ → ℕ → Bool → Type 0) (written : D → Option ℕ) (faults : D → ℕ) (kit : Kit) (signals : TableId) where
   spoken : (old new : Worker D) → IsVoiced signals old → HasWorked told said written faults kit old new → IsSpoken new
   spoken old new voiced worked =
-      let says = worked.speaks.says in
+      let says = worked.speaks.speaks.says in
+      let same = left_so (Some new.side.end) worked.speaks.last new.voice worked.speaks.left in
       let silent : old.voice.rings ≡ 0 = ap (λ (known : Known). known.rings) voiced.voice in record {
-        stakes = worked.speaks.stakes ∙ ap (λ (known : Known). known.stakes) voiced.voice;
-        rings = let said = says.0 in omega (arith, said, silent);
-        heard = says.1;
+        stakes = same.stakes ∙ worked.speaks.speaks.stakes ∙ ap (λ (known : Known). known.stakes) voiced.voice;
+        rings = let said = says.0 in let last = same.rings in omega (arith, said, silent, last);
+        heard = λ stopped. same.heard ∙ says.1 stopped;
       }
 
   all_spoken : (old new : List (Worker D)) → length new ≡ length old → Each (IsVoiced signals) old → AllHaveWorked told said written faults kit old new → Each IsSpoken new
@@ -130,7 +145,7 @@ module _ {D : Type 0} (told : ℕ → Type 0) (said : ℕ → ℕ → Bool → T
   signals_stay [] (w ∷ new) many voiced worked = absurd (omega arith)
   signals_stay (o ∷ old) [] many voiced worked = absurd (omega arith)
   signals_stay (o ∷ old) (w ∷ new) many voiced worked = (
-    (worked 0 o (omega arith)).speaks.may.its ∙ ap (λ (known : Known). known.signals) voiced.0.voice,
+    its_still (worked 0 o (omega arith)).speaks ∙ ap (λ (known : Known). known.signals) voiced.0.voice,
     signals_stay old new (omega arith) voiced.1 (λ n other less. worked (suc n) other (omega arith)),
   )
 

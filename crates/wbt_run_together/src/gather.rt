@@ -1,6 +1,6 @@
 //! Workers in parts: their sides in order, and their seats together.
 
-ghost use Rattle.std.specs.Prelude.{◌≡◌, ◌+◌, ◌++◌, ◌||◌, ◌≤◌, length};
+ghost use Rattle.std.specs.Prelude.{◌≡◌, ◌+◌, ◌++◌, ◌≤◌, length};
 ghost use Rattle.std.specs.Vec.{vec_capacity, vec_len};
 ghost use Rattle.std.specs.Vec.Iter.{into_iter_items, into_iter_len};
 ghost use Rattle.wbt_run_seats.specs.Together.{AreTogether};
@@ -8,6 +8,7 @@ ghost use Rattle.wbt_kit.specs.Kit.{AreSeatsOf};
 ghost use Rattle.wbt_journal.specs.Each.{Each};
 ghost use Rattle.wbt_run_together.specs.Gather.{AllAtKit, CameTogether, seats_of, sides_of};
 ghost use Rattle.wbt_run_first.specs.Voiced.{all_voices, voices_of};
+ghost use Rattle.wbt_signals.specs.Signals.{both_voices};
 
 use std::sync::Wait;
 use std::vec::IntoIter;
@@ -86,7 +87,7 @@ fn part_others<'t, R: Wait, D: Disk>(
 // The voice takes in another one.
 fn take_in(condition: &Condition, voice: &mut Voice, its: Voice)
     requires voices { (voice.old.signals ≡ condition.now.signals) × (its.signals ≡ condition.now.signals) }
-    ensures { voice.new ≡ record { signals = condition.now.signals; stakes = voice.old.stakes + its.stakes; rings = voice.old.rings + its.rings; heard = voice.old.heard || its.heard; writes = voice.old.writes + its.writes; quiet = voice.old.quiet || its.quiet } }
+    ensures { voice.new ≡ both_voices voice.old its }
 {
     condition.signals.join(voice, its);
 }

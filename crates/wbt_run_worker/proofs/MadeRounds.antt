@@ -6,10 +6,10 @@ use Rattle.wbt_kit.specs.declared.kit.Kit.{Kit}
 use Rattle.wbt_kit.specs.declared.kit.Seats.{Seats}
 use Rattle.wbt_run_worker.specs.Answers.{CutsOff, Goes, RoundAnswers}
 use Rattle.wbt_run_worker.specs.Course.{stance_of}
-use Rattle.wbt_run_worker.specs.MadeRounds.{HasMadeRounds}
+use Rattle.wbt_run_worker.specs.MadeRounds.{HasComeOut, HasMadeRounds}
 use Rattle.wbt_run_worker.specs.Side.{IsSide}
 use Rattle.wbt_run_worker.specs.Team.{team_of}
-use Rattle.wbt_run_worker.specs.Voices.{MaySpeak, Speaks}
+use Rattle.wbt_run_worker.specs.Voices.{HasLeft, MaySpeak, Speaks}
 use Rattle.wbt_run_worker.specs.Went.{StandsStay}
 use Rattle.wbt_run_worker.specs.declared.round.Round.{Round}
 use Rattle.wbt_run_worker.specs.declared.round.Round.TheVariants as round
@@ -47,7 +47,7 @@ module _ {D : Type 0} (signals : TableId) (told : ℕ → Type 0) (said : ℕ �
 
   module _ (first worker : Worker D) (so_far : SoFar first worker) where
     -- it listened for the bell
-    pub listened : (heard : Bool) (voice : Known) → voice ≡ record worker.voice { heard = heard } → Speaks signals worker.writes None first.voice voice
+    pub listened : (heard : Bool) (voice : Known) → voice ≡ record worker.voice { heard = heard; notes = voice.notes } → Speaks signals worker.writes None first.voice voice
     listened heard voice is = speaks_looked signals worker.writes heard first.voice worker.voice voice so_far.speaks is
 
     pub stopped_there : (voice : Known) → Speaks signals worker.writes (Some Stopped) first.voice voice → HasMadeRounds signals told said written faults kit (Some Stopped) first (record worker { voice = voice })
@@ -130,8 +130,15 @@ module _ {D : Type 0} (signals : TableId) (told : ℕ → Type 0) (said : ℕ �
         }
 
   -- whether it is to be served in turn, and how its side ended, were then put down
-  pub came_out : (end : Option End) (first worker : Worker D) (in_turn : Bool) (last : End) → cond in_turn None (Some last) ≡ end → HasMadeRounds signals told said written faults kit end first worker
-      → HasMadeRounds signals told said written faults kit (cond in_turn None (Some last)) first (record worker { in_turn = in_turn; side = record worker.side { end = last } })
-  came_out end first worker in_turn last is made =
+  pub came_out : (end : Option End) (first worker : Worker D) (in_turn : Bool) (last : End) (voice : Known) → cond in_turn None (Some last) ≡ end → HasLeft end worker.voice voice
+      → HasMadeRounds signals told said written faults kit end first worker
+      → HasComeOut signals told said written faults kit (cond in_turn None (Some last)) first (record worker { in_turn = in_turn; side = record worker.side { end = last }; voice = voice })
+  came_out end first worker in_turn last voice is left made =
       let m = subst (λ (e : Option End). HasMadeRounds signals told said written faults kit e first worker) (sym is) made in
-      record { goes = m.goes; stands = m.stands; comes = m.comes; run = m.run; speaks = m.speaks }
+      record {
+        goes = m.goes;
+        stands = m.stands;
+        comes = m.comes;
+        run = m.run;
+        speaks = record { last = worker.voice; speaks = m.speaks; left = subst (λ (e : Option End). HasLeft e worker.voice voice) (sym is) left };
+      }

@@ -2,7 +2,7 @@
 use Rattle.std.proofs.Common.{◌≡◌, inl, inr, ⊎_elim, ℕ, ◌+◌, ◌-◌, ◌≤◌, Bool, true, false, cond, Option, Some, None, refl, sym, ap, ◌∙◌, subst, arith}
 use Rattle.atomic_table.specs.Seated.{TableId}
 use Rattle.wbt_signals.specs.Signals.{Known}
-use Rattle.wbt_run_worker.specs.Voices.{HasWritten, MaySpeak, SaysSo, Speaks, TimerSpeaks, rings_for}
+use Rattle.wbt_run_worker.specs.Voices.{HasSpoken, HasWritten, MaySpeak, SaysSo, Speaks, TimerSpeaks, rings_for}
 use Rattle.wbt_run_worker.specs.declared.side.End.{End}
 use Rattle.wbt_run_worker.specs.declared.side.End.TheVariants.{Ended, Halted, Faulted, Spent, Refused, Stopped}
 
@@ -18,9 +18,9 @@ module _ (signals : TableId) where
   speaks_more w w' end a b c p q = record { may = q.may; stakes = q.stakes ∙ p.stakes; says = says_more end a b c p.says q.says; written = q.written }
 
   -- it looked whether the bell was rung
-  pub speaks_looked : (w heard : Bool) (a b c : Known) → Speaks signals w None a b → c ≡ record b { heard = heard } → Speaks signals w None a c
+  pub speaks_looked : (w heard : Bool) (a b c : Known) → Speaks signals w None a b → c ≡ record b { heard = heard; notes = c.notes } → Speaks signals w None a c
   speaks_looked w heard a b c p is = record {
-    may = record { its = ap (λ (v : Known). v.signals) is ∙ p.may.its; leave = ap (λ (v : Known). v.writes) is ∙ p.may.leave };
+    may = record { its = ap (λ (v : Known). v.signals) is ∙ p.may.its; leave = ap (λ (v : Known). v.writes) is ∙ p.may.leave; there = ap (λ (v : Known). v.there) is ∙ p.may.there };
     stakes = ap (λ (v : Known). v.stakes) is ∙ p.stakes;
     says = ap (λ (v : Known). v.rings) is ∙ p.says;
     written = tt;
@@ -32,7 +32,7 @@ module _ (signals : TableId) where
   not_stopped : Ended ≡ Stopped → ⊥
   not_stopped e = absurd (cc e)
 
-  pub speaks_stopped : (w heard : Bool) (a b c : Known) → Speaks signals w None a b → c ≡ record b { heard = heard } → heard ≡ true → Speaks signals w (Some Stopped) a c
+  pub speaks_stopped : (w heard : Bool) (a b c : Known) → Speaks signals w None a b → c ≡ record b { heard = heard; notes = c.notes } → heard ≡ true → Speaks signals w (Some Stopped) a c
   speaks_stopped w heard a b c p is rung = let q = speaks_looked w heard a b c p is in record {
     may = q.may;
     stakes = q.stakes;
@@ -56,11 +56,12 @@ module _ (signals : TableId) where
   pub may_true : (writes : Bool) (voice : Known) → writes ≡ true → MaySpeak signals writes voice → 1 ≤ voice.writes
   may_true writes voice is may = let n : voice.writes ≡ 1 = may.leave ∙ ap (λ (b : Bool). cond b 1 0) is in omega arith
 
-  pub speaks_written : (writes : Bool) (a b : Known) → writes ≡ true → MaySpeak signals writes a → b ≡ record a { writes = a.writes - 1 } → Speaks signals false None a b
+  pub speaks_written : (writes : Bool) (a b : Known) → writes ≡ true → MaySpeak signals writes a → b ≡ record a { writes = a.writes - 1; notes = b.notes } → Speaks signals false None a b
   speaks_written writes a b so may is = record {
     may = record {
       its = ap (λ (v : Known). v.signals) is ∙ may.its;
       leave = let l : a.writes ≡ 1 = may.leave ∙ ap (λ (w : Bool). cond w 1 0) so in let n : b.writes ≡ a.writes - 1 = ap (λ (v : Known). v.writes) is in omega arith;
+      there = ap (λ (v : Known). v.there) is ∙ may.there;
     };
     stakes = ap (λ (v : Known). v.stakes) is;
     says = ap (λ (v : Known). v.rings) is;
@@ -70,9 +71,9 @@ module _ (signals : TableId) where
   pub speaks_none : (writes : Bool) (a : Known) → writes ≡ false → MaySpeak signals writes a → Speaks signals false None a a
   speaks_none writes a so may = speaks_now false a (subst (λ (w : Bool). MaySpeak signals w a) so may)
 
-  pub speaks_quiet : (w quiet : Bool) (a b c : Known) → Speaks signals w None a b → c ≡ record b { quiet = quiet } → Speaks signals w None a c
+  pub speaks_quiet : (w quiet : Bool) (a b c : Known) → Speaks signals w None a b → c ≡ record b { quiet = quiet; notes = c.notes } → Speaks signals w None a c
   speaks_quiet w quiet a b c p is = record {
-    may = record { its = ap (λ (v : Known). v.signals) is ∙ p.may.its; leave = ap (λ (v : Known). v.writes) is ∙ p.may.leave };
+    may = record { its = ap (λ (v : Known). v.signals) is ∙ p.may.its; leave = ap (λ (v : Known). v.writes) is ∙ p.may.leave; there = ap (λ (v : Known). v.there) is ∙ p.may.there };
     stakes = ap (λ (v : Known). v.stakes) is ∙ p.stakes;
     says = ap (λ (v : Known). v.rings) is ∙ p.says;
     written = tt;
@@ -87,10 +88,10 @@ module _ (signals : TableId) where
   has_written Stopped = tt
 
   -- it rang the bell
-  speaks_rung : (end : End) (a b c : Known) → Speaks signals false None a b → c ≡ record b { rings = b.rings + 1 } → rings_for end ≡ 1
+  speaks_rung : (end : End) (a b c : Known) → Speaks signals false None a b → c ≡ record b { rings = b.rings + 1; notes = c.notes } → rings_for end ≡ 1
       → (end ≡ Stopped → ⊥) → (end ≡ Ended → ⊥) → Speaks signals false (Some end) a c
   speaks_rung end a b c p is one stops ended = record {
-    may = record { its = ap (λ (v : Known). v.signals) is ∙ p.may.its; leave = ap (λ (v : Known). v.writes) is ∙ p.may.leave };
+    may = record { its = ap (λ (v : Known). v.signals) is ∙ p.may.its; leave = ap (λ (v : Known). v.writes) is ∙ p.may.leave; there = ap (λ (v : Known). v.there) is ∙ p.may.there };
     stakes = ap (λ (v : Known). v.stakes) is ∙ p.stakes;
     says = (
       (let n = ap (λ (v : Known). v.rings) is in let same = p.says in omega (arith, n, same, one)),
@@ -109,7 +110,7 @@ module _ (signals : TableId) where
     written = has_written end;
   }
 
-  pub speaks_quiet_after : (writes quiet : Bool) (a b c : Known) → writes ≡ false → Speaks signals false None a b → c ≡ record b { quiet = quiet }
+  pub speaks_quiet_after : (writes quiet : Bool) (a b c : Known) → writes ≡ false → Speaks signals false None a b → c ≡ record b { quiet = quiet; notes = c.notes }
       → Speaks signals writes None a c
   speaks_quiet_after writes quiet a b c so p is = subst (λ (w : Bool). Speaks signals w None a c) (sym so) (speaks_quiet false quiet a b c p is)
 
@@ -121,7 +122,7 @@ module _ (signals : TableId) where
   rings_once Refused halted ended stopped = refl
   rings_once Stopped halted ended stopped = absurd (stopped refl)
 
-  pub speaks_cut : (writes : Bool) (end : End) (a b c : Known) → writes ≡ false → Speaks signals false None a b → c ≡ record b { rings = b.rings + 1 }
+  pub speaks_cut : (writes : Bool) (end : End) (a b c : Known) → writes ≡ false → Speaks signals false None a b → c ≡ record b { rings = b.rings + 1; notes = c.notes }
       → (end ≡ Halted → ⊥) → (end ≡ Ended → ⊥) × (end ≡ Stopped → ⊥) → Speaks signals writes (Some end) a c
   speaks_cut writes end a b c so p is halted cut = subst (λ (w : Bool). Speaks signals w (Some end) a c) (sym so)
       (speaks_rung end a b c p is (rings_once end halted cut.0 cut.1) cut.1 cut.0)
@@ -137,7 +138,22 @@ module _ (signals : TableId) where
   speaks_halted writes end a b so p is = let only = halted_only end is in
       subst (λ (w : Bool). Speaks signals w (Some end) a b) (sym so) (speaks_silent end a b p only.0 only.1 only.2)
 
+  -- ---- once it has left, or hasn't
+
+  pub spoke_still : (writes : Bool) (a b : Known) → HasSpoken signals writes None a b → Speaks signals writes None a b
+  spoke_still writes a b p = subst (λ (v : Known). Speaks signals writes None a v) (sym p.left) p.speaks
+
+  pub spoken_more : (w w' : Bool) (end : Option End) (a b c : Known) → HasSpoken signals w None a b → HasSpoken signals w' end b c → HasSpoken signals w' end a c
+  spoken_more w w' end a b c p q = record { last = q.last; speaks = speaks_more w w' end a b q.last (spoke_still w a b p) q.speaks; left = q.left }
+
   -- ---- the timer
+
+  pub timer_looked_for : (refused gone : Bool) (b c : Known) → b.signals ≡ signals → c ≡ record b { gone = gone; notes = c.notes } → TimerSpeaks signals refused refused b c
+  timer_looked_for refused gone b c its is = record {
+    its = ap (λ (v : Known). v.signals) is ∙ its;
+    stakes = ap (λ (v : Known). v.stakes) is;
+    rings = inl (ap (λ (v : Known). v.rings) is, refl);
+  }
 
   pub timer_now : (refused : Bool) (voice : Known) → voice.signals ≡ signals → TimerSpeaks signals refused refused voice voice
   timer_now refused voice its = record { its = its; stakes = refl; rings = inl (refl, refl) }
@@ -153,7 +169,7 @@ module _ (signals : TableId) where
         (λ (refused : t ≡ true). inr refused) q.rings;
   }
 
-  pub timer_looked : (refused quiet : Bool) (b c : Known) → b.signals ≡ signals → c ≡ record b { quiet = quiet } → TimerSpeaks signals refused refused b c
+  pub timer_looked : (refused quiet : Bool) (b c : Known) → b.signals ≡ signals → c ≡ record b { quiet = quiet; notes = c.notes } → TimerSpeaks signals refused refused b c
   timer_looked refused quiet b c its is = record {
     its = ap (λ (v : Known). v.signals) is ∙ its;
     stakes = ap (λ (v : Known). v.stakes) is;
@@ -161,8 +177,8 @@ module _ (signals : TableId) where
   }
 
   -- it was refused memory, and rang
-  pub timer_refused : (was refused : Bool) (a b c d : Known) (quiet : Bool) → TimerSpeaks signals was refused a b → c ≡ record b { quiet = quiet }
-      → d ≡ record c { rings = c.rings + 1 } → TimerSpeaks signals was true a d
+  pub timer_refused : (was refused : Bool) (a b c d : Known) (quiet : Bool) → TimerSpeaks signals was refused a b → c ≡ record b { quiet = quiet; notes = c.notes }
+      → d ≡ record c { rings = c.rings + 1; notes = d.notes } → TimerSpeaks signals was true a d
   timer_refused was refused a b c d quiet p is rang = record {
     its = ap (λ (v : Known). v.signals) rang ∙ ap (λ (v : Known). v.signals) is ∙ p.its;
     stakes = ap (λ (v : Known). v.stakes) rang ∙ ap (λ (v : Known). v.stakes) is ∙ p.stakes;

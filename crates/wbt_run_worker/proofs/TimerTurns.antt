@@ -19,10 +19,13 @@ goes_after Spent out stopped = tt
 goes_after NoMemory out stopped = out refl
 
 -- a look rings no bell, and a ring is one
-pub looked_only : (quiet : Bool) (a b c : Known) → b.rings ≡ a.rings → c ≡ record b { quiet = quiet } → c.rings ≡ a.rings
+pub looked_only : (quiet : Bool) (a b c : Known) → b.rings ≡ a.rings → c ≡ record b { quiet = quiet; notes = c.notes } → c.rings ≡ a.rings
 looked_only quiet a b c same is = ap (λ (v : Known). v.rings) is ∙ same
 
-pub rang_once : (a b c : Known) → b.rings ≡ a.rings → c ≡ record b { rings = b.rings + 1 } → c.rings ≡ a.rings + 1
+pub looked_for : (gone : Bool) (a b c : Known) → b.rings ≡ a.rings → c ≡ record b { gone = gone; notes = c.notes } → c.rings ≡ a.rings
+looked_for gone a b c same is = ap (λ (v : Known). v.rings) is ∙ same
+
+pub rang_once : (a b c : Known) → b.rings ≡ a.rings → c ≡ record b { rings = b.rings + 1; notes = c.notes } → c.rings ≡ a.rings + 1
 rang_once a b c same is = ap (λ (v : Known). v.rings) is ∙ ap (λ (n : ℕ). n + 1) same
 
 module _ (told : ℕ → Type 0) (said : ℕ → ℕ → Bool → Type 0) (kit : Kit) where

@@ -1,6 +1,8 @@
 -- What workers say by their voices.
-use Rattle.std.specs.Prelude.{◌≡◌, ◌⊎◌, ℕ, ◌+◌, Bool, true, false, cond, Option, Some, None}
+use Rattle.std.specs.Prelude.{◌≡◌, ◌⊎◌, ℕ, ◌+◌, ◌-◌, Bool, true, false, cond, Option, Some, None}
 use Rattle.atomic_table.specs.Seated.{TableId}
+use Rattle.wbt_signals.specs.declared.rule.Act.TheVariants.{Leave}
+use Rattle.wbt_signals.specs.History.{IsNoted}
 use Rattle.wbt_signals.specs.Signals.{Known}
 use Rattle.wbt_run_worker.specs.declared.side.End.{End}
 use Rattle.wbt_run_worker.specs.declared.side.End.TheVariants.{Ended, Faulted, Spent, Refused, Stopped}
@@ -12,10 +14,11 @@ rings_for Spent = 1
 rings_for Refused = 1
 rings_for other = 0
 
--- a voice of the signals, which has leave just where its worker hasn't said yet that it writes no more
+-- a voice of the signals, whose worker is there; it has leave just where its worker hasn't said yet that it writes no more
 pub record MaySpeak (signals : TableId) (writes : Bool) (voice : Known) : Type 0 where
   pub its : voice.signals ≡ signals
   pub leave : voice.writes ≡ cond writes 1 0
+  pub there : voice.there ≡ 1
 
 -- A worker whose side hasn't ended rang no bell. One whose side ended rang it just where that makes others stop; it ended Stopped only where it
 -- heard the bell, and Ended only where it found that nobody writes.
@@ -34,6 +37,21 @@ pub record Speaks (signals : TableId) (writes : Bool) (end : Option End) (old ne
   pub stakes : new.stakes ≡ old.stakes
   pub says : SaysSo end old new
   pub written : HasWritten end writes
+
+-- once its side has ended a worker says that it leaves
+abbrev pub HasLeft : (end : Option End) (old new : Known) → Type 0
+HasLeft None old new = new ≡ old
+HasLeft (Some end) old new = (new ≡ record old { there = old.there - 1; notes = new.notes }) × IsNoted old.workers Leave old.notes new.notes
+
+-- it spoke, and what it said last is that it leaves, where its side has ended; `last` is its voice before that
+pub record HasSpoken (signals : TableId) (writes : Bool) (end : Option End) (old new : Known) : Type 0 where
+  pub last : Known
+  pub speaks : Speaks signals writes end old last
+  pub left : HasLeft end last new
+
+-- The timer leaves only where it was refused memory, the gate stopped it, it is to be served in turn, or it found that all CPUs' workers have left
+abbrev pub LeavesFor : (refused halted in_turn : Bool) (voice : Known) → Type 0
+LeavesFor refused halted in_turn voice = (refused ≡ true) ⊎ ((halted ≡ true) ⊎ ((in_turn ≡ true) ⊎ (voice.gone ≡ true)))
 
 -- the timer rings the bell only where it was refused memory
 pub record TimerSpeaks (signals : TableId) (refused refused' : Bool) (old new : Known) : Type 0 where

@@ -1,6 +1,7 @@
 //! What the workers of a run tell each other.
 
-ghost use Rattle.std.specs.Prelude.{◌≡◌, ◌^◌, false, IfOk};
+ghost use Rattle.std.specs.Prelude.{◌≡◌, IfOk};
+ghost use Rattle.wbt_signals.specs.Signals.{first_voice};
 
 use std::alloc::{AllocError, Global};
 use std::sync::atomic::{AtomicBool, AtomicUsize, Ordering};
@@ -17,27 +18,24 @@ const LOOKS_A_MOMENT: u64 = 1024;
 // How often it looks for them at most, whatever the clock shows: some tens of seconds.
 const MOST_LOOKS: u64 = 40_000_000;
 
-/// The signals by which workers end: whether all are to stop, and how many CPUs have tasks that haven't ended. And besides, of which clauses say
-/// nothing, how many workers haven't come to their first turn, how many haven't left, and whether one thread is to serve all.
+/// The signals by which workers end: whether all are to stop, how many CPUs have tasks that haven't ended, and how many CPUs' workers haven't
+/// left. And besides, of which clauses say nothing, how many workers haven't come to their first turn, and whether one thread is to serve all.
 #[derive(Drop)]
 pub struct Condition {
     pub signals: Signals,
     coming: AtomicUsize,
-    working: AtomicUsize,
     in_turns: AtomicBool,
 }
 
 impl Condition {
     /// Before any worker begins: each of so many CPUs has tasks. The timer's worker is to come too. The voice speaks for all CPUs.
     pub fn make(alloc: Global, cpus: u32) -> Result<(Condition, Voice), AllocError>
-        ensures { IfOk result (λ made. made.1 ≡ record { signals = made.0.signals; stakes = 2 ^ 32; rings = 0; heard = false; writes = cpus; quiet = false }) }
+        ensures { IfOk result (λ made. made.1 ≡ first_voice made.0.signals cpus) }
     {
-        let workers = cpus as usize;
         let (signals, voice) = Signals::make(alloc, cpus as u64)?;
         let condition = Condition {
             signals,
-            coming: AtomicUsize::new(workers.saturating_add(1)),
-            working: AtomicUsize::new(workers),
+            coming: AtomicUsize::new((cpus as usize).saturating_add(1)),
             in_turns: AtomicBool::new(false),
         };
         Ok((condition, voice))
@@ -67,15 +65,5 @@ impl Condition {
     /// Whether one thread is to serve all workers, each in turn.
     pub fn is_in_turns(&self) -> bool {
         self.in_turns.load(Ordering::SeqCst)
-    }
-
-    /// A CPU's worker leaves. Each says so once.
-    pub fn leaves(&self) {
-        self.working.fetch_sub(1, Ordering::SeqCst);
-    }
-
-    /// Whether all CPUs' workers have left.
-    pub fn all_have_left(&self) -> bool {
-        self.working.load(Ordering::SeqCst) == 0
     }
 }

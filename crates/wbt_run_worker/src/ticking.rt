@@ -4,7 +4,7 @@ ghost use Rattle.std.specs.Prelude.{◌≡◌};
 ghost use Rattle.wbt_timer.specs.Ready.{IsReady};
 ghost use Rattle.wbt_run_worker.specs.Ticking.{MayTick, Ticks};
 ghost use Rattle.wbt_run_worker.specs.TimerTurns.{HasTurned, HasTurnedOnce};
-ghost use Rattle.wbt_run_worker.specs.Voices.{TimerSpeaks};
+ghost use Rattle.wbt_run_worker.specs.Voices.{LeavesFor, TimerSpeaks};
 
 use crate::condition::Condition;
 use crate::round::MOST_REST;
@@ -24,6 +24,8 @@ pub struct TimerWorker {
     pub refused: bool,
     /// Whether the gate stopped it: then it takes no more turns.
     pub halted: bool,
+    /// Whether one thread is to serve it in turn.
+    pub in_turn: bool,
     /// What it tells the CPUs' workers.
     pub voice: Voice,
 }
@@ -44,13 +46,15 @@ impl TimerWorker {
         ensures ready { (trace : _) → IsReady trace hands.now.kit.now self.old.side seats.old → IsReady trace hands.now.kit.now self.new.side seats.new }
         ensures turns { HasTurned (C.told hands.now.clock.now) (G.said hands.now.gate.now) hands.now.kit.now self.old self.new seats.old seats.new }
         ensures speaks { TimerSpeaks condition.now.signals self.old.refused self.new.refused self.old.voice self.new.voice }
+        ensures leaves { LeavesFor self.new.refused self.new.halted self.new.in_turn self.new.voice }
     {
         condition.meet(hands.clock);
         for _ in hands.rt.forever() {
-            if condition.all_have_left() {
+            if condition.signals.all_have_left(&mut self.voice) {
                 return;
             }
             if condition.is_in_turns() {
+                self.in_turn = true;
                 return;
             }
             if condition.signals.is_quiet(&mut self.voice) {

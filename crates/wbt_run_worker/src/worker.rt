@@ -3,10 +3,10 @@
 ghost use Rattle.std.specs.Prelude.{◌≡◌, ◌≢◌, true, false, cond, None, Some};
 ghost use Rattle.wbt_run_worker.specs.Answers.{ComesOut, Goes};
 ghost use Rattle.wbt_run_worker.specs.Course.{HasRun, end_of, stance_of};
-ghost use Rattle.wbt_run_worker.specs.MadeRounds.{HasMadeRounds};
+ghost use Rattle.wbt_run_worker.specs.MadeRounds.{HasComeOut, HasMadeRounds};
 ghost use Rattle.wbt_run_worker.specs.Side.{IsSide};
 ghost use Rattle.wbt_run_worker.specs.Team.{team_of};
-ghost use Rattle.wbt_run_worker.specs.Voices.{MaySpeak, Speaks};
+ghost use Rattle.wbt_run_worker.specs.Voices.{HasLeft, HasSpoken, MaySpeak, Speaks};
 ghost use Rattle.wbt_run_worker.specs.Went.{StandsStay};
 
 use crate::condition::Condition;
@@ -46,11 +46,11 @@ impl<'t, D: Disk> Worker<'t, D> {
         ensures stands { StandsStay self.old.side.posts.items self.new.side.posts.items }
         ensures comes { ComesOut (G.said hands.now.gate.now) self.old.side.writers.trace self.old.side.writers.cpu hands.now.kit.now (end_of self.new) (team_of D.written D.faults self.old.side) (team_of D.written D.faults self.new.side) self.new.seats }
         ensures run { HasRun (C.told hands.now.clock.now) (G.said hands.now.gate.now) hands.now.kit.now (end_of self.new) (stance_of D.written D.faults self.old.side self.old.seats) (stance_of D.written D.faults self.new.side self.new.seats) }
-        ensures speaks { Speaks condition.now.signals self.new.writes (end_of self.new) self.old.voice self.new.voice }
+        ensures speaks { HasSpoken condition.now.signals self.new.writes (end_of self.new) self.old.voice self.new.voice }
     {
         condition.meet(hands.clock);
         let end = self.rounds(hands, condition);
-        let out = come_out(condition, end, self.side.end);
+        let out = come_out(condition, &mut self.voice, end, self.side.end);
         self.in_turn = out.0;
         self.side.end = out.1;
     }
@@ -102,7 +102,7 @@ impl<'t, D: Disk> Worker<'t, D> {
         ensures stands { self.old.in_turn ≡ true → StandsStay self.old.side.posts.items self.new.side.posts.items }
         ensures comes { self.old.in_turn ≡ true → ComesOut (G.said hands.now.gate.now) self.old.side.writers.trace self.old.side.writers.cpu hands.now.kit.now (end_of self.new) (team_of D.written D.faults self.old.side) (team_of D.written D.faults self.new.side) self.new.seats }
         ensures run { self.old.in_turn ≡ true → HasRun (C.told hands.now.clock.now) (G.said hands.now.gate.now) hands.now.kit.now (end_of self.new) (stance_of D.written D.faults self.old.side self.old.seats) (stance_of D.written D.faults self.new.side self.new.seats) }
-        ensures speaks { self.old.in_turn ≡ true → Speaks condition.now.signals self.new.writes (end_of self.new) self.old.voice self.new.voice }
+        ensures speaks { self.old.in_turn ≡ true → HasSpoken condition.now.signals self.new.writes (end_of self.new) self.old.voice self.new.voice }
         ensures stays { self.old.in_turn ≡ false → self.new ≡ self.old }
     {
         if self.in_turn {
@@ -118,10 +118,10 @@ impl<'t, D: Disk> Worker<'t, D> {
     )
         requires side { IsSide self.old.side.writers.trace self.old.side.writers.cpu hands.now.kit.now (team_of D.written D.faults self.old.side) self.old.seats }
         requires voice { MaySpeak condition.now.signals self.old.writes self.old.voice }
-        ensures { HasMadeRounds condition.now.signals (C.told hands.now.clock.now) (G.said hands.now.gate.now) D.written D.faults hands.now.kit.now (end_of self.new) self.old self.new }
+        ensures { HasComeOut condition.now.signals (C.told hands.now.clock.now) (G.said hands.now.gate.now) D.written D.faults hands.now.kit.now (end_of self.new) self.old self.new }
     {
         let end = self.some_rounds(hands, condition);
-        let out = come_out(condition, end, self.side.end);
+        let out = come_out(condition, &mut self.voice, end, self.side.end);
         self.in_turn = out.0;
         self.side.end = out.1;
     }
@@ -160,12 +160,15 @@ impl<'t, D: Disk> Worker<'t, D> {
 }
 
 // Whether a worker is to be served in turn, and how its side ended. Once that has ended it counts itself out.
-fn come_out(condition: &Condition, end: Option<End>, before: End) -> (bool, End)
-    ensures { cond result.0 None (Some result.1) ≡ end }
+fn come_out(condition: &Condition, voice: &mut Voice, end: Option<End>, before: End) -> (bool, End)
+    requires voice { voice.old.signals ≡ condition.now.signals }
+    requires there { voice.old.there ≡ 1 }
+    ensures end { cond result.0 None (Some result.1) ≡ end }
+    ensures left { HasLeft end voice.old voice.new }
 {
     match end {
         Some(end) => {
-            condition.leaves();
+            condition.signals.leave(voice);
             (false, end)
         }
         None => (true, before),

@@ -12,18 +12,19 @@ fn all_have_written_when_each_has(rt: HostRuntime) -> Result<(), Fail> {
     assert!(rt; !condition.signals.is_quiet(&mut second));
     condition.signals.has_written(&mut second);
     assert!(rt; condition.signals.is_quiet(&mut first));
-    assert!(rt; !condition.all_have_left());
+    assert!(rt; !condition.signals.all_have_left(&mut first));
     Ok(())
 }
 
 // The timer's worker isn't counted: it waits for the others.
 #[test]
 fn all_have_left_when_each_cpu_has(rt: HostRuntime) -> Result<(), Fail> {
-    let (condition, _voice) = Condition::make(rt.alloc(), 2)?;
-    condition.leaves();
-    assert!(rt; !condition.all_have_left());
-    condition.leaves();
-    assert!(rt; condition.all_have_left());
+    let (condition, mut first) = Condition::make(rt.alloc(), 2)?;
+    let mut second = condition.signals.split(&mut first);
+    condition.signals.leave(&mut first);
+    assert!(rt; !condition.signals.all_have_left(&mut second));
+    condition.signals.leave(&mut second);
+    assert!(rt; condition.signals.all_have_left(&mut first));
     Ok(())
 }
 

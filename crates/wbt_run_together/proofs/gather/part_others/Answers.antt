@@ -36,9 +36,9 @@ loop-worker-preserved g c =
           c.push_reserved.ensures.items;
       others = at_tail c.args.kit.now c.loop-worker.rest.rest.items c.next.new.self.rest.items c.in-Some.worker items i.others;
       many = omega (arith, i.many, many, c.in-Some.ensures.len);
-      its = ap (λ (v : Known). v.signals) c.take_in.ensures;
+      its = ap (λ (v : Known). v.signals) c.take_in.ensures ∙ i.its;
       theirs = (theirs_so c.args.condition.now.signals c.loop-worker.rest.rest.items c.next.new.self.rest.items c.in-Some.worker items i.theirs).1;
-      voice = voice_so c.args.condition.now.signals c.loop-worker.rest.rest.items c.next.new.self.rest.items c.in-Some.worker items c.loop-worker.voice c.take_in.new.voice i.its c.take_in.ensures ∙ i.voice;
+      voice = voice_so c.args.condition.now.signals c.loop-worker.rest.rest.items c.next.new.self.rest.items c.in-Some.worker items c.loop-worker.voice c.take_in.new.voice c.take_in.ensures ∙ i.voice;
       room = omega (arith, i.room, many, pushed, c.push_reserved.ensures.capacity);
     }
 

@@ -39,11 +39,11 @@ pub part_others-requires-clause-voices : goal.part_others-requires-clause-voices
 part_others-requires-clause-voices g c =
     let are = with_first c.args.kit.now c.args.workers.items c.into_iter-others.result.rest.items c.remove-seats.result (omega (arith, c.requires.some, c.args.workers.ok.0))
     c.remove-seats.ensures.value (c.into_iter-others.ensures.rest ∙ c.remove-seats.ensures.by_index.2) in
-    (ap (λ (v : Known). v.signals) c.take_in.ensures, (theirs_so c.args.condition.now.signals c.args.workers.items c.into_iter-others.result.rest.items c.remove-seats.result are c.requires.voices.1).1)
+    (ap (λ (v : Known). v.signals) c.take_in.ensures ∙ c.requires.voices.0, (theirs_so c.args.condition.now.signals c.args.workers.items c.into_iter-others.result.rest.items c.remove-seats.result are c.requires.voices.1).1)
 
 pub returns-clause-voice : goal.returns-clause-voice
 returns-clause-voice g c =
     let are = with_first c.args.kit.now c.args.workers.items c.into_iter-others.result.rest.items c.remove-seats.result (omega (arith, c.requires.some, c.args.workers.ok.0))
     c.remove-seats.ensures.value (c.into_iter-others.ensures.rest ∙ c.remove-seats.ensures.by_index.2) in
     c.part_others.ensures.voice
-    ∙ voice_so c.args.condition.now.signals c.args.workers.items c.into_iter-others.result.rest.items c.remove-seats.result are c.args.voice.now c.take_in.new.voice c.requires.voices.0 c.take_in.ensures
+    ∙ voice_so c.args.condition.now.signals c.args.workers.items c.into_iter-others.result.rest.items c.remove-seats.result are c.args.voice.now c.take_in.new.voice c.take_in.ensures

@@ -6,7 +6,7 @@ pub has_written-requires-clause-writes : goal.has_written-requires-clause-writes
 has_written-requires-clause-writes c = may_true c.args.condition.now.signals c.args.writes.now c.args.voice.now (search rules) c.requires.voice
 
 pub returns-then-writes-clause-speaks : goal.returns-then-writes-clause-speaks
-returns-then-writes-clause-speaks c = speaks_written c.args.condition.now.signals c.args.writes.now c.args.voice.now c.has_written.new.voice (search rules) c.requires.voice c.has_written.ensures
+returns-then-writes-clause-speaks c = speaks_written c.args.condition.now.signals c.args.writes.now c.args.voice.now c.has_written.new.voice (search rules) c.requires.voice c.has_written.ensures.stopped
 
 pub returns-else-writes-clause-speaks : goal.returns-else-writes-clause-speaks
 returns-else-writes-clause-speaks c = speaks_none c.args.condition.now.signals c.args.writes.now c.args.voice.now (search rules) c.requires.voice

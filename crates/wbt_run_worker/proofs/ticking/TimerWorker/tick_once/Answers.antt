@@ -24,7 +24,7 @@ returns-in_default g c =
     record {
       ticks = both.1;
       may = both.0;
-      turns = one_turn told (g.G.Gate.said c.args.hands.now.gate.now) kit c.args.self.now (record { side = c.turn.new.self; log = c.turn.new.log; refused = c.args.self.now.refused; halted = c.args.self.now.halted; voice = c.is_quiet.new.voice }) seats c.turn.new.seats
+      turns = one_turn told (g.G.Gate.said c.args.hands.now.gate.now) kit c.args.self.now (record { side = c.turn.new.self; log = c.turn.new.log; refused = c.args.self.now.refused; halted = c.args.self.now.halted; in_turn = c.args.self.now.in_turn; voice = c.is_quiet.new.voice }) seats c.turn.new.seats
           c.turn.result (record { answers = c.turn.ensures.answers; let_on = record { asked = c.turn.ensures.asked; stopped = c.turn.ensures.stopped } }) (goes_after c.turn.result c.in_default.not-NoMemory c.in_default.not-Halted) refl refl (looked_only c.is_quiet.result c.args.self.now.voice c.args.self.now.voice c.is_quiet.new.voice refl c.is_quiet.ensures.quiet);
       speaks = timer_looked c.args.condition.now.signals c.args.self.now.refused c.is_quiet.result c.args.self.now.voice c.is_quiet.new.voice c.requires.voice c.is_quiet.ensures.quiet;
       ready = λ trace was. ready_still told kit trace old c.turn.new.self seats c.turn.new.seats log c.turn.new.log.items both.1 both.0 was;
@@ -36,7 +36,7 @@ returns-then-is_quiet-clause-speaks g c = timer_looked c.args.condition.now.sign
 pub returns-in-NoMemory-clause-speaks : goal.returns-in-NoMemory-clause-speaks
 returns-in-NoMemory-clause-speaks g c =
     timer_refused c.args.condition.now.signals c.args.self.now.refused c.args.self.now.refused c.args.self.now.voice c.args.self.now.voice c.is_quiet.new.voice c.ring.new.voice c.is_quiet.result (timer_now c.args.condition.now.signals c.args.self.now.refused c.args.self.now.voice c.requires.voice)
-    c.is_quiet.ensures.quiet c.ring.ensures
+    c.is_quiet.ensures.quiet c.ring.ensures.rang
 
 pub returns-then-is_quiet-clause-turns : goal.returns-then-is_quiet-clause-turns
 returns-then-is_quiet-clause-turns g c = no_turn (g.C.Clock.told c.args.hands.now.clock.now) (g.G.Gate.said c.args.hands.now.gate.now) c.args.hands.now.kit.now c.args.self.now (record c.args.self.now { voice = c.is_quiet.new.voice }) c.args.seats.now c.args.seats.now
@@ -71,11 +71,11 @@ pub returns-in-Halted-clause-speaks : goal.returns-in-Halted-clause-speaks
 returns-in-Halted-clause-speaks g c = timer_looked c.args.condition.now.signals c.args.self.now.refused c.is_quiet.result c.args.self.now.voice c.is_quiet.new.voice c.requires.voice c.is_quiet.ensures.quiet
 
 pub returns-in-Halted-clause-turns : goal.returns-in-Halted-clause-turns
-returns-in-Halted-clause-turns g c = stopped_at_once (g.C.Clock.told c.args.hands.now.clock.now) (g.G.Gate.said c.args.hands.now.gate.now) c.args.hands.now.kit.now c.args.self.now (record { side = c.turn.new.self; log = c.turn.new.log; refused = c.args.self.now.refused; halted = true; voice = c.is_quiet.new.voice })
+returns-in-Halted-clause-turns g c = stopped_at_once (g.C.Clock.told c.args.hands.now.clock.now) (g.G.Gate.said c.args.hands.now.gate.now) c.args.hands.now.kit.now c.args.self.now (record { side = c.turn.new.self; log = c.turn.new.log; refused = c.args.self.now.refused; halted = true; in_turn = c.args.self.now.in_turn; voice = c.is_quiet.new.voice })
     c.args.seats.now c.turn.new.seats (record { answers = c.in-Halted.ensures.answers; let_on = record { asked = c.in-Halted.ensures.asked; stopped = c.in-Halted.ensures.stopped } }) refl refl
     (looked_only c.is_quiet.result c.args.self.now.voice c.args.self.now.voice c.is_quiet.new.voice refl c.is_quiet.ensures.quiet)
 
 pub returns-in-NoMemory-clause-turns : goal.returns-in-NoMemory-clause-turns
-returns-in-NoMemory-clause-turns g c = out_at_once (g.C.Clock.told c.args.hands.now.clock.now) (g.G.Gate.said c.args.hands.now.gate.now) c.args.hands.now.kit.now c.args.self.now (record { side = c.turn.new.self; log = c.turn.new.log; refused = true; halted = c.args.self.now.halted; voice = c.ring.new.voice })
+returns-in-NoMemory-clause-turns g c = out_at_once (g.C.Clock.told c.args.hands.now.clock.now) (g.G.Gate.said c.args.hands.now.gate.now) c.args.hands.now.kit.now c.args.self.now (record { side = c.turn.new.self; log = c.turn.new.log; refused = true; halted = c.args.self.now.halted; in_turn = c.args.self.now.in_turn; voice = c.ring.new.voice })
     c.args.seats.now c.turn.new.seats (record { answers = c.in-NoMemory.ensures.answers; let_on = record { asked = c.in-NoMemory.ensures.asked; stopped = c.in-NoMemory.ensures.stopped } }) refl refl
-    (rang_once c.args.self.now.voice c.is_quiet.new.voice c.ring.new.voice (looked_only c.is_quiet.result c.args.self.now.voice c.args.self.now.voice c.is_quiet.new.voice refl c.is_quiet.ensures.quiet) c.ring.ensures)
+    (rang_once c.args.self.now.voice c.is_quiet.new.voice c.ring.new.voice (looked_only c.is_quiet.result c.args.self.now.voice c.args.self.now.voice c.is_quiet.new.voice refl c.is_quiet.ensures.quiet) c.ring.ensures.rang)

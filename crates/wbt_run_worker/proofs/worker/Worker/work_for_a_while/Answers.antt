@@ -3,4 +3,4 @@ use Rattle.wbt_run_worker.proofs.worker.Worker.work_for_a_while.Goals as goal
 
 pub returns : goal.returns
 returns g c = came_out c.args.condition.now.signals (g.C.Clock.told c.args.hands.now.clock.now) (g.G.Gate.said c.args.hands.now.gate.now) g.D.Disk.written g.D.Disk.faults c.args.hands.now.kit.now
-    c.some_rounds-end.result c.args.self.now c.some_rounds-end.new.self c.come_out-out.result.0 c.come_out-out.result.1 c.come_out-out.ensures c.some_rounds-end.ensures
+    c.some_rounds-end.result c.args.self.now c.some_rounds-end.new.self c.come_out-out.result.0 c.come_out-out.result.1 c.come_out-out.new.voice c.come_out-out.ensures.end c.come_out-out.ensures.left c.some_rounds-end.ensures
