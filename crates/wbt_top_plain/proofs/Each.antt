@@ -1,5 +1,5 @@
 -- Each text has the status that it must have: what a text tells is one thing, and each other cause is shut out.
-use Rattle.std.proofs.Common.{inl, inr, ◌≡◌, ◌≢◌, ◌⊎◌, ◌↔◌, ℕ, ◌≤◌, List, length, Option, Some, None, Result, Ok, Err, IsOk, OnOk, is_ok, refl, sym, ◌∙◌, ap, subst, arith, ⊎_elim}
+use Rattle.std.proofs.Common.{inl, inr, ◌≡◌, ◌≢◌, ◌⊎◌, ◌↔◌, ℕ, ◌≤◌, List, length, Option, Some, None, Result, Ok, Err, IsOk, OnOk, is_ok, refl, ◌∙◌, ap, subst, arith, ⊎_elim}
 use Rattle.std.specs.Option.{IfSome}
 use Rattle.wbt_num.specs.declared.most.TheConstants.{MOST_INPUT}
 use Rattle.wbt_io.specs.declared.source.ReadEnd.TheVariants as read_end
