@@ -5,7 +5,7 @@ use std::sync::atomic::Ordering::SeqCst;
 use std::thread;
 
 // How often a thread looks before it gives up: some tens of seconds, less than a test may take.
-const LOOKS: u32 = 40_000_000;
+const LOOKS: u32 = 100_000_000;
 
 /// Whether the word comes to so much before the thread gives up.
 pub fn comes_to(word: &AtomicU64, least: u64) -> bool {

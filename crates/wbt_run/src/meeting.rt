@@ -8,7 +8,7 @@ use std::thread;
 use wbt_io::Gate;
 
 // How often a call looks for the others before it gives up: some tens of seconds, less than a test may take.
-const MOST_LOOKS: u64 = 40_000_000;
+const MOST_LOOKS: u64 = 100_000_000;
 
 /// It holds the calls that ask for the third step of CPU 0, 1 and 2, each until all three have come. Once one of them has looked too
 /// often, it holds nobody. It stops nobody.

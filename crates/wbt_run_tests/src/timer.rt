@@ -20,7 +20,7 @@ const LESS_MEMORY: &[u8] =
 const NEXT_TURN: u64 = 201;
 
 // How often a held call looks before it gives up: some tens of seconds, less than a test may take.
-const MOST_LOOKS: u64 = 40_000_000;
+const MOST_LOOKS: u64 = 100_000_000;
 
 // A clock that starts at 1 and moves by rests. It counts its answers, and notes when one is late enough for the timer.
 #[derive(Drop)]
