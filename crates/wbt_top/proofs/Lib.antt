@@ -1,6 +1,7 @@
 mod BulkRuns
 mod Cutting
 mod Each
+mod Free
 mod Handing
 mod Inputs
 mod Judged
