@@ -43,7 +43,7 @@ fn what_a_run_over_threads_writes_is_lawful(rt: HostRuntime) -> Result<(), Fail>
 #[test]
 fn what_a_run_whose_disks_fail_writes_is_lawful(rt: HostRuntime) -> Result<(), Fail> {
     let alloc = rt.alloc();
-    for fails in [3, 8] {
+    for (fails, ended) in [(3, Status::Good), (8, Status::DiskFault)] {
         let mut calls = Vec::new(alloc);
         for write in 1..=fails {
             calls.push(write)?;
@@ -56,6 +56,7 @@ fn what_a_run_whose_disks_fail_writes_is_lawful(rt: HostRuntime) -> Result<(), F
             &FreeGate,
             &mut FaultyRack::make(calls),
         )?;
+        assert_eq!(rt; ran.status, ended);
         let (status, held) = verdict_on(alloc, THREE_CPUS, ran.held.as_slice())?;
         assert_eq!(rt; status, Status::Good, "after {fails} faults");
         assert_eq!(rt; held.as_slice(), b"lawful\n".as_slice());

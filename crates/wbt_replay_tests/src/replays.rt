@@ -1,9 +1,10 @@
 //! What no clause says: that memory is enough for a small run and its text, and that refused memory is named.
 
 use std::alloc::Global;
+use std::fmt::Write;
 use std::test::Fail;
 use wbt_io::MemSink;
-use wbt_journal::{Journal, PrintEnd, print};
+use wbt_journal::{Ending, Journal, PrintEnd, print};
 use wbt_replay::replay;
 use wbt_trace_text::read_trace;
 
@@ -86,5 +87,42 @@ fn a_sink_that_fails_its_first_write_holds_nothing(rt: HostRuntime) -> Result<()
     assert_eq!(rt; printed.end, Err(PrintEnd::WriteFault));
     assert_eq!(rt; printed.faults, 1);
     assert_eq!(rt; printed.held.as_slice(), b"".as_slice());
+    Ok(())
+}
+
+// As many inodes as a trace may have, each of a page.
+const MANY_INODES: u32 = 4096;
+
+fn put_inode(text: &mut String, inode: u32) -> Result<(), Fail> {
+    Ok(write!(text, "inode {inode} 0 1\n")?)
+}
+
+fn put_write(text: &mut String, inode: u32) -> Result<(), Fail> {
+    Ok(write!(text, "write 0 {inode} 0 1\n")?)
+}
+
+// One task writes all of them before their device's flusher takes a step.
+fn many_inodes(alloc: Global) -> Result<String, Fail> {
+    let mut text = String::from_str(
+        alloc,
+        "cpus 2\navail 0 100000\ndevice 0 25600 0 100\ncontext 0 0 0\n",
+    )?;
+    for inode in 0..MANY_INODES {
+        put_inode(&mut text, inode)?;
+    }
+    text.push_str("task 0 0\nflusher 0 0 1\n")?;
+    for inode in 0..MANY_INODES {
+        put_write(&mut text, inode)?;
+    }
+    text.push_str("order 0 1000000\n")?;
+    Ok(text)
+}
+
+#[test]
+fn all_inodes_of_a_trace_wait_in_one_queue(rt: HostRuntime) -> Result<(), Fail> {
+    let text = many_inodes(rt.alloc())?;
+    let journal = replayed(rt.alloc(), text.as_bytes())?;
+    assert_eq!(rt; journal.ending, Ending::Done);
+    assert_eq!(rt; journal.left.as_slice().len(), 0);
     Ok(())
 }

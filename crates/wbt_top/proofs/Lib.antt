@@ -1,3 +1,4 @@
 mod BulkRuns
+mod Free
 mod Running
 pub mod Served

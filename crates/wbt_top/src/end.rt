@@ -1,18 +1,18 @@
 //! How the process ends: with the sentence and the code of the status that its call answers.
 
-ghost use Rattle.std.specs.Prelude.{◌≡◌, ◌≢◌, ◌↔◌, ◌⊎◌, ◌≤◌, ℕ};
+ghost use Rattle.std.specs.Prelude.{◌≡◌, ◌≢◌, ◌↔◌, ◌⊎◌, ◌≤◌, ℕ, IsTrue};
 ghost use Rattle.std.specs.Io.KnownBytes.{IsAtEnd};
 ghost use Rattle.std.specs.Process.{exit_status};
 ghost use Rattle.wbt_io.specs.Faults.{HasRisen, HasRisenBy};
 ghost use Rattle.wbt_io.specs.Told.{GainsPart};
 ghost use Rattle.wbt_rules.specs.declared.moments.TheConstants.{MOST_FAULTS};
-ghost use Rattle.wbt_run.specs.Running.{IsDone, IsFaulted, IsSpent as IsRunSpent, NeverStops};
+ghost use Rattle.wbt_run.specs.Running.{IsDone, IsFaulted, IsSpent as IsRunSpent};
 ghost use Rattle.wbt_trace_text.specs.declared.fault.TraceFault.{TraceFault as FaultValue};
 ghost use Rattle.wbt_top_plain.specs.Audit.{Answers, Audited, IfAuditTold, IfRunToJudge, IsAudit, IsAuditInput, ReadsText, bad_journal, bad_trace};
 ghost use Rattle.wbt_top_plain.specs.StatusText.{code_of};
 ghost use Rattle.wbt_top_plain.specs.Bulk.{IsBulk, IsRun, RunsThreads};
 ghost use Rattle.wbt_top_plain.specs.Written.{IsWritten, IsWrittenUnless};
-ghost use Rattle.wbt_top.specs.Threads.{Finishes, IsBulkDone, IsServed, OfCommand, Ran};
+ghost use Rattle.wbt_top.specs.Threads.{IsBulkDone, IsServed, OfCommand, Ran};
 ghost use Rattle.wbt_top_plain.specs.Top.{IsReplay, IsCheck, IsLaw, ReadsTrace, Replayed, ReplayedPart, ReplayedSpent, Checked, CheckedPart, Decided, DecidedPart, IsRefused, IsLawRefused, IsLong, IfLong, IfTold, IfFaulty, IfLawTold, IfLawFaulty, IsSpent, ReadsWhole};
 
 use crate::threads::run_top;
@@ -21,7 +21,7 @@ use std::marker::Model;
 use std::process::{ExitCode, Termination};
 use std::sync::Wait;
 use std::thread::Threads;
-use wbt_io::{Clock, Gate, Rack, Sink, Source};
+use wbt_io::{Clock, FreeGate, Rack, Sink, Source};
 use wbt_top_plain::{Status, Words, code, plain_top};
 use wbt_trace_text::TraceFault;
 
@@ -108,28 +108,22 @@ impl Ended {
         }
     }
 
-    /// Serves the words as `run_top` does, and ends with its status: each with the cause that it has there.
-    pub fn of_run<
-        H: Threads + Wait + Sync,
-        S: Source,
-        K: Sink,
-        C: Clock + Sync,
-        G: Gate + Sync,
-        R: Rack,
-    >(
+    /// Serves the words as `run_top` does behind a gate that stops nobody, and ends with its status: each with the cause that it has there.
+    pub fn of_run<H: Threads + Wait + Sync, S: Source, K: Sink, C: Clock + Sync, R: Rack>(
         rt: &H,
         alloc: Global,
         words: &Words,
         source: &mut S,
         sink: &mut K,
         clock: &C,
-        gate: &G,
         rack: &mut R,
     ) -> Ended
-        // Where text is written, the trace was run. All was done or a CPU was stopped, and the text was written, or a part of it; or a disk
-        // failed eight times, or a CPU made all its page steps, and the text was written, or a part of it where the sink failed too.
-        ensures ran { result ≡ Status.Good → OfCommand words.now (S.left source.old) (λ trace text. Ran (C.told clock.now) trace (R.written rack.old) (R.written rack.new) (R.faults rack.old) (R.faults rack.new) (Finishes (G.said gate.now) trace) text (IsWritten (K.held sink.old) (K.held sink.new))) }
-        ensures ran_part { result ≡ Status.WriteFault → OfCommand words.now (S.left source.old) (λ trace text. Ran (C.told clock.now) trace (R.written rack.old) (R.written rack.new) (R.faults rack.old) (R.faults rack.new) (Finishes (G.said gate.now) trace) text (GainsPart (K.held sink.old) (K.held sink.new))) }
+        // At the good status and after a write fault all is done: every page of every write was written, and none is left. The text was written,
+        // or a part of it.
+        ensures done { result ≡ Status.Good → OfCommand words.now (S.left source.old) (λ trace text. Ran (C.told clock.now) trace (R.written rack.old) (R.written rack.new) (R.faults rack.old) (R.faults rack.new) (IsDone trace) text (IsWritten (K.held sink.old) (K.held sink.new))) }
+        ensures done_part { result ≡ Status.WriteFault → OfCommand words.now (S.left source.old) (λ trace text. Ran (C.told clock.now) trace (R.written rack.old) (R.written rack.new) (R.faults rack.old) (R.faults rack.new) (IsDone trace) text (GainsPart (K.held sink.old) (K.held sink.new))) }
+
+        // A disk failed eight times, or a CPU made all its page steps; the text was written, or a part of it where the sink failed too.
         ensures ran_faulted { result ≡ Status.DiskFault → OfCommand words.now (S.left source.old) (λ trace text. Ran (C.told clock.now) trace (R.written rack.old) (R.written rack.new) (R.faults rack.old) (R.faults rack.new) (IsFaulted trace (R.faults rack.old) (R.faults rack.new)) text (IsWrittenUnless (HasRisen (K.faults sink.old) (K.faults sink.new)) (K.held sink.old) (K.held sink.new))) }
         ensures ran_spent { result ≡ Status.Spent → OfCommand words.now (S.left source.old) (λ trace text. Ran (C.told clock.now) trace (R.written rack.old) (R.written rack.new) (R.faults rack.old) (R.faults rack.new) IsRunSpent text (IsWrittenUnless (HasRisen (K.faults sink.old) (K.faults sink.new)) (K.held sink.old) (K.held sink.new))) }
         ensures untouched { result ≢ Status.Good → result ≢ Status.WriteFault → result ≢ Status.DiskFault → result ≢ Status.Spent → K.held sink.new ≡ K.held sink.old }
@@ -152,13 +146,11 @@ impl Ended {
         ensures each_run { IsRun words.now → ¬ HasRisen (S.faults source.old) (S.faults source.new) → ¬ HasRisen (K.faults sink.old) (K.faults sink.new) → IfTold (S.left source.old) (λ _trace. IsServed result) }
         ensures each_bulk { (n : ℕ) → IsBulk n words.now → ¬ HasRisen (K.faults sink.old) (K.faults sink.new) → IsServed result }
 
-        // Where the gate stops nobody and the disks failed less than eight times, all is done: every page of every write was written, and none is left. A bulk run
-        // then says of each of its pages that it was dirtied and cleaned.
-        ensures done { result ≡ Status.Good → NeverStops (G.said gate.now) → ¬ HasRisenBy MOST_FAULTS (R.faults rack.old) (R.faults rack.new) → OfCommand words.now (S.left source.old) (λ trace text. Ran (C.told clock.now) trace (R.written rack.old) (R.written rack.new) (R.faults rack.old) (R.faults rack.new) (IsDone trace) text (IsWritten (K.held sink.old) (K.held sink.new))) }
-        ensures bulk_done { result ≡ Status.Good → NeverStops (G.said gate.now) → ¬ HasRisenBy MOST_FAULTS (R.faults rack.old) (R.faults rack.new) → (n : ℕ) → IsBulk n words.now → IsBulkDone n (R.written rack.old) (R.written rack.new) (K.held sink.old) (K.held sink.new) }
+        // A bulk run that is done says of each of its pages that it was dirtied and cleaned.
+        ensures bulk_done { result ≡ Status.Good → (n : ℕ) → IsBulk n words.now → IsBulkDone n (R.written rack.old) (R.written rack.new) (K.held sink.old) (K.held sink.new) }
     {
         Ended {
-            status: run_top(rt, alloc, words, source, sink, clock, gate, rack),
+            status: run_top(rt, alloc, words, source, sink, clock, &FreeGate, rack),
         }
     }
 }
@@ -169,10 +161,19 @@ impl Termination for Ended {
         ensures { exit_status result ≡ code_of self }
     {
         let Ended { status } = self;
-        let code = code(&status);
-        if code != 0 {
+        if is_told(&status) {
             let _ = eprintln!(rt; "{status}");
         }
-        ExitCode::from(code)
+        ExitCode::from(code(&status))
+    }
+}
+
+// Whether the sentence of a status goes to standard error: of each but the good one.
+fn is_told(status: &Status) -> bool
+    ensures { IsTrue result ↔ (status.now ≢ Status.Good) }
+{
+    match status {
+        Status::Good => false,
+        _ => true,
     }
 }

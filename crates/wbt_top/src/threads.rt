@@ -74,10 +74,10 @@ pub fn run_top<
     ensures each_run { IsRun words.now → ¬ HasRisen (S.faults source.old) (S.faults source.new) → ¬ HasRisen (K.faults sink.old) (K.faults sink.new) → IfTold (S.left source.old) (λ _trace. IsServed result) }
     ensures each_bulk { (n : ℕ) → IsBulk n words.now → ¬ HasRisen (K.faults sink.old) (K.faults sink.new) → IsServed result }
 
-    // Where the gate stops nobody and the disks failed less than eight times, all is done: every page of every write was written, and none is left. A bulk run
-    // then says of each of its pages that it was dirtied and cleaned.
-    ensures done { result ≡ Status.Good → NeverStops (G.said gate.now) → ¬ HasRisenBy MOST_FAULTS (R.faults rack.old) (R.faults rack.new) → OfCommand words.now (S.left source.old) (λ trace text. Ran (C.told clock.now) trace (R.written rack.old) (R.written rack.new) (R.faults rack.old) (R.faults rack.new) (IsDone trace) text (IsWritten (K.held sink.old) (K.held sink.new))) }
-    ensures bulk_done { result ≡ Status.Good → NeverStops (G.said gate.now) → ¬ HasRisenBy MOST_FAULTS (R.faults rack.old) (R.faults rack.new) → (n : ℕ) → IsBulk n words.now → IsBulkDone n (R.written rack.old) (R.written rack.new) (K.held sink.old) (K.held sink.new) }
+    // Where the gate stops nobody, all is done at the good status: every page of every write was written, and none is left. A bulk run then
+    // says of each of its pages that it was dirtied and cleaned.
+    ensures done { result ≡ Status.Good → NeverStops (G.said gate.now) → OfCommand words.now (S.left source.old) (λ trace text. Ran (C.told clock.now) trace (R.written rack.old) (R.written rack.new) (R.faults rack.old) (R.faults rack.new) (IsDone trace) text (IsWritten (K.held sink.old) (K.held sink.new))) }
+    ensures bulk_done { result ≡ Status.Good → NeverStops (G.said gate.now) → (n : ℕ) → IsBulk n words.now → IsBulkDone n (R.written rack.old) (R.written rack.new) (K.held sink.old) (K.held sink.new) }
 {
     match command_of(words) {
         Some(Command::Run) => run_trace(rt, alloc, source, sink, clock, gate, rack),

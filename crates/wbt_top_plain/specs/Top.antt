@@ -9,7 +9,8 @@ use Rattle.wbt_trace_text.specs.Writing.{trace_text}
 use Rattle.wbt_trace_text.specs.declared.fault.TraceFault.{TraceFault}
 use Rattle.wbt_trace.specs.declared.trace.Trace.{Trace}
 use Rattle.wbt_journal.specs.declared.journal.Ending.TheVariants as ending
-use Rattle.wbt_replay_order.specs.Claims.Bound.{IsBounded, IsCounted, PrintsBound, PeaksArePrinted, HasEnded}
+use Rattle.wbt_replay_order.specs.Claims.Ages.{AgedWereDue}
+use Rattle.wbt_replay_order.specs.Claims.Bound.{IsBounded, IsBoundedCloser, IsCounted, PrintsBound, PeaksArePrinted, HasEnded}
 use Rattle.wbt_replay_order.specs.Claims.Cleaned.{AreCleaned}
 use Rattle.wbt_replay_order.specs.Claims.Complete.{CompletesAll}
 use Rattle.wbt_replay_order.specs.Claims.Decided.{AreDecided}
@@ -21,7 +22,7 @@ use Rattle.wbt_replay_order.specs.Claims.Unfailing.{NeverFails}
 use Rattle.wbt_replay_order.specs.Claims.Whole.{IsWhole}
 use Rattle.wbt_replay_order.specs.Definition.Run.{journal_of}
 use Rattle.wbt_journal.specs.Lawful as journal
-use Rattle.wbt_journal.specs.Lawful.{ChecksAreRight, CountsStayFresh, CountsSumFolds, EndingIsRight, EstimatesAreUp, FlushersAreInTurn, FoldsAreUp, FoundWereDirtied, FractionsAreOfShares, LedgerIsEven, LeftIsBounded, LeftPagesAreThere, NamesAreOfEstimates, NamesStayNew, PeriodsStayNew, TimerFollows, TimerHasOpened, TriplesAreOfTimer, TriplesStayNew, WritesAreInOrder}
+use Rattle.wbt_journal.specs.Lawful.{ChecksAreRight, CountsStayFresh, CountsSumFolds, EndingIsRight, EstimatesAreUp, FlushersAreInTurn, FoldsAreUp, FoundWereDirtied, FractionsAreOfShares, LedgerIsEven, LeftIsBounded, LeftPagesAreThere, NamesAreOfEstimates, NamesStayNew, PeriodsStayNew, TimerFollows, TimerHasOpened, TriplesAreOfTimer, TriplesStayNew, WaitsAreOwn, WritesAreInOrder}
 use Rattle.wbt_journal.specs.Text.{journal_text}
 use Rattle.wbt_law.specs.Law.{IsDecidable}
 use Rattle.wbt_law.specs.Reading.{IsAnswer as IsLawAnswer}
@@ -110,14 +111,16 @@ replay_text trace = journal_text (journal_of trace)
 -- lead to the run's state. Each fresh write that the journal tells was cleaned once, or its page is left; no fault is told, and no page
 -- that was given back; and each page that a write found dirty was dirtied by a write that is told. After each step each domain's count
 -- that is printed is the exact count of its dirty pages and pages under writeback by the book, and is at most the bound printed beside
--- it, which is that of the relation's domain at that moment, with the greatest hard limit that the timer has printed or prints next. Of
--- each context of a strict device the greatest count that it had is told, which is at most the bound told beside it. Each decision that
--- is printed is the control law's, made by its CPU after just the checks printed before it, and its pause at most 200 ticks; each count
--- that is printed with one is the sum of the folds that are told up to its version, and none is older than what its CPU had printed or
--- folded. The pages told as left are those of the book, and what parts, steps and pages name is there. The run ends, after at most so
--- many steps as a replay may have, and is told as spent, halted or done where it is. Where it is done, every page of every write was
--- told, and nothing is left. Beside these the journal has the points of a lawful journal, and so it is legal for the trace however the
--- run ended; where the run isn't spent its ending is right too, and so the journal is lawful.
+-- it, which is that of the relation's domain at that moment, with the greatest hard limit that the timer has printed or prints next. At
+-- each moment it is at most the closer bound too. Of each context of a strict device the greatest count that it had is told, which is at
+-- most the bound told beside it. Each decision that is printed is the control law's, made by its CPU after just the checks printed before
+-- it, and its pause at most 200 ticks; each count that is printed with one is the sum of the folds that are told up to its version, and
+-- none is older than what its CPU had printed or folded. Each flusher of an ageing device notices inodes and takes them in its own CPU's
+-- part, and what it takes for its age it had noticed there, as long ago as its context asks. The pages told as left are those of the book,
+-- and what parts, steps and pages name is there. The run ends, after at most so many steps as a replay may have, and is told as spent,
+-- halted or done where it is. Where it is done, every page of every write was told, and nothing is left. Beside these the journal has the
+-- points of a lawful journal, and so it is legal for the trace however the run ended; where the run isn't spent its ending is right too,
+-- and so the journal is lawful.
 pub record IsControlled (trace : Trace) : Type 0 where
   pub followed : IsFollowed trace
   pub cleaned : AreCleaned trace
@@ -126,6 +129,7 @@ pub record IsControlled (trace : Trace) : Type 0 where
   pub bound : PrintsBound trace
   pub peaks : PeaksArePrinted trace
   pub bounded : IsBounded (journal_of trace)
+  pub bounded_closer : IsBoundedCloser trace
   pub strict : StaysWithinStrict trace
   pub decided : AreDecided trace
   pub fresh : CountsStayFresh (journal_of trace)
@@ -149,6 +153,8 @@ pub record IsControlled (trace : Trace) : Type 0 where
   pub writes : WritesAreInOrder trace (journal_of trace)
   pub checks : ChecksAreRight trace (journal_of trace)
   pub flights : FlushersAreInTurn trace (journal_of trace)
+  pub own_waits : WaitsAreOwn trace (journal_of trace)
+  pub ages : AgedWereDue trace (journal_of trace)
   pub ledger : LedgerIsEven trace (journal_of trace)
   pub left_pages : LeftPagesAreThere trace (journal_of trace)
   pub left_bounded : LeftIsBounded trace (journal_of trace)
