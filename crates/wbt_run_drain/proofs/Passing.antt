@@ -10,15 +10,15 @@ use Rattle.wbt_run_worker.specs.declared.round.JobOutcome.{JobOutcome}
 use Rattle.wbt_run_worker.specs.declared.round.JobOutcome.TheVariants as job
 use Rattle.wbt_run_worker.specs.declared.side.CpuSide.{CpuSide}
 use Rattle.wbt_run_worker.specs.declared.side.End.{End}
-use Rattle.wbt_run_worker.specs.declared.side.End.TheVariants.{Ended}
+use Rattle.wbt_run_worker.specs.declared.side.End.TheVariants.{Ended, Refused}
 use Rattle.wbt_run_worker.specs.declared.side.Post.{Post}
 use Rattle.wbt_run_worker.specs.declared.side.Stand.{Stand}
 use Rattle.wbt_run_worker.specs.declared.side.Stand.TheVariants.{Open, Done, Out}
-use Rattle.wbt_run_worker.proofs.Lists.{each_and, each_at}
+use Rattle.wbt_run_worker.proofs.Lists.{each_and}
 use Rattle.wbt_trace.specs.declared.trace.Trace.{Trace}
 use Rattle.wbt_run_drain.specs.Ends.{GoesOn, HasEnded, HaveEnded}
 use Rattle.wbt_run_drain.specs.Standing.{AreAllDone, AreStanding, WentOn}
-use Rattle.wbt_run_drain.specs.Turned.{HasTurned, IsLast, IsOver, MayTurn, OnlySide, stand_by}
+use Rattle.wbt_run_drain.specs.Turned.{AreOver, HasTurned, IsLast, IsOver, MayTurn, NoneRefusedMore, OnlySide, StopsAtRefusal, stand_by}
 use Rattle.wbt_run_drain.proofs.Ready.{may_turn}
 use Rattle.wbt_run_drain.proofs.Taking.{TakesTurn}
 use Rattle.wbt_run_drain.proofs.Turning.{stands_behind, went_behind, went_more, went_nowhere}
@@ -190,11 +190,14 @@ module _ {D : Type 0} (told : ℕ → Type 0) (said : ℕ → ℕ → Bool → T
 
     pub over_now : end ≤ at → again ≡ false → (other : CpuSide D) → IsOver (get_or now cpu other)
     over_now all none other = subst (λ (s : CpuSide D). IsOver s) (sym (the_side other)) (λ ended.
-        each_of (λ (post : Post D). post.stand ≡ Done) passes.only.side.posts.items (λ k post less.
-        is_done (get_or passes.only.side.posts.items k post).stand (passes.none_open none k post (let many = passes.many in omega arith))
-        (each_at GoesOn passes.only.side.posts.items k post less ended.posts)))
+        each_of (λ (post : Post D). post.stand ≡ Open → ⊥) passes.only.side.posts.items (λ k post less.
+        passes.none_open none k post (let many = passes.many in omega arith)))
 
 -- ---- all sides
+
+pub there_after : {D : Type 0} (cpu : ℕ) (now now' : List (CpuSide D)) → OnlySide cpu now now' → cpu < length now → cpu < length now'
+there_after {D} cpu now now' only less =
+    let same : length now' ≡ length now = ap (λ (all : List (CpuSide D)). length all) only.sides ∙ length-set now cpu only.side in omega (arith, same, less)
 
 module _ {D : Type 0} (told : ℕ → Type 0) (said : ℕ → ℕ → Bool → Type 0) (written : D → Option ℕ) (faults : D → ℕ) (trace : Trace) (kit : Kit) where
   -- so far: those that were seen are over, where none is to be turned again
@@ -203,6 +206,7 @@ module _ {D : Type 0} (told : ℕ → Type 0) (said : ℕ → ℕ → Bool → T
     pub went : WentOn trace first now seats seats'
     pub many : end ≡ length now
     pub over : again ≡ false → (k : ℕ) (side : CpuSide D) → k < cpu → IsOver (get_or now k side)
+    pub refused : NoneRefusedMore first now
 
   pub all_first : (sides : List (CpuSide D)) (seats : Seats) (again : Bool) → AreStanding told said written faults trace kit sides seats
       → PassesAll 0 (length sides) sides sides seats seats again
@@ -211,13 +215,32 @@ module _ {D : Type 0} (told : ℕ → Type 0) (said : ℕ → ℕ → Bool → T
     went = went_nowhere trace sides seats;
     many = refl;
     over = λ none k side less. absurd (omega arith);
+    refused = λ k side less is. is;
   }
 
   module _ (cpu end : ℕ) (first now now' : List (CpuSide D)) (seats seats' seats'' : Seats) (again again' : Bool) (passes : PassesAll cpu end first now seats seats' again)
       (standing : AreStanding told said written faults trace kit now' seats'') (went : WentOn trace now now' seats' seats'') (only : OnlySide cpu now now')
       (before : again' ≡ false → again ≡ false) (over : again' ≡ false → (other : CpuSide D) → IsOver (get_or now' cpu other)) where
-    pub all_on : PassesAll (cpu + 1) end first now' seats seats'' again'
-    all_on = record {
+    -- only this side may have been refused memory
+    at_most_here : (k : ℕ) (side : CpuSide D) → k < length first → (k ≡ cpu → ⊥) → (get_or now' k side).end ≡ Refused → (get_or first k side).end ≡ Refused
+    at_most_here k side less elsewhere is = passes.refused k side less
+        (sym (ap (λ (s : CpuSide D). s.end) (ap (λ (all : List (CpuSide D)). get_or all k side) only.sides ∙ get_or-set_other now cpu k only.side side elsewhere)) ∙ is)
+
+    pub stops_here : StopsAtRefusal first now'
+    stops_here one two other low less first_is second_is first_wasnt second_wasnt = dite (ℕ_discrete one cpu)
+        (λ one_here. dite (ℕ_discrete two cpu)
+        (λ two_here. one_here ∙ sym two_here)
+        (λ elsewhere. absurd (second_wasnt (at_most_here two other less elsewhere second_is))))
+        (λ elsewhere. absurd (first_wasnt (at_most_here one other low elsewhere first_is)))
+
+    -- and where it wasn't none was
+    pub none_more : ((other : CpuSide D) → (get_or now' cpu other).end ≡ Refused → ⊥) → NoneRefusedMore first now'
+    none_more isnt k side less is = dite (ℕ_discrete k cpu)
+        (λ here. absurd (isnt side (subst (λ (n : ℕ). (get_or now' n side).end ≡ Refused) here is)))
+        (λ elsewhere. at_most_here k side less elsewhere is)
+
+    pub all_on : ((other : CpuSide D) → (get_or now' cpu other).end ≡ Refused → ⊥) → PassesAll (cpu + 1) end first now' seats seats'' again'
+    all_on isnt = record {
       standing = standing;
       went = went_more trace first now now' seats seats' seats'' passes.went went;
       many = passes.many ∙ sym (ap (λ (all : List (CpuSide D)). length all) only.sides ∙ length-set now cpu only.side);
@@ -226,10 +249,30 @@ module _ {D : Type 0} (told : ℕ → Type 0) (said : ℕ → ℕ → Bool → T
           (λ elsewhere. subst (λ (s : CpuSide D). IsOver s)
           (sym (ap (λ (all : List (CpuSide D)). get_or all k side) only.sides ∙ get_or-set_other now cpu k only.side side elsewhere))
           (passes.over (before none) k side (omega arith)));
+      refused = none_more isnt;
     }
 
-  pub all_over : (cpu end : ℕ) (first now : List (CpuSide D)) (seats seats' : Seats) (again : Bool) → PassesAll cpu end first now seats seats' again → end ≤ cpu → again ≡ false
-      → HaveEnded now → AreAllDone now
-  all_over cpu end first now seats seats' again passes all none ended =
-      each_and HasEnded IsOver (λ (side : CpuSide D). Each (λ (post : Post D). post.stand ≡ Done) side.posts.items) (λ side its over. over its) now ended
-      (each_of IsOver now (λ k side less. passes.over none k side (let many = passes.many in omega arith)))
+  module _ (cpu end : ℕ) (first now : List (CpuSide D)) (seats seats' : Seats) (again : Bool) (passes : PassesAll cpu end first now seats seats' again) where
+    pub all_others : end ≤ cpu → again ≡ false → AreOver now
+    all_others all none = each_of IsOver now (λ k side less. passes.over none k side (let many = passes.many in omega arith))
+
+    pub all_over : end ≤ cpu → again ≡ false → HaveEnded now → AreAllDone now
+    all_over all none ended =
+        each_and HasEnded IsOver (λ (side : CpuSide D). Each (λ (post : Post D). post.stand ≡ Done) side.posts.items)
+        (λ side has over. each_and GoesOn (λ (post : Post D). post.stand ≡ Open → ⊥) (λ (post : Post D). post.stand ≡ Done)
+        (λ post on isnt. is_done post.stand isnt on) side.posts.items has.posts (over has.ended))
+        now ended (all_others all none)
+
+    pub all_stop : StopsAtRefusal first now
+    all_stop one two other low less first_is second_is first_wasnt second_wasnt = absurd (first_wasnt (passes.refused one other low first_is))
+
+-- ---- pass after pass
+
+-- none was refused memory up to a pass that stops at the first that is
+pub stops_later : {D : Type 0} (first mid last : List (CpuSide D)) → length mid ≡ length first → NoneRefusedMore first mid → StopsAtRefusal mid last → StopsAtRefusal first last
+stops_later first mid last many none stops one two other low less first_is second_is first_wasnt second_wasnt =
+    stops one two other (omega (arith, many, low)) (omega (arith, many, less)) first_is second_is
+    (λ was. first_wasnt (none one other low was)) (λ was. second_wasnt (none two other less was))
+
+pub none_later : {D : Type 0} (first mid last : List (CpuSide D)) → length mid ≡ length first → NoneRefusedMore first mid → NoneRefusedMore mid last → NoneRefusedMore first last
+none_later first mid last many none more k other less is = none k other less (more k other (omega (arith, many, less)) is)

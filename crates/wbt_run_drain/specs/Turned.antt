@@ -18,11 +18,10 @@ use Rattle.wbt_run_worker.specs.declared.round.JobOutcome.{JobOutcome}
 use Rattle.wbt_run_worker.specs.declared.round.JobOutcome.TheVariants as job
 use Rattle.wbt_run_worker.specs.declared.side.CpuSide.{CpuSide}
 use Rattle.wbt_run_worker.specs.declared.side.End.{End}
-use Rattle.wbt_run_worker.specs.declared.side.End.TheVariants.{Halted, Refused}
+use Rattle.wbt_run_worker.specs.declared.side.End.TheVariants.{Ended, Halted, Refused}
 use Rattle.wbt_run_worker.specs.declared.side.Post.{Post}
 use Rattle.wbt_run_worker.specs.declared.side.Stand.{Stand}
-use Rattle.wbt_run_worker.specs.declared.side.Stand.TheVariants.{Done, Out}
-use Rattle.wbt_run_drain.specs.Ends.{HasEnded}
+use Rattle.wbt_run_worker.specs.declared.side.Stand.TheVariants.{Open, Done, Out}
 
 -- ---- a turn
 
@@ -92,6 +91,26 @@ pub record OnlySide {D : Type 0} (cpu : ℕ) (old new : List (CpuSide D)) : Type
   pub sides : new ≡ set old cpu side
   pub many : length side.posts.items ≡ length (get_or old cpu side).posts.items
 
--- where the side goes on, each of its flushers is done
+-- where the side goes on, none of its flushers is to be turned again: each is done, or out
 abbrev pub IsOver : {D : Type 0} (side : CpuSide D) → Type 0
-IsOver {D} side = HasEnded side → Each (λ (post : Post D). post.stand ≡ Done) side.posts.items
+IsOver {D} side = side.end ≡ Ended → Each (λ (post : Post D). post.stand ≡ Open → ⊥) side.posts.items
+
+-- ---- the ends of the sides
+
+-- no side was refused memory
+abbrev pub NoneRefused : {D : Type 0} (sides : List (CpuSide D)) → Type 0
+NoneRefused {D} sides = Each (λ (side : CpuSide D). side.end ≡ Refused → ⊥) sides
+
+-- none was that wasn't before
+abbrev pub NoneRefusedMore : {D : Type 0} (old new : List (CpuSide D)) → Type 0
+NoneRefusedMore {D} old new = (cpu : ℕ) (other : CpuSide D) → cpu < length old → (get_or new cpu other).end ≡ Refused → (get_or old cpu other).end ≡ Refused
+
+-- of no two sides both were refused memory that weren't before: the drain stops at the first
+abbrev pub StopsAtRefusal : {D : Type 0} (old new : List (CpuSide D)) → Type 0
+StopsAtRefusal {D} old new = (one two : ℕ) (other : CpuSide D) → one < length old → two < length old
+    → (get_or new one other).end ≡ Refused → (get_or new two other).end ≡ Refused
+    → ((get_or old one other).end ≡ Refused → ⊥) → ((get_or old two other).end ≡ Refused → ⊥) → one ≡ two
+
+-- each side that goes on has no flusher that is to be turned again, whatever became of the others
+abbrev pub AreOver : {D : Type 0} (sides : List (CpuSide D)) → Type 0
+AreOver {D} sides = Each IsOver sides

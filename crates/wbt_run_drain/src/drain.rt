@@ -5,7 +5,7 @@ ghost use Rattle.wbt_run_drain.specs.Ends.{HaveEnded};
 ghost use Rattle.wbt_run_drain.specs.Standing.{AreAllDone, AreStanding, NoneWaitsForAge, NothingWaits, WentOn};
 ghost use Rattle.wbt_run_worker.specs.declared.side.End.TheVariants.{Ended};
 ghost use Rattle.wbt_run_worker.specs.declared.side.Stand.TheVariants.{Open};
-ghost use Rattle.wbt_run_drain.specs.Turned.{HasTurned, IsLast, IsOver, MayTurn, OnlySide, end_by, rest_after, stand_by};
+ghost use Rattle.wbt_run_drain.specs.Turned.{AreOver, HasTurned, IsLast, IsOver, MayTurn, NoneRefused, NoneRefusedMore, OnlySide, StopsAtRefusal, end_by, rest_after, stand_by};
 
 use std::sync::Wait;
 use wbt_io::{Clock, Disk, Gate};
@@ -70,6 +70,10 @@ pub fn drain<R: Wait, C: Clock, G: Gate, D: Disk>(
     ensures over { HaveEnded sides.new → AreAllDone sides.new }
     ensures emptied { HaveEnded sides.new → NothingWaits trace.now seats.new }
     ensures aged { HaveEnded sides.new → NoneWaitsForAge sides.new }
+
+    // Of a CPU that goes on no flusher is open, though another CPU was halted. The drain stops at the first flusher that is refused memory.
+    ensures others { NoneRefused sides.new → AreOver sides.new }
+    ensures stops { StopsAtRefusal sides.old sides.new }
 {
     'passes: for _ in hands.rt.forever() {
         let pass = pass_all(hands, trace, seats, sides);
@@ -94,11 +98,14 @@ fn pass_all<R: Wait, C: Clock, G: Gate, D: Disk>(
     ensures standing { AreStanding (C.told hands.now.clock.now) (G.said hands.now.gate.now) D.written D.faults trace.now hands.now.kit.now sides.new seats.new }
     ensures went { WentOn trace.now sides.old sides.new seats.old seats.new }
     ensures over { result.again ≡ false → HaveEnded sides.new → AreAllDone sides.new }
+    ensures others { result.again ≡ false → NoneRefused sides.new → AreOver sides.new }
+    ensures goes { result.again ≡ true → NoneRefusedMore sides.old sides.new }
+    ensures stops { StopsAtRefusal sides.old sides.new }
 {
     let mut pass = NOBODY;
     'cpus: for cpu in 0..sides.len() {
         pass = pass_side(hands, trace, seats, sides, cpu, pass);
-        if sides[cpu].end == End::Refused {
+        if ends_so(&sides[cpu], End::Refused) {
             return NOBODY;
         }
     }
@@ -133,6 +140,13 @@ fn pass_side<R: Wait, C: Clock, G: Gate, D: Disk>(
         }
     }
     pass
+}
+
+// Whether the side ended so.
+fn ends_so<D>(side: &CpuSide<'_, D>, end: End) -> bool
+    ensures { IsTrue result ↔ (side.now.end ≡ end) }
+{
+    side.end == end
 }
 
 // Whether flushers of the side are turned.
