@@ -7,3 +7,4 @@ pub mod Clock
 pub mod Lines
 pub mod Rotation
 pub mod Schedules
+pub mod Words

@@ -4,3 +4,4 @@ pub mod Laws
 pub mod Lines
 pub mod Rotation
 pub mod Schedules
+pub mod Words

@@ -40,7 +40,7 @@ at_seam : (before : List StepEntry) (e : StepEntry) (rest : List StepEntry) → 
 at_seam [] e rest = refl
 at_seam (x ∷ before) e rest = at_seam before e rest
 
-journal_steps : (trace : Trace) → (journal_of trace).steps ≡ (last_state trace).steps
+pub journal_steps : (trace : Trace) → (journal_of trace).steps ≡ (last_state trace).steps
 unfolding journal_of
 journal_steps trace = refl
 

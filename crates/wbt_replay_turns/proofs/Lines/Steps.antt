@@ -87,6 +87,12 @@ pub data Steps (trace : Trace) (a : Actor) (s u : State) : Type 0 where
   halts : u.steps ≡ s.steps → may_step trace a s ≡ false → chance_of a u ≡ chance.Nothing → Steps trace a s u
   spends : u.steps ≡ s.steps → u.spent ≡ true → Steps trace a s u
 
+-- one step, by an actor of this number
+pub record OneStep (number : ℕ) (s u : State) : Type 0 where
+  pub entry : StepEntry
+  pub is : u.steps ≡ s.steps ++ entry ∷ []
+  pub by : entry.who ≡ number
+
 -- a stopped CPU can't do anything
 stopped_idle : (s : State) (i : ℕ) → (cpu_of i s).stopped ≡ true → chance_of (who.Cpu i) s ≡ chance.Nothing
 stopped_idle s i is =
@@ -94,10 +100,10 @@ stopped_idle s i is =
     ∙ cond-true (cpu_of i s).stopped chance.Nothing (seek_job (cpu_of i s) s (length (cpu_of i s).jobs) (cpu_of i s).next) is
 
 module _ (trace : Trace) (i : ℕ) (s : State) (there : i < length s.cpus) (paced : ArePaced trace.halt s.steps s.cpus) where
-  cpu_makes : (item : Step) (rest : List Todo)
+  pub cpu_one : (item : Step) (rest : List Todo)
       → Ending trace (make_step trace i item (with_cpu i (record (cpu_of i s) { todo = rest; made = (cpu_of i s).made + 1 }) s))
-      → Steps trace (who.Cpu i) s (make_step trace i item (with_cpu i (record (cpu_of i s) { todo = rest; made = (cpu_of i s).made + 1 }) s))
-  cpu_makes item rest ending =
+      → OneStep i s (make_step trace i item (with_cpu i (record (cpu_of i s) { todo = rest; made = (cpu_of i s).made + 1 }) s))
+  cpu_one item rest ending =
       let c : Cpu = record (cpu_of i s) { todo = rest; made = (cpu_of i s).made + 1 } in
       let next : State = with_cpu i c s in
       let u : State = make_step trace i item next in
@@ -107,7 +113,7 @@ module _ (trace : Trace) (i : ℕ) (s : State) (there : i < length s.cpus) (pace
       let now = (ending.paced i there_yet).made in
       let before = (paced i there).made in
       ⊎_elim (λ none. absurd (omega (arith, now, before, here, same.made i, ap (count_by (is_made_by i)) none)))
-      (λ one. makes one.entry one.is one.who)
+      (λ one. record { entry = one.entry; is = one.is; by = one.who })
       (grew_step trace i item next)
 
   cpu_halts : is_halted trace.halt (cpu_of i s).made ≡ true → Steps trace (who.Cpu i) s (stop i s)
@@ -121,15 +127,10 @@ module _ (trace : Trace) (i : ℕ) (s : State) (there : i < length s.cpus) (pace
       either (λ (u : State). Ending trace u → Steps trace (who.Cpu i) s u) (is_halted trace.halt (cpu_of i s).made) (stop i s) _
       (λ halted ending. cpu_halts halted)
       (λ on. either (λ (u : State). Ending trace u → Steps trace (who.Cpu i) s u) (is_full s) (spend s) _
-      (λ full ending. spends refl refl) (λ room. cpu_makes item rest))
+      (λ full ending. spends refl refl) (λ room ending. let one = cpu_one item rest ending in makes one.entry one.is one.by))
   cpu_steps (todo.Silent item ∷ rest) is = absurd (cc is)
 
-pub record OneStep (s u : State) : Type 0 where
-  pub entry : StepEntry
-  pub is : u.steps ≡ s.steps ++ entry ∷ []
-  pub by : entry.who ≡ length s.cpus
-
-pub timer_makes : (trace : Trace) (item : TimerStep) (s : State) → OneStep s (make_timer_step trace item s)
+pub timer_makes : (trace : Trace) (item : TimerStep) (s : State) → OneStep (length s.cpus) s (make_timer_step trace item s)
 unfolding make_timer_step
 timer_makes trace (timer_step.Count domain) s = record { entry = _; is = refl; by = refl }
 timer_makes trace (timer_step.Peak domain) s = record { entry = _; is = refl; by = refl }
