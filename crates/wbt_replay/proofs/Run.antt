@@ -31,6 +31,14 @@ use Rattle.wbt_replay_ranges.proofs.InRange.{stays_in_range}
 use Rattle.wbt_replay_path.proofs.Following.{is_followed}
 use Rattle.wbt_replay_ends.proofs.Ended.{runs_end, ending_at, runs_complete}
 use Rattle.wbt_replay_points.proofs.Legally as legally
+use Rattle.wbt_replay_turns.specs.Clock.{ClockIsRight}
+use Rattle.wbt_replay_turns.specs.Lines.{ObeysOrder}
+use Rattle.wbt_replay_turns.specs.Rotation.{TurnsAreFair}
+use Rattle.wbt_replay_turns.specs.Schedules.{scheduled, ShowsSchedules}
+use Rattle.wbt_replay_turns.proofs.Clock.{keeps_time}
+use Rattle.wbt_replay_turns.proofs.Lines.Runs.{obeys_order}
+use Rattle.wbt_replay_turns.proofs.Rotation.{turns_fair}
+use Rattle.wbt_replay_turns.proofs.Schedules.{scheduled_lawful, is_shown}
 
 module _ (trace : Trace) (lawful : IsLawful trace) where
   stays : StaysInRange trace
@@ -107,6 +115,16 @@ module _ (trace : Trace) (lawful : IsLawful trace) where
   pub complete : CompletesAll trace
   complete = runs_complete trace lawful stays
 
+  -- The clock moves as it should, order lines are obeyed, and turns come in the order of the rotation.
+  pub clock_right : ClockIsRight trace
+  clock_right = keeps_time trace lawful stays ended
+
+  pub obeyed : ObeysOrder trace
+  obeyed = obeys_order trace lawful stays ended (ending_at trace lawful stays)
+
+  pub fair : TurnsAreFair trace
+  fair = turns_fair trace lawful stays ended
+
   -- ---- the points of a lawful journal
 
   pub folds_up : FoldsAreUp trace (journal_of trace)
@@ -179,3 +197,7 @@ module _ (trace : Trace) (lawful : IsLawful trace) where
   -- all of them
   pub is_lawful : ((journal_of trace).ending ≡ ending.Spent → ⊥) → law.IsLawful trace (journal_of trace)
   is_lawful unspent = legally.is_lawful trace lawful sound followed ended complete unspent
+
+-- Each schedule is that of a lawful trace, whose run obeys it.
+pub shows_schedules : (trace : Trace) → IsLawful trace → ShowsSchedules trace
+shows_schedules trace lawful turns h = is_shown trace lawful turns h (obeyed (scheduled trace turns) (scheduled_lawful trace lawful turns h))

@@ -23,6 +23,10 @@ ghost use Rattle.wbt_journal.specs.declared.journal.Ending.TheVariants as ending
 ghost use Rattle.wbt_journal.specs.Machine.{domains};
 ghost use Rattle.wbt_book.specs.Book.{page_word};
 ghost use Rattle.wbt_rules.specs.Things.{group_of as group_at};
+ghost use Rattle.wbt_replay_turns.specs.Clock.{ClockIsRight};
+ghost use Rattle.wbt_replay_turns.specs.Lines.{ObeysOrder};
+ghost use Rattle.wbt_replay_turns.specs.Rotation.{TurnsAreFair};
+ghost use Rattle.wbt_replay_turns.specs.Schedules.{ShowsSchedules};
 ghost use Rattle.wbt_replay_moves.specs.Pages.{book_of};
 ghost use Rattle.wbt_replay_moves.specs.Seen.{seen};
 
@@ -175,6 +179,22 @@ pub fn replay(alloc: Global, trace: &Trace) -> Result<Journal, NoMemory>
 
     // Where no CPU was stopped and the run isn't spent, every page of every write was told, and no page is left.
     ensures complete { CompletesAll trace.now }
+
+    // The clock moves by tick lines, and to the next moment at which a rest, a flight or the timer's wait ends where no order line is left
+    // and nobody can do anything. Nothing else moves it.
+    ensures clock { ClockIsRight trace.now }
+
+    // The first steps are those of the order lines' actors, line after line, each as many as its line says, or fewer where its actor can't
+    // make a further one or the run ends. No line is skipped, and none comes back.
+    ensures obeyed { ObeysOrder trace.now }
+
+    // Where no order line is left an actor finishes its turn. Then the first one that can do something has its own, in the order of the
+    // rotation: the CPUs by number, and then the timer.
+    ensures fair { TurnsAreFair trace.now }
+
+    // Each schedule of steps and ticks, of as many as there may be order lines, is that of a lawful trace: this one with other order lines.
+    // Its run makes the steps in this order, as long as each actor can make its own.
+    ensures schedules { ShowsSchedules trace.now }
 {
     match journal_of(alloc, trace) {
         Ok(journal) => Ok(journal),

@@ -246,3 +246,27 @@ returns-in-Ok-clause-ages c = run.ages c.args.trace.now c.requires.lawful
 
 pub returns-in-Err-clause-ages : goal.returns-in-Err-clause-ages
 returns-in-Err-clause-ages c = run.ages c.args.trace.now c.requires.lawful
+
+pub returns-in-Ok-clause-clock : goal.returns-in-Ok-clause-clock
+returns-in-Ok-clause-clock c = run.clock_right c.args.trace.now c.requires.lawful
+
+pub returns-in-Err-clause-clock : goal.returns-in-Err-clause-clock
+returns-in-Err-clause-clock c = run.clock_right c.args.trace.now c.requires.lawful
+
+pub returns-in-Ok-clause-obeyed : goal.returns-in-Ok-clause-obeyed
+returns-in-Ok-clause-obeyed c = run.obeyed c.args.trace.now c.requires.lawful
+
+pub returns-in-Err-clause-obeyed : goal.returns-in-Err-clause-obeyed
+returns-in-Err-clause-obeyed c = run.obeyed c.args.trace.now c.requires.lawful
+
+pub returns-in-Ok-clause-fair : goal.returns-in-Ok-clause-fair
+returns-in-Ok-clause-fair c = run.fair c.args.trace.now c.requires.lawful
+
+pub returns-in-Err-clause-fair : goal.returns-in-Err-clause-fair
+returns-in-Err-clause-fair c = run.fair c.args.trace.now c.requires.lawful
+
+pub returns-in-Ok-clause-schedules : goal.returns-in-Ok-clause-schedules
+returns-in-Ok-clause-schedules c = run.shows_schedules c.args.trace.now c.requires.lawful
+
+pub returns-in-Err-clause-schedules : goal.returns-in-Err-clause-schedules
+returns-in-Err-clause-schedules c = run.shows_schedules c.args.trace.now c.requires.lawful

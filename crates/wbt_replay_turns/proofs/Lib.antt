@@ -1,0 +1,10 @@
+pub mod Kept
+pub mod Moments
+pub mod Runs
+pub mod Seeking
+pub mod Able
+pub mod Clock
+pub mod Lines
+pub mod Rotation
+pub mod Schedules
+pub mod Words

@@ -1,0 +1,8 @@
+-- The steps of each CPU are those of turns.
+pub mod Language
+pub mod Begun
+pub mod Todos
+pub mod Items
+pub mod Silent
+pub mod Begins
+pub mod Moves
