@@ -1,5 +1,5 @@
 -- The totals: each kind of step, the first words, a split and a join keep their rule.
-use Rattle.std.proofs.Common.{◌≡◌, ◌≢◌, ℕ, zero, suc, ◌+◌, ◌-◌, ◌%◌, ◌^◌, ◌<◌, ◌≤◌, ⊎_elim, Bool, true, false, nat_lt, cond, eqb, List, [], ◌∷◌, ◌++◌, length, get_or, set, map, replicate, sym, refl, ap, ap₂, ◌∙◌, subst, arith, eq-eqb, ne_eqb, length-set}
+use Rattle.std.proofs.Common.{◌≡◌, ◌≢◌, ℕ, zero, suc, ◌+◌, ◌-◌, ◌%◌, ◌^◌, ◌<◌, ◌≤◌, ⊎_elim, nat_lt, cond, eqb, List, [], ◌∷◌, ◌++◌, length, get_or, set, map, replicate, sym, refl, ap, ap₂, ◌∙◌, subst, arith, eq-eqb, ne_eqb, length-set}
 use mathlib.Core.Logic.{dite}
 use mathlib.Core.Option.{some, none}
 use mathlib.Core.List.{map-append}
