@@ -42,7 +42,8 @@ IsPart [] past = Unit {0}
 IsPart (note ∷ notes) [] = ⊥
 IsPart (note ∷ notes) (one ∷ older) = IsPart (note ∷ notes) older ⊎ ((note ≡ one) × IsPart notes older)
 
--- A voice noted an operation, after all that had been made by anyone. `past` is that, and what the voice had noted is part of it; and the answer is what then stood
+-- A voice noted an operation next after a history, `past`: what the voice had noted is part of it, and the answer is what then stood. That this
+-- is the one history of all voices shows where all are joined: then their notes are one
 pub record IsNoted (workers : ℕ) (act : Act) (old new : List Note) : Type 0 where
   pub past : List Note
   pub lawful : IsHistory workers past

@@ -1,4 +1,4 @@
-use Rattle.std.proofs.Common.{true, refl, ap, ◌∙◌, inl, inr, rules}
+use Rattle.std.proofs.Common.{true, refl, ap, ◌∙◌}
 use Rattle.wbt_signals.specs.Signals.{Known}
 use Rattle.wbt_run_worker.specs.TimerTurns.{timer_stance}
 use Rattle.wbt_run_worker.proofs.Speaking.{timer_looked, timer_looked_for, timer_more, timer_now, timer_refused}
