@@ -27,7 +27,10 @@ impl<'a, R: time::Clock> RealClock<'a, R> {
 }
 
 impl<R: time::Clock> Clock for RealClock<'_, R> {
-    ghost told = { λ _ _. Unit {0} };
+    ghost use Rattle.std.specs.Prelude.{◌≤◌};
+
+    // No moment is before 1, which it shows when it is made.
+    ghost told = { λ _ moment. 1 ≤ moment };
 
     fn now(&self) -> u64 {
         let ticks = self.age().map_or(0, |age| age.as_millis());
