@@ -392,10 +392,10 @@ module _ (workers slots id : ℕ) (me : Sat) (stake : 1 ≤ me.0.stakes) where
       let own = fits_at workers (bell_of s) (writers_of s) (there_of s) s.views id me.0 kept.fits at in
       let h = kept.history in
       let is : me.0.notes ≡ history_of h.past = h.theirs id me.0 at ∙ has_all (length s.views) id h.past h.owned
-          (λ j less apart.
-          let one = some_at s.views j less in
-          let poor = others_poor s.views id j me.0 one.0 at one.1 apart (kept.staked ∙ sym whole) in
-          sym (h.theirs j one.0 one.1) ∙ ((fits_at workers (bell_of s) (writers_of s) (there_of s) s.views j one.0 kept.fits one.1).poor poor).3) in
+      (λ j less apart.
+      let one = some_at s.views j less in
+      let poor = others_poor s.views id j me.0 one.0 at one.1 apart (kept.staked ∙ sym whole) in
+      sym (h.theirs j one.0 one.1) ∙ ((fits_at workers (bell_of s) (writers_of s) (there_of s) s.views j one.0 kept.fits one.1).poor poor).3) in
       subst (λ (k : ℕ). IsHistory k me.0.notes) (of_all workers s me.0 own stake) (subst (λ (l : List Note). IsHistory workers l) (sym is) h.lawful)
 
   pub learns : Allows (Kept workers) slots id me 0 (λ n. n) (Learned (step slots 0 0 0 none) me)
