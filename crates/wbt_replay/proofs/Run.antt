@@ -35,10 +35,12 @@ use Rattle.wbt_replay_turns.specs.Clock.{ClockIsRight}
 use Rattle.wbt_replay_turns.specs.Lines.{ObeysOrder}
 use Rattle.wbt_replay_turns.specs.Rotation.{TurnsAreFair}
 use Rattle.wbt_replay_turns.specs.Schedules.{scheduled, ShowsSchedules}
+use Rattle.wbt_replay_turns.specs.Words.{TakesTurns}
 use Rattle.wbt_replay_turns.proofs.Clock.{keeps_time}
 use Rattle.wbt_replay_turns.proofs.Lines.Runs.{obeys_order}
 use Rattle.wbt_replay_turns.proofs.Rotation.{turns_fair}
 use Rattle.wbt_replay_turns.proofs.Schedules.{scheduled_lawful, is_shown}
+use Rattle.wbt_replay_turns.proofs.Words.Whole.{all_take_turns}
 
 module _ (trace : Trace) (lawful : IsLawful trace) where
   stays : StaysInRange trace
@@ -124,6 +126,10 @@ module _ (trace : Trace) (lawful : IsLawful trace) where
 
   pub fair : TurnsAreFair trace
   fair = turns_fair trace lawful stays ended
+
+  -- The steps of each CPU and of the timer are those of turns.
+  pub turns : TakesTurns trace
+  turns = all_take_turns trace stays (ending_at trace lawful stays)
 
   -- ---- the points of a lawful journal
 

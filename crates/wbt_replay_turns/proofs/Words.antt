@@ -5,4 +5,7 @@ pub mod Todos
 pub mod Items
 pub mod Silent
 pub mod Begins
+pub mod Advancing
 pub mod Moves
+pub mod Timer
+pub mod Whole

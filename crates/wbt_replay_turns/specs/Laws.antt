@@ -10,6 +10,7 @@ use Rattle.wbt_replay_turns.specs.Clock.{ClockIsRight}
 use Rattle.wbt_replay_turns.specs.Lines.{ObeysOrder}
 use Rattle.wbt_replay_turns.specs.Rotation.{TurnsAreFair}
 use Rattle.wbt_replay_turns.specs.Schedules.{Turn, IsSchedule, scheduled, IsShown}
+use Rattle.wbt_replay_turns.specs.Words.{TakesTurns}
 
 -- What is kept for the end of a run holds at each moment.
 abbrev pub EndsWell : (trace : Trace) → Type 0
@@ -23,6 +24,9 @@ RunsObeyOrder = (trace : Trace) → IsLawful trace → StaysInRange trace → Ha
 
 abbrev pub RunsAreFair : Type 0
 RunsAreFair = (trace : Trace) → IsLawful trace → StaysInRange trace → HasEnded trace → TurnsAreFair trace
+
+abbrev pub RunsTakeTurns : Type 0
+RunsTakeTurns = (trace : Trace) → StaysInRange trace → EndsWell trace → TakesTurns trace
 
 abbrev pub SchedulesAreShown : Type 0
 SchedulesAreShown = (trace : Trace) → IsLawful trace → (turns : List Turn) → IsSchedule trace turns → ObeysOrder (scheduled trace turns) → IsShown trace turns

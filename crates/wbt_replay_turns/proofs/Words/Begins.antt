@@ -1,6 +1,6 @@
 -- A turn that a CPU begins: what it has to do comes to the steps of a turn.
-use Rattle.std.proofs.Common.{◌≡◌, ◌⊎◌, ℕ, zero, suc, ◌+◌, ◌<◌, Bool, true, false, cond, List, [], ◌∷◌, ◌++◌, length, get_or, refl, sym, ◌∙◌, ap, subst, arith}
-use Rattle.std.proofs.lemmas.List.{append-nil, length-set}
+use Rattle.std.proofs.Common.{◌≡◌, ℕ, ◌+◌, ◌<◌, List, [], ◌∷◌, ◌++◌, length, get_or, refl, sym, subst}
+use Rattle.std.proofs.lemmas.List.{append-nil}
 use Rattle.wbt_expiry.specs.declared.due.Due.{Due}
 use Rattle.wbt_journal.specs.Machine.{domains}
 use Rattle.wbt_journal.specs.declared.entry.Entry.TheVariants as entry
@@ -14,7 +14,6 @@ use Rattle.wbt_replay_moves.specs.Definition.Idle.{take_last, take_or_finish, fi
 use Rattle.wbt_replay_moves.specs.Definition.Perform.{begin_turn, begin_for, begin_phase}
 use Rattle.wbt_replay_moves.specs.Definition.State.{State, cpu_of, with_cpu, flusher_of, task_of, with_task, queue_of, with_queue, in_phase, is_drained, waiting_of}
 use Rattle.wbt_replay_moves.specs.Definition.Writer.{begin_due, begin_work, check_items}
-use Rattle.wbt_replay_moves.specs.declared.state.Actor.{Actor}
 use Rattle.wbt_replay_moves.specs.declared.state.Actor.TheVariants as who
 use Rattle.wbt_replay_moves.specs.declared.state.Cpu.{Cpu}
 use Rattle.wbt_replay_moves.specs.declared.state.ReplayJob.{ReplayJob}

@@ -1,6 +1,6 @@
 -- At each moment of a run the steps of each CPU are those of whole turns, and of one of which its items are left.
-use Rattle.std.proofs.Common.{◌≡◌, ◌≢◌, ◌⊎◌, inl, inr, ℕ, zero, suc, ◌+◌, ◌<◌, ◌≤◌, Bool, true, false, cond, eqb, List, [], ◌∷◌, ◌++◌, length, get_or, All, Option, Some, None, ⊎_elim, refl, sym, ◌∙◌, ap, subst, arith, eq-eqb, ne_eqb}
-use Rattle.std.proofs.lemmas.Bool.{cases_Bool, cases_lt, cond-false}
+use Rattle.std.proofs.Common.{◌≡◌, ◌≢◌, ℕ, zero, suc, ◌+◌, ◌<◌, Bool, true, false, cond, eqb, List, [], ◌∷◌, ◌++◌, length, get_or, All, Option, Some, None, ⊎_elim, refl, sym, ◌∙◌, ap, subst, arith, eq-eqb, ne_eqb}
+use Rattle.std.proofs.lemmas.Bool.{cases_lt}
 use Rattle.std.proofs.lemmas.List.{append-nil, length-set, length-append, get_or-set_same, get_or-set_other, get_or_past}
 use Rattle.std.proofs.lemmas.List.Elements.{All-nil, All-get_or}
 use mathlib.Core.Logic.{dite}
@@ -8,18 +8,14 @@ use native.Mathlib.Decide.{ℕ_discrete}
 use Rattle.wbt_flex.specs.Proportions.{after_period}
 use Rattle.wbt_flex.specs.declared.half.Half.{Half}
 use Rattle.wbt_grant.specs.declared.who.StepKind.{StepKind}
-use Rattle.wbt_journal.specs.Machine.{domains}
 use Rattle.wbt_journal.specs.declared.step.StepEntry.{StepEntry}
 use Rattle.wbt_trace.specs.declared.trace.Trace.{Trace}
 use Rattle.wbt_replay_moves.specs.Definition.Perform.{make_step, make_move, make_timer_step, make_timer_move}
-use Rattle.wbt_replay_moves.specs.Definition.State.{State, no_cpu, cpu_of, with_cpu, domain_of, is_drained}
+use Rattle.wbt_replay_moves.specs.Definition.State.{State, no_cpu, cpu_of, with_cpu, domain_of}
 use Rattle.wbt_replay_moves.specs.Definition.Timer.{with_timer, period_to, is_time, periods}
 use Rattle.wbt_replay_moves.specs.declared.state.Actor.{Actor}
 use Rattle.wbt_replay_moves.specs.declared.state.Actor.TheVariants as who
 use Rattle.wbt_replay_moves.specs.declared.state.Cpu.{Cpu}
-use Rattle.wbt_replay_moves.specs.declared.state.Domain.{Domain}
-use Rattle.wbt_replay_moves.specs.declared.state.Stretch.{Stretch}
-use Rattle.wbt_replay_moves.specs.declared.state.Stretch.TheVariants as stretch
 use Rattle.wbt_replay_moves.specs.declared.todo.Silent.{Silent}
 use Rattle.wbt_replay_moves.specs.declared.todo.Step.{Step}
 use Rattle.wbt_replay_moves.specs.declared.todo.TimerSilent.{TimerSilent}
@@ -31,35 +27,28 @@ use Rattle.wbt_replay_moves.specs.declared.todo.TimerTodo.TheVariants as timer_t
 use Rattle.wbt_replay_moves.specs.declared.todo.Todo.{Todo}
 use Rattle.wbt_replay_moves.specs.declared.todo.Todo.TheVariants as todo
 use Rattle.wbt_replay_order.specs.Definition.Opening.{first_cpu, first_cpus, opening}
-use Rattle.wbt_replay_order.specs.Definition.Order as order
-use Rattle.wbt_replay_order.specs.Definition.Order.{todo_ahead, cpu_ahead, ahead_of, turn_at, chance_by, chance_of, is_full, is_halted, spend, stop, cpu_on, timer_on, go_on, begin, with_orders, begin_or_drop, follow, next_moment, at_moment, next_turn, finish_turn, rotate_from, place_after, actor_at, seek_job, tick, advance_by, advance, is_ended}
-use Rattle.wbt_replay_order.specs.Definition.Run.{most_moves, state_at, last_state, journal_of}
-use Rattle.wbt_replay_order.specs.Kept.Ending.{Ending, ArePaced}
+use Rattle.wbt_replay_order.specs.Definition.Order.{is_full, is_halted, spend, stop, cpu_on, timer_on, go_on, begin}
+use Rattle.wbt_replay_order.specs.Definition.Run.{most_moves, last_state, journal_of}
+use Rattle.wbt_replay_order.specs.Kept.Ending.{Ending}
 use Rattle.wbt_replay_order.specs.Kept.InRange.{StaysInRange}
-use Rattle.wbt_replay_order.specs.declared.chance.Ahead.{Ahead}
-use Rattle.wbt_replay_order.specs.declared.chance.Ahead.TheVariants as ahead
-use Rattle.wbt_replay_order.specs.declared.chance.Chance.{Chance}
-use Rattle.wbt_replay_order.specs.declared.chance.Chance.TheVariants as chance
-use Rattle.wbt_replay_order.proofs.Facts.Actors.{there_by_turn}
 use Rattle.wbt_replay_order.proofs.Facts.Lists.{either, all_push}
 use Rattle.wbt_replay_order.proofs.Growth.Growing.{silent_move}
-use Rattle.wbt_replay_order.proofs.Growth.Runs.{run_none, run_last, run_stays}
 use Rattle.wbt_replay_turns.specs.Laws.{EndsWell}
-use Rattle.wbt_replay_turns.specs.Words.{IsTurn, kinds_of, TakesTurns}
+use Rattle.wbt_replay_turns.specs.Words.{kinds_of, CpusTakeTurns}
 use Rattle.wbt_replay_turns.proofs.Lines.Moves.{begins_silently}
 use Rattle.wbt_replay_turns.proofs.Lines.Runs.{journal_steps}
 use Rattle.wbt_replay_turns.proofs.Lines.Steps.{cpu_one, quiet_timer_move, timer_makes}
-use Rattle.wbt_replay_turns.proofs.Seeking.{Sought, finds, finds_none, sought}
-use Rattle.wbt_replay_turns.proofs.Words.Begins.{Opens, opens}
+use Rattle.wbt_replay_turns.proofs.Words.Advancing.{Ready, always}
+use Rattle.wbt_replay_turns.proofs.Words.Begins.{opens}
 use Rattle.wbt_replay_turns.proofs.Words.Begun.{fits_none}
 use Rattle.wbt_replay_turns.proofs.Words.Items.{Does, nothing, does, does_step}
 use Rattle.wbt_replay_turns.proofs.Words.Language.{Parses, parses_on, parses_begun, parses_cut}
-use Rattle.wbt_replay_turns.proofs.Words.Silent.{Leaves, leaves}
-use Rattle.wbt_replay_turns.proofs.Words.Todos.{Becomes, Todos, as_before, then_quiet}
+use Rattle.wbt_replay_turns.proofs.Words.Silent.{leaves}
+use Rattle.wbt_replay_turns.proofs.Words.Todos.{Todos, as_before, then_quiet}
 
 -- ---- the kinds of an actor's steps
 
-kinds_push : (i : ℕ) (steps : List StepEntry) (e : StepEntry) → kinds_of i (steps ++ e ∷ []) ≡ kinds_of i steps ++ cond (eqb e.who i) (e.kind ∷ []) []
+pub kinds_push : (i : ℕ) (steps : List StepEntry) (e : StepEntry) → kinds_of i (steps ++ e ∷ []) ≡ kinds_of i steps ++ cond (eqb e.who i) (e.kind ∷ []) []
 kinds_push i [] e = refl
 kinds_push i (x ∷ steps) e = by_test (eqb x.who i) (kinds_push i steps e)
   where
@@ -69,26 +58,17 @@ kinds_push i (x ∷ steps) e = by_test (eqb x.who i) (kinds_push i steps e)
     by_test true is = ap (λ (l : List StepKind). x.kind ∷ l) is
     by_test false is = is
 
-kinds_own : (i : ℕ) (steps more : List StepEntry) (e : StepEntry) (k : StepKind) → more ≡ steps ++ e ∷ [] → e.who ≡ i → e.kind ≡ k → kinds_of i more ≡ kinds_of i steps ++ k ∷ []
+pub kinds_own : (i : ℕ) (steps more : List StepEntry) (e : StepEntry) (k : StepKind) → more ≡ steps ++ e ∷ [] → e.who ≡ i → e.kind ≡ k → kinds_of i more ≡ kinds_of i steps ++ k ∷ []
 kinds_own i steps more e k is by kind =
     ap (kinds_of i) is ∙ (kinds_push i steps e ∙ (ap (λ (b : Bool). kinds_of i steps ++ cond b (e.kind ∷ []) []) (eq-eqb e.who i by)
     ∙ ap (λ (j : StepKind). kinds_of i steps ++ j ∷ []) kind))
 
-kinds_other : (i j : ℕ) (steps more : List StepEntry) (e : StepEntry) → more ≡ steps ++ e ∷ [] → e.who ≡ i → j ≢ i → kinds_of j more ≡ kinds_of j steps
+pub kinds_other : (i j : ℕ) (steps more : List StepEntry) (e : StepEntry) → more ≡ steps ++ e ∷ [] → e.who ≡ i → j ≢ i → kinds_of j more ≡ kinds_of j steps
 kinds_other i j steps more e is by other =
     ap (kinds_of j) is ∙ (kinds_push j steps e ∙ (ap (λ (b : Bool). kinds_of j steps ++ cond b (e.kind ∷ []) []) (ne_eqb e.who j (λ same. other (sym same ∙ by)))
     ∙ append-nil (kinds_of j steps)))
 
 -- ---- what holds at each moment
-
--- what is needed of a state for a move
-pub record ReadyIn (trace : Trace) (steps : List StepEntry) (cpus : List Cpu) (ds : List Domain) : Type 0 where
-  pub paced : ArePaced trace.halt steps cpus
-  pub many : length cpus ≡ trace.cpus
-  pub domains_many : length ds ≡ domains trace
-
-abbrev Ready : (trace : Trace) (s : State) → Type 0
-Ready trace s = ReadyIn trace s.steps s.cpus s.domains
 
 -- each CPU's steps, by the CPUs and steps of a state
 abbrev ParsesIn : (trace : Trace) (steps : List StepEntry) (cpus : List Cpu) → Type 0
@@ -182,7 +162,7 @@ module _ (trace : Trace) (i : ℕ) (s : State) (there : i < length s.cpus) (read
 
 -- ---- the timer
 
-timer_cpus : (trace : Trace) (item : TimerStep) (s : State) → (make_timer_step trace item s).cpus ≡ s.cpus
+pub timer_cpus : (trace : Trace) (item : TimerStep) (s : State) → (make_timer_step trace item s).cpus ≡ s.cpus
 unfolding make_timer_step
 timer_cpus trace (timer_step.Count domain) s = refl
 timer_cpus trace (timer_step.Peak domain) s = refl
@@ -221,20 +201,6 @@ on_actor trace (who.Cpu i) s ready h ending = ⊎_elim
     (cases_lt i (length s.cpus))
 on_actor trace who.Timer s ready h ending = by_timer trace s h s.timer.todo
 
--- who can begin a turn has nothing left of the one before
-free_cpu : (s : State) (i job place : ℕ) → ahead_of (who.Cpu i) s ≡ ahead.Nothing → turn_at (who.Cpu i) s ≡ chance.Begins job place → (cpu_of i s).todo ≡ []
-free_cpu s i n place none found = by_stopped (cpu_of i s).stopped refl found
-  where
-    by_todo : (ts : List Todo) → (cpu_of i s).todo ≡ ts → todo_ahead ts ≡ ahead.Nothing → (cpu_of i s).todo ≡ []
-    by_todo [] is e = is
-    by_todo (todo.Step item ∷ rest) is e = absurd (cc e)
-    by_todo (todo.Silent item ∷ rest) is e = absurd (cc e)
-
-    by_stopped : (b : Bool) → (cpu_of i s).stopped ≡ b
-        → cond b chance.Nothing (seek_job (cpu_of i s) s (length (cpu_of i s).jobs) (cpu_of i s).next) ≡ chance.Begins n place → (cpu_of i s).todo ≡ []
-    by_stopped true is e = absurd (cc e)
-    by_stopped false is e = by_todo (cpu_of i s).todo refl (sym (cond-false (cpu_of i s).stopped ahead.Nothing (todo_ahead (cpu_of i s).todo) is) ∙ none)
-
 begin_cpu : (trace : Trace) (i job place : ℕ) (s : State) → Ready trace s → P trace s → i < length s.cpus → (cpu_of i s).todo ≡ []
     → P trace (begin trace (who.Cpu i) job place s)
 begin_cpu trace i n place s ready h there free =
@@ -243,65 +209,6 @@ begin_cpu trace i n place s ready h there free =
     let before = subst (λ (l : List Todo). Parses trace l (kinds_of i s.steps)) free (h i there) in
     moved trace s h i o.items (begin trace (who.Cpu i) n place s) o.todos (λ j m. ap (kinds_of j) silent)
     (subst (Parses trace o.items) (ap (kinds_of i) (sym silent)) (parses_begun trace o.items (kinds_of i s.steps) o.fits before))
-
--- ---- a move of the run
-
-module _ (trace : Trace) (s : State) (ready : Ready trace s) (h : P trace s) where
-  -- the turn that an actor was found to begin, or its next move, also where the rotation was changed
-  by_chance : (a : Actor) (turn : Option Actor) (next : Ahead) → ahead_of a s ≡ next → (found : Chance) → chance_by next a s ≡ found
-      → Ending trace (order.take trace a found (record s { rotation = turn })) → P trace (order.take trace a found (record s { rotation = turn }))
-  by_chance a turn next is chance.Nothing found ending = h
-  by_chance a turn next is chance.GoesOn found ending = on_actor trace a (record s { rotation = turn }) ready h ending
-  by_chance (who.Cpu i) turn ahead.Nothing is (chance.Begins n place) found ending = begin_cpu trace i n place (record s { rotation = turn }) ready h (there_by_turn s i n place found) (free_cpu s i n place is found)
-  by_chance (who.Cpu i) turn ahead.Step is (chance.Begins n place) found ending = absurd (cc found)
-  by_chance (who.Cpu i) turn ahead.Silent is (chance.Begins n place) found ending = absurd (cc found)
-  by_chance who.Timer turn next is (chance.Begins n place) found ending = h
-  by_chance a turn next is chance.TimerBegins found ending = h
-
-  by_moment : (found : Option ℕ) → P trace (at_moment found s)
-  by_moment None = h
-  by_moment (Some m) = h
-
-  by_search : (u : State) → Sought trace s (place_after s.rotation s) u → Ending trace u → P trace u
-  by_search u (finds d inside passed some is) ending =
-      let a : Actor = actor_at _ s in
-      subst (P trace) (sym is) (by_chance a (Some a) (ahead_of a s) refl (chance_of a s) refl (subst (Ending trace) is ending))
-  by_search u (finds_none passed is) ending = subst (P trace) (sym is) (by_moment (next_moment s))
-
-  by_next : Ending trace (next_turn trace s) → P trace (next_turn trace s)
-  by_next = by_search (next_turn trace s) (sought trace s)
-
-  by_finish : (a : Actor) (next : Ahead) → Ending trace (finish_turn trace a next s) → P trace (finish_turn trace a next s)
-  by_finish a ahead.Step = on_actor trace a s ready h
-  by_finish a ahead.Silent = on_actor trace a s ready h
-  by_finish a ahead.Nothing = by_next
-
-  by_rotation : (turn : Option Actor) → Ending trace (rotate_from trace turn s) → P trace (rotate_from trace turn s)
-  by_rotation None = by_next
-  by_rotation (Some a) = by_finish a (ahead_of a s)
-
-  by_found : (a : Actor) → ahead_of a s ≡ ahead.Nothing → (found : Chance) → turn_at a s ≡ found → (more : List Stretch)
-      → Ending trace (begin_or_drop trace a found more s) → P trace (begin_or_drop trace a found more s)
-  by_found a none chance.Nothing is more ending = h
-  by_found a none chance.GoesOn is more ending = on_actor trace a s ready h ending
-  by_found (who.Cpu i) none (chance.Begins n place) is more ending = begin_cpu trace i n place s ready h (there_by_turn s i n place is) (free_cpu s i n place none is)
-  by_found who.Timer none (chance.Begins n place) is more ending = h
-  by_found a none chance.TimerBegins is more ending = h
-
-  by_line : (a : Actor) (steps : ℕ) (next : Ahead) → ahead_of a s ≡ next → (more : List Stretch) → Ending trace (follow trace a steps next more s) → P trace (follow trace a steps next more s)
-  by_line a steps ahead.Silent is more ending = on_actor trace a s ready h ending
-  by_line a zero ahead.Step is more ending = h
-  by_line a (suc steps) ahead.Step is more ending = on_actor trace a (with_orders (stretch.Steps a steps ∷ more) s) ready h ending
-  by_line a zero ahead.Nothing is more ending = h
-  by_line a (suc steps) ahead.Nothing is more ending = by_found a is (turn_at a s) refl more ending
-
-  by_orders : (orders : List Stretch) → Ending trace (advance_by trace orders s) → P trace (advance_by trace orders s)
-  by_orders [] = by_rotation s.rotation
-  by_orders (stretch.Tick ticks ∷ more) = λ ending. h
-  by_orders (stretch.Steps a steps ∷ more) = by_line a steps (ahead_of a s) refl more
-
-  on_move : Ending trace (advance trace s) → P trace (advance trace s)
-  on_move = by_orders s.orders
 
 -- ---- the run
 
@@ -322,22 +229,10 @@ opens_so trace i less =
     subst (Parses trace (cpu_of i (opening trace)).todo) (sym (first_kinds trace i))
     (subst (λ (l : List Todo). Parses trace l []) (sym (first_todo trace i less)) ([], λ more runs. fits_none trace more runs))
 
-module _ (trace : Trace) (stays : StaysInRange trace) (h : EndsWell trace) where
-  ready_at : (m : ℕ) → Ready trace (state_at trace m)
-  ready_at m = record { paced = (h m).paced; many = (stays.sound m).holds.cpus.many; domains_many = (stays.sound m).holds.domains.many }
-
-  along : (m : ℕ) → P trace (state_at trace m)
-  along zero = subst (P trace) (sym (run_none trace 0 (opening trace) refl)) (opens_so trace)
-  along (suc m) = ⊎_elim
-      (λ over. subst (P trace) (sym (run_stays trace m (suc m) (opening trace) (omega arith) over)) (along m))
-      (λ going.
-      let next = run_last trace m (suc m) (opening trace) (omega arith) going in
-      subst (P trace) (sym next) (on_move trace (state_at trace m) (ready_at m) (along m) (subst (Ending trace) next (h (suc m)))))
-      (cases_Bool (is_ended (state_at trace m)))
-
-  pub takes_turns : TakesTurns trace
-  takes_turns cpu there =
-      let s : State = last_state trace in
-      let at : Parses trace (cpu_of cpu s).todo (kinds_of cpu s.steps) = along most_moves cpu (omega (arith, there, (stays.sound most_moves).holds.cpus.many)) in
-      parses_cut trace (cpu_of cpu s).todo (kinds_of cpu (journal_of trace).steps)
-      (subst (Parses trace (cpu_of cpu s).todo) (ap (kinds_of cpu) (sym (journal_steps trace))) at)
+pub takes_turns : (trace : Trace) → StaysInRange trace → EndsWell trace → CpusTakeTurns trace
+takes_turns trace stays h cpu there =
+    let s : State = last_state trace in
+    let along = always trace (P trace) (λ s now orders rotation k. k) (on_actor trace) (begin_cpu trace) (λ s ready k free. k) stays h (opens_so trace) in
+    let at : Parses trace (cpu_of cpu s).todo (kinds_of cpu s.steps) = along most_moves cpu (omega (arith, there, (stays.sound most_moves).holds.cpus.many)) in
+    parses_cut trace (cpu_of cpu s).todo (kinds_of cpu (journal_of trace).steps)
+    (subst (Parses trace (cpu_of cpu s).todo) (ap (kinds_of cpu) (sym (journal_steps trace))) at)
