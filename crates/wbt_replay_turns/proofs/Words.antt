@@ -1,6 +1,6 @@
 -- The steps of each CPU are those of turns.
 pub mod Language
-pub mod Begun
+pub mod Fits
 pub mod Todos
 pub mod Items
 pub mod Silent

@@ -55,7 +55,7 @@ free_cpu s i n place none found = by_stopped (cpu_of i s).stopped refl found
     by_stopped true is e = absurd (cc e)
     by_stopped false is e = by_todo (cpu_of i s).todo refl (sym (cond-false (cpu_of i s).stopped ahead.Nothing (todo_ahead (cpu_of i s).todo) is) ∙ none)
 
--- so does the timer
+-- nor has the timer, where it can begin one
 free_timer : (s : State) → ahead_of who.Timer s ≡ ahead.Nothing → turn_at who.Timer s ≡ chance.TimerBegins → s.timer.todo ≡ []
 free_timer s none found = by_test (not (is_drained s) && leb s.timer.next s.now) refl found
   where

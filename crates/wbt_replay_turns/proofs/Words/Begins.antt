@@ -30,7 +30,7 @@ use Rattle.wbt_replay_moves.specs.declared.todo.Todo.{Todo}
 use Rattle.wbt_replay_moves.specs.declared.todo.Todo.TheVariants as todo
 use Rattle.wbt_replay_order.specs.Definition.Order.{after, job_at, begin_job, begin}
 use Rattle.wbt_replay_order.proofs.Facts.Lists.{either}
-use Rattle.wbt_replay_turns.proofs.Words.Begun.{Fits, fits_none, fits_end, fits_check, fits_write, fits_unmark, fits_look, fits_complete, fits_test}
+use Rattle.wbt_replay_turns.proofs.Words.Fits.{Fits, fits_none, fits_end, fits_check, fits_write, fits_unmark, fits_look, fits_complete, fits_test}
 use Rattle.wbt_replay_turns.proofs.Words.Todos.{Todos, as_before, then_next, then_last, then_log, then_quiet}
 
 -- The CPU has a turn to do, and nothing else.

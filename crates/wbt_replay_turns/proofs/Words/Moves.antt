@@ -40,7 +40,7 @@ use Rattle.wbt_replay_turns.proofs.Lines.Runs.{journal_steps}
 use Rattle.wbt_replay_turns.proofs.Lines.Steps.{cpu_one, quiet_timer_move, timer_makes}
 use Rattle.wbt_replay_turns.proofs.Words.Advancing.{Ready, always}
 use Rattle.wbt_replay_turns.proofs.Words.Begins.{opens}
-use Rattle.wbt_replay_turns.proofs.Words.Begun.{fits_none}
+use Rattle.wbt_replay_turns.proofs.Words.Fits.{fits_none}
 use Rattle.wbt_replay_turns.proofs.Words.Items.{Does, nothing, does, does_step}
 use Rattle.wbt_replay_turns.proofs.Words.Language.{Parses, parses_on, parses_begun, parses_cut}
 use Rattle.wbt_replay_turns.proofs.Words.Silent.{leaves}
@@ -74,36 +74,36 @@ kinds_other i j steps more e is by other =
 abbrev ParsesIn : (trace : Trace) (steps : List StepEntry) (cpus : List Cpu) → Type 0
 ParsesIn trace steps cpus = (i : ℕ) → i < length cpus → Parses trace (get_or cpus i no_cpu).todo (kinds_of i steps)
 
-abbrev P : (trace : Trace) (s : State) → Type 0
-P trace s = ParsesIn trace s.steps s.cpus
+abbrev AllParse : (trace : Trace) (s : State) → Type 0
+AllParse trace s = ParsesIn trace s.steps s.cpus
 
-module _ (trace : Trace) (s : State) (h : P trace s) where
+module _ (trace : Trace) (s : State) (h : AllParse trace s) where
   -- one CPU moved, and the others made no step
   moved : (i : ℕ) (todos : List Todo) (u : State) → Todos i todos s u → ((j : ℕ) → j ≢ i → kinds_of j u.steps ≡ kinds_of j s.steps)
-      → Parses trace todos (kinds_of i u.steps) → P trace u
+      → Parses trace todos (kinds_of i u.steps) → AllParse trace u
   moved i todos u b others here j less = dite (ℕ_discrete j i)
       (λ e. subst (λ (n : ℕ). Parses trace (cpu_of n u).todo (kinds_of n u.steps)) (sym e) (subst (λ (l : List Todo). Parses trace l (kinds_of i u.steps)) (sym b.here) here))
       (λ n. subst (λ (l : List Todo). Parses trace l (kinds_of j u.steps)) (sym (b.others j n))
       (subst (Parses trace (cpu_of j s).todo) (sym (others j n)) (h j (omega (arith, less, b.many)))))
 
   -- a CPU is changed, but not what it has to do, and no step is made
-  quietly : (i : ℕ) → i < length s.cpus → (u : State) → Todos i (cpu_of i s).todo s u → u.steps ≡ s.steps → P trace u
+  quietly : (i : ℕ) → i < length s.cpus → (u : State) → Todos i (cpu_of i s).todo s u → u.steps ≡ s.steps → AllParse trace u
   quietly i there u b same =
       moved i (cpu_of i s).todo u b (λ j n. ap (kinds_of j) same) (subst (Parses trace (cpu_of i s).todo) (ap (kinds_of i) (sym same)) (h i there))
 
   -- the timer makes a step, which is none of a CPU
-  timely : (u : State) (e : StepEntry) → u.cpus ≡ s.cpus → u.steps ≡ s.steps ++ e ∷ [] → e.who ≡ length s.cpus → P trace u
+  timely : (u : State) (e : StepEntry) → u.cpus ≡ s.cpus → u.steps ≡ s.steps ++ e ∷ [] → e.who ≡ length s.cpus → AllParse trace u
   timely u e cpus steps by =
       subst (λ (l : List Cpu). ParsesIn trace u.steps l) (sym cpus)
       (λ j less. subst (Parses trace (cpu_of j s).todo) (sym (kinds_other (length s.cpus) j s.steps u.steps e steps by (λ e. omega (arith, e, less)))) (h j less))
 
   -- neither CPUs nor steps are changed
-  same : (u : State) → u.cpus ≡ s.cpus → u.steps ≡ s.steps → P trace u
+  same : (u : State) → u.cpus ≡ s.cpus → u.steps ≡ s.steps → AllParse trace u
   same u cpus steps = subst (λ (l : List Cpu). ParsesIn trace u.steps l) (sym cpus) (subst (λ (l : List StepEntry). ParsesIn trace l s.cpus) (sym steps) h)
 
 -- ---- a CPU goes on
 
-module _ (trace : Trace) (i : ℕ) (s : State) (there : i < length s.cpus) (ready : Ready trace s) (h : P trace s) where
+module _ (trace : Trace) (i : ℕ) (s : State) (there : i < length s.cpus) (ready : Ready trace s) (h : AllParse trace s) where
   -- what others have, after an item was taken and then done
   composed : (c : Cpu) (todos : List Todo) (u : State) → Todos i todos (with_cpu i c s) u → Todos i todos s u
   composed c todos u b = record {
@@ -114,7 +114,7 @@ module _ (trace : Trace) (i : ℕ) (s : State) (there : i < length s.cpus) (read
 
   by_item : (item : Step) (rest : List Todo) → (cpu_of i s).todo ≡ todo.Step item ∷ rest
       → Ending trace (make_step trace i item (with_cpu i (record (cpu_of i s) { todo = rest; made = (cpu_of i s).made + 1 }) s))
-      → P trace (make_step trace i item (with_cpu i (record (cpu_of i s) { todo = rest; made = (cpu_of i s).made + 1 }) s))
+      → AllParse trace (make_step trace i item (with_cpu i (record (cpu_of i s) { todo = rest; made = (cpu_of i s).made + 1 }) s))
   by_item item rest is ending =
       let c : Cpu = record (cpu_of i s) { todo = rest; made = (cpu_of i s).made + 1 } in
       by_does item rest is ending (does_step trace i (with_cpu i c s) (omega (arith, there, length-set s.cpus i c)) item)
@@ -123,7 +123,7 @@ module _ (trace : Trace) (i : ℕ) (s : State) (there : i < length s.cpus) (read
           → Ending trace (make_step trace i item (with_cpu i (record (cpu_of i s) { todo = rest; made = (cpu_of i s).made + 1 }) s))
           → Does i item (with_cpu i (record (cpu_of i s) { todo = rest; made = (cpu_of i s).made + 1 }) s)
           (make_step trace i item (with_cpu i (record (cpu_of i s) { todo = rest; made = (cpu_of i s).made + 1 }) s))
-          → P trace (make_step trace i item (with_cpu i (record (cpu_of i s) { todo = rest; made = (cpu_of i s).made + 1 }) s))
+          → AllParse trace (make_step trace i item (with_cpu i (record (cpu_of i s) { todo = rest; made = (cpu_of i s).made + 1 }) s))
       by_does item rest is ending (nothing none) =
           let one = cpu_one trace i s there ready.paced item rest ending in
           absurd (omega (arith, ap (λ (l : List StepEntry). length l) none, ap (λ (l : List StepEntry). length l) one.is, length-append s.steps (one.entry ∷ [])))
@@ -138,7 +138,7 @@ module _ (trace : Trace) (i : ℕ) (s : State) (there : i < length s.cpus) (read
           moved trace s h i (items ++ rest) u (composed c (items ++ rest) u all) (λ j n. kinds_other i j s.steps u.steps e steps by n)
           (subst (Parses trace (items ++ rest)) (sym own) (parses_on trace (todo.Step item) items rest (k ∷ []) (kinds_of i s.steps) yields before))
 
-  by_silent : (item : Silent) (rest : List Todo) → (cpu_of i s).todo ≡ todo.Silent item ∷ rest → P trace (make_move trace i item (with_cpu i (record (cpu_of i s) { todo = rest }) s))
+  by_silent : (item : Silent) (rest : List Todo) → (cpu_of i s).todo ≡ todo.Silent item ∷ rest → AllParse trace (make_move trace i item (with_cpu i (record (cpu_of i s) { todo = rest }) s))
   by_silent item rest is =
       let c : Cpu = record (cpu_of i s) { todo = rest } in
       let next : State = with_cpu i c s in
@@ -152,12 +152,12 @@ module _ (trace : Trace) (i : ℕ) (s : State) (there : i < length s.cpus) (read
       (subst (Parses trace (l.items ++ rest)) (append-nil (kinds_of i s.steps) ∙ ap (kinds_of i) (sym silent))
       (parses_on trace (todo.Silent item) l.items rest [] (kinds_of i s.steps) l.yields before))
 
-  by_cpu : (todos : List Todo) → (cpu_of i s).todo ≡ todos → Ending trace (cpu_on trace i todos s) → P trace (cpu_on trace i todos s)
+  by_cpu : (todos : List Todo) → (cpu_of i s).todo ≡ todos → Ending trace (cpu_on trace i todos s) → AllParse trace (cpu_on trace i todos s)
   by_cpu [] is = λ ending. h
   by_cpu (todo.Step item ∷ rest) is =
-      either (λ (u : State). Ending trace u → P trace u) (is_halted trace.halt (cpu_of i s).made) (stop i s) _
+      either (λ (u : State). Ending trace u → AllParse trace u) (is_halted trace.halt (cpu_of i s).made) (stop i s) _
       (λ halted ending. quietly trace s h i there (stop i s) (then_quiet i s there (cpu_of i s).todo s _ (as_before i s) refl) refl)
-      (λ on. either (λ (u : State). Ending trace u → P trace u) (is_full s) (spend s) _ (λ full ending. h) (λ room. by_item item rest is))
+      (λ on. either (λ (u : State). Ending trace u → AllParse trace u) (is_full s) (spend s) _ (λ full ending. h) (λ room. by_item item rest is))
   by_cpu (todo.Silent item ∷ rest) is = λ ending. by_silent item rest is
 
 -- ---- the timer
@@ -181,10 +181,10 @@ silent_cpus (timer_silent.Period domain) s =
     (λ time. period_cpus domain (periods s.timer) (after_period (domain_of domain s).events (periods s.timer)) s) (λ early. refl)
 silent_cpus timer_silent.Rest s = refl
 
-by_timer : (trace : Trace) (s : State) → P trace s → (todos : List TimerTodo) → P trace (timer_on trace todos s)
+by_timer : (trace : Trace) (s : State) → AllParse trace s → (todos : List TimerTodo) → AllParse trace (timer_on trace todos s)
 by_timer trace s h [] = h
 by_timer trace s h (timer_todo.Step item ∷ rest) =
-    either (P trace) (is_full s) (spend s) _ (λ full. h)
+    either (AllParse trace) (is_full s) (spend s) _ (λ full. h)
     (λ room.
     let t = with_timer (record s.timer { todo = rest }) s in
     let one = timer_makes trace item t in
@@ -194,15 +194,15 @@ by_timer trace s h (timer_todo.Silent item ∷ rest) =
 
 -- ---- an actor
 
-on_actor : (trace : Trace) (a : Actor) (s : State) → Ready trace s → P trace s → Ending trace (go_on trace a s) → P trace (go_on trace a s)
+on_actor : (trace : Trace) (a : Actor) (s : State) → Ready trace s → AllParse trace s → Ending trace (go_on trace a s) → AllParse trace (go_on trace a s)
 on_actor trace (who.Cpu i) s ready h ending = ⊎_elim
     (λ there. by_cpu trace i s there ready h (cpu_of i s).todo refl ending)
-    (λ past. subst (P trace) (sym (ap (λ (l : List Todo). cpu_on trace i l s) (ap (λ (c : Cpu). c.todo) (get_or_past s.cpus i no_cpu past)))) h)
+    (λ past. subst (AllParse trace) (sym (ap (λ (l : List Todo). cpu_on trace i l s) (ap (λ (c : Cpu). c.todo) (get_or_past s.cpus i no_cpu past)))) h)
     (cases_lt i (length s.cpus))
 on_actor trace who.Timer s ready h ending = by_timer trace s h s.timer.todo
 
-begin_cpu : (trace : Trace) (i job place : ℕ) (s : State) → Ready trace s → P trace s → i < length s.cpus → (cpu_of i s).todo ≡ []
-    → P trace (begin trace (who.Cpu i) job place s)
+begin_cpu : (trace : Trace) (i job place : ℕ) (s : State) → Ready trace s → AllParse trace s → i < length s.cpus → (cpu_of i s).todo ≡ []
+    → AllParse trace (begin trace (who.Cpu i) job place s)
 begin_cpu trace i n place s ready h there free =
     let o = opens trace i s there free ready.domains_many n place in
     let silent = begins_silently trace (who.Cpu i) n place s in
@@ -224,7 +224,7 @@ first_kinds : (trace : Trace) (i : ℕ) → kinds_of i (opening trace).steps ≡
 unfolding opening
 first_kinds trace i = refl
 
-opens_so : (trace : Trace) → P trace (opening trace)
+opens_so : (trace : Trace) → AllParse trace (opening trace)
 opens_so trace i less =
     subst (Parses trace (cpu_of i (opening trace)).todo) (sym (first_kinds trace i))
     (subst (λ (l : List Todo). Parses trace l []) (sym (first_todo trace i less)) ([], λ more runs. fits_none trace more runs))
@@ -232,7 +232,7 @@ opens_so trace i less =
 pub takes_turns : (trace : Trace) → StaysInRange trace → EndsWell trace → CpusTakeTurns trace
 takes_turns trace stays h cpu there =
     let s : State = last_state trace in
-    let along = always trace (P trace) (λ s now orders rotation k. k) (on_actor trace) (begin_cpu trace) (λ s ready k free. k) stays h (opens_so trace) in
+    let along = always trace (AllParse trace) (λ s now orders rotation k. k) (on_actor trace) (begin_cpu trace) (λ s ready k free. k) stays h (opens_so trace) in
     let at : Parses trace (cpu_of cpu s).todo (kinds_of cpu s.steps) = along most_moves cpu (omega (arith, there, (stays.sound most_moves).holds.cpus.many)) in
     parses_cut trace (cpu_of cpu s).todo (kinds_of cpu (journal_of trace).steps)
     (subst (Parses trace (cpu_of cpu s).todo) (ap (kinds_of cpu) (sym (journal_steps trace))) at)

@@ -111,12 +111,12 @@ abbrev TimesIn : (trace : Trace) (steps : List StepEntry) (todos : List TimerTod
 TimesIn trace steps todos = (turns : ℕ) × (kinds_of trace.cpus steps ++ left_of todos ≡ repeated turns (publications (domains trace)))
     × (length (left_of todos) ≤ length (publications (domains trace)))
 
-abbrev Q : (trace : Trace) (s : State) → Type 0
-Q trace s = TimesIn trace s.steps s.timer.todo
+abbrev TimerParses : (trace : Trace) (s : State) → Type 0
+TimerParses trace s = TimesIn trace s.steps s.timer.todo
 
-module _ (trace : Trace) (s : State) (ready : Ready trace s) (h : Q trace s) where
+module _ (trace : Trace) (s : State) (ready : Ready trace s) (h : TimerParses trace s) where
   -- the timer's steps and its turn stay
-  stays : (u : State) → kinds_of trace.cpus u.steps ≡ kinds_of trace.cpus s.steps → u.timer.todo ≡ s.timer.todo → Q trace u
+  stays : (u : State) → kinds_of trace.cpus u.steps ≡ kinds_of trace.cpus s.steps → u.timer.todo ≡ s.timer.todo → TimerParses trace u
   stays u kinds todos = (
     h.0,
     ap (λ (l : List StepKind). l ++ left_of u.timer.todo) kinds
@@ -125,7 +125,7 @@ module _ (trace : Trace) (s : State) (ready : Ready trace s) (h : Q trace s) whe
   )
 
   -- a step of a CPU
-  by_cpu : (i : ℕ) → i < length s.cpus → Q trace (cpu_on trace i (cpu_of i s).todo s)
+  by_cpu : (i : ℕ) → i < length s.cpus → TimerParses trace (cpu_on trace i (cpu_of i s).todo s)
   by_cpu i there =
       let u = cpu_on trace i (cpu_of i s).todo s in
       stays u
@@ -134,10 +134,10 @@ module _ (trace : Trace) (s : State) (ready : Ready trace s) (h : Q trace s) whe
       (grown_cpu trace i (cpu_of i s).todo s))
       (ap (λ (o : Outside). o.timer.todo) (apart_cpu trace i (cpu_of i s).todo s))
 
-  by_timer : (todos : List TimerTodo) → s.timer.todo ≡ todos → Q trace (timer_on trace todos s)
+  by_timer : (todos : List TimerTodo) → s.timer.todo ≡ todos → TimerParses trace (timer_on trace todos s)
   by_timer [] is = h
   by_timer (timer_todo.Step item ∷ rest) is =
-      either (Q trace) (is_full s) (spend s) _ (λ full. h)
+      either (TimerParses trace) (is_full s) (spend s) _ (λ full. h)
       (λ room.
       let t = with_timer (record s.timer { todo = rest }) s in
       let u = make_timer_step trace item t in
@@ -161,19 +161,19 @@ module _ (trace : Trace) (s : State) (ready : Ready trace s) (h : Q trace s) whe
         omega (arith, h.2, ap (λ (l : List TimerTodo). length (left_of l)) (silent_left item t), ap (λ (l : List TimerTodo). length (left_of l)) is),
       )
 
-  by_actor : (a : Actor) → Q trace (go_on trace a s)
+  by_actor : (a : Actor) → TimerParses trace (go_on trace a s)
   by_actor (who.Cpu i) = ⊎_elim (by_cpu i)
-      (λ past. subst (Q trace) (sym (ap (λ (l : List Todo). cpu_on trace i l s) (ap (λ (c : Cpu). c.todo) (get_or_past s.cpus i no_cpu past)))) h)
+      (λ past. subst (TimerParses trace) (sym (ap (λ (l : List Todo). cpu_on trace i l s) (ap (λ (c : Cpu). c.todo) (get_or_past s.cpus i no_cpu past)))) h)
       (cases_lt i (length s.cpus))
   by_actor who.Timer = by_timer s.timer.todo refl
 
-  by_begin : (i job place : ℕ) → Q trace (begin trace (who.Cpu i) job place s)
+  by_begin : (i job place : ℕ) → TimerParses trace (begin trace (who.Cpu i) job place s)
   by_begin i job place =
       stays (begin trace (who.Cpu i) job place s) (ap (kinds_of trace.cpus) (begins_silently trace (who.Cpu i) job place s))
       (ap (λ (o : Outside). o.timer.todo) (apart_begin trace (who.Cpu i) job place s))
 
   -- a turn more
-  by_times : s.timer.todo ≡ [] → Q trace (begin_timer s)
+  by_times : s.timer.todo ≡ [] → TimerParses trace (begin_timer s)
   by_times none =
       let items : List TimerTodo = turn_items (length s.domains) in
       let more : left_of (s.timer.todo ++ items) ≡ left_of items = ap (λ (l : List TimerTodo). left_of (l ++ items)) none in
@@ -187,16 +187,16 @@ module _ (trace : Trace) (s : State) (ready : Ready trace s) (h : Q trace s) whe
 
 -- ---- the run
 
-opens_so : (trace : Trace) → Q trace (opening trace)
+opens_so : (trace : Trace) → TimerParses trace (opening trace)
 unfolding opening
 opens_so trace = (0, refl, omega arith)
 
 pub timer_turns : (trace : Trace) → StaysInRange trace → EndsWell trace → TimerTakesTurns trace
 timer_turns trace in_range h =
     let s : State = last_state trace in
-    let along = always trace (Q trace) (λ s now orders rotation k. k) (λ a s ready k ending. by_actor trace s ready k a)
+    let along = always trace (TimerParses trace) (λ s now orders rotation k. k) (λ a s ready k ending. by_actor trace s ready k a)
     (λ i job place s ready k there free. by_begin trace s ready k i job place) (λ s ready k free. by_times trace s ready k free) in_range h (opens_so trace) in
-    let at : Q trace s = along most_moves in
+    let at : TimerParses trace s = along most_moves in
     record {
       turns = at.0;
       left = left_of s.timer.todo;
