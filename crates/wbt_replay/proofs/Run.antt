@@ -206,4 +206,4 @@ module _ (trace : Trace) (lawful : IsLawful trace) where
 
 -- Each schedule is that of a lawful trace, whose run obeys it.
 pub shows_schedules : (trace : Trace) → IsLawful trace → ShowsSchedules trace
-shows_schedules trace lawful turns h = is_shown trace lawful turns h (obeyed (scheduled trace turns) (scheduled_lawful trace lawful turns h))
+shows_schedules trace lawful choices h = is_shown trace lawful choices h (obeyed (scheduled trace choices) (scheduled_lawful trace lawful choices h))
