@@ -35,10 +35,12 @@ use Rattle.wbt_replay_turns.specs.Clock.{ClockIsRight}
 use Rattle.wbt_replay_turns.specs.Lines.{ObeysOrder}
 use Rattle.wbt_replay_turns.specs.Rotation.{TurnsAreFair}
 use Rattle.wbt_replay_turns.specs.Schedules.{scheduled, ShowsSchedules}
+use Rattle.wbt_replay_turns.specs.Words.{TakesTurns}
 use Rattle.wbt_replay_turns.proofs.Clock.{keeps_time}
 use Rattle.wbt_replay_turns.proofs.Lines.Runs.{obeys_order}
 use Rattle.wbt_replay_turns.proofs.Rotation.{turns_fair}
 use Rattle.wbt_replay_turns.proofs.Schedules.{scheduled_lawful, is_shown}
+use Rattle.wbt_replay_turns.proofs.Words.Whole.{all_take_turns}
 
 module _ (trace : Trace) (lawful : IsLawful trace) where
   stays : StaysInRange trace
@@ -125,6 +127,10 @@ module _ (trace : Trace) (lawful : IsLawful trace) where
   pub fair : TurnsAreFair trace
   fair = turns_fair trace lawful stays ended
 
+  -- The steps of each CPU and of the timer are those of turns.
+  pub turns : TakesTurns trace
+  turns = all_take_turns trace stays (ending_at trace lawful stays)
+
   -- ---- the points of a lawful journal
 
   pub folds_up : FoldsAreUp trace (journal_of trace)
@@ -200,4 +206,4 @@ module _ (trace : Trace) (lawful : IsLawful trace) where
 
 -- Each schedule is that of a lawful trace, whose run obeys it.
 pub shows_schedules : (trace : Trace) → IsLawful trace → ShowsSchedules trace
-shows_schedules trace lawful turns h = is_shown trace lawful turns h (obeyed (scheduled trace turns) (scheduled_lawful trace lawful turns h))
+shows_schedules trace lawful choices h = is_shown trace lawful choices h (obeyed (scheduled trace choices) (scheduled_lawful trace lawful choices h))

@@ -27,6 +27,7 @@ ghost use Rattle.wbt_replay_turns.specs.Clock.{ClockIsRight};
 ghost use Rattle.wbt_replay_turns.specs.Lines.{ObeysOrder};
 ghost use Rattle.wbt_replay_turns.specs.Rotation.{TurnsAreFair};
 ghost use Rattle.wbt_replay_turns.specs.Schedules.{ShowsSchedules};
+ghost use Rattle.wbt_replay_turns.specs.Words.{TakesTurns};
 ghost use Rattle.wbt_replay_moves.specs.Pages.{book_of};
 ghost use Rattle.wbt_replay_moves.specs.Seen.{seen};
 
@@ -191,6 +192,10 @@ pub fn replay(alloc: Global, trace: &Trace) -> Result<Journal, NoMemory>
     // Where no order line is left an actor finishes its turn. Then the first one that can do something has its own, in the order of the
     // rotation: the CPUs by number, and then the timer.
     ensures fair { TurnsAreFair trace.now }
+
+    // The steps of each CPU are those of whole turns, one after another, and of a last one that may be cut off. A turn is a check, a write, a
+    // flusher's test, a look at a page of its inode, or the completion of one. So are the timer's steps.
+    ensures turns { TakesTurns trace.now }
 
     // Each schedule of steps and ticks, of as many as there may be order lines, is that of a lawful trace: this one with other order lines.
     // Its run makes the steps in this order, as long as each actor can make its own.

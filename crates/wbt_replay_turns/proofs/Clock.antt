@@ -1,5 +1,6 @@
 -- The clock moves by tick lines, and where nobody can do anything, and at no other time.
-use Rattle.std.proofs.Common.{◌≡◌, ◌⊎◌, inl, inr, ℕ, zero, suc, ◌+◌, true≢false, List, [], ◌∷◌, length, Option, Some, None, ⊎_elim, refl, sym, ◌∙◌, ap, subst}
+use Rattle.std.proofs.Common.{◌≡◌, ◌⊎◌, inl, inr, ℕ, zero, suc, ◌+◌, ◌≤◌, false, true≢false, List, [], ◌∷◌, length, Option, Some, None, ⊎_elim, refl, sym, ◌∙◌, ap, subst, arith}
+use Rattle.std.proofs.lemmas.Bool.{cases_Bool, cases_eq}
 use Rattle.wbt_trace.specs.Lawful.{IsLawful}
 use Rattle.wbt_trace.specs.declared.trace.Trace.{Trace}
 use Rattle.wbt_replay_moves.specs.Definition.State.{State}
@@ -18,7 +19,7 @@ use Rattle.wbt_replay_order.specs.declared.chance.Chance.TheVariants as chance
 use Rattle.wbt_replay_order.specs.Kept.InRange.{StaysInRange}
 use Rattle.wbt_replay_order.proofs.Facts.Actors.{place_below}
 use Rattle.wbt_replay_order.proofs.Facts.Facts.{facts}
-use Rattle.wbt_replay_order.proofs.Growth.Runs.{run_last}
+use Rattle.wbt_replay_order.proofs.Growth.Runs.{run_last, run_stays}
 use Rattle.wbt_replay_turns.specs.Able.{NobodyCan}
 use Rattle.wbt_replay_turns.specs.Clock.{IsNextMoment, TicksNext, MovesClock, ClockIsRight}
 use Rattle.wbt_replay_turns.specs.Rotation.{round_to}
@@ -121,14 +122,33 @@ opens : (trace : Trace) → (state_at trace 0).now ≡ opening_moment
 unfolding order.run opening
 opens trace = refl
 
+-- A clock that moves as it should doesn't go back.
+never_back : (trace : Trace) (s u : State) → MovesClock trace s u → s.now ≤ u.now
+never_back trace s u h = ⊎_elim
+    (λ same. omega (arith, same))
+    (λ moved. ⊎_elim (λ ticks. by_orders s.orders refl ticks) (λ idle. let next = h.rests idle.0 idle.1 in omega (arith, next.ahead)) (h.alone moved))
+    (cases_eq u.now s.now)
+  where
+    by_orders : (orders : List Stretch) → s.orders ≡ orders → TicksNext s.orders → s.now ≤ u.now
+    by_orders [] is ticks = absurd (subst TicksNext is ticks)
+    by_orders (stretch.Tick n ∷ more) is ticks = omega (arith, (h.ticks n more is).now)
+    by_orders (stretch.Steps who steps ∷ more) is ticks = absurd (subst TicksNext is ticks)
+
 pub keeps_time : (trace : Trace) → IsLawful trace → StaysInRange trace → HasEnded trace → ClockIsRight trace
 keeps_time trace lawful stays ended = record {
   first = opens trace;
-  moves = λ moves going.
-      let s = state_at trace moves in
-      let next = run_last trace moves (moves + 1) (opening trace) refl going in
-      let sound = stays.sound moves in
-      subst (MovesClock trace s) (sym next)
-      (moves_clock trace s (never_stuck trace ended.0 moves going)
-      (λ nobody a. cannot_idle trace (facts trace lawful) s sound a (nobody a)) (λ free a. idle_cannot trace (facts trace lawful) s sound a (free a)));
+  onward = λ moves. ⊎_elim
+      (λ over. omega (arith, ap (λ (s : State). s.now) (run_stays trace moves (moves + 1) (opening trace) refl over)))
+      (λ going. never_back trace (state_at trace moves) (state_at trace (moves + 1)) (moves_so moves going))
+      (cases_Bool (is_ended (state_at trace moves)));
+  moves = moves_so;
 }
+  where
+    moves_so : (moves : ℕ) → is_ended (state_at trace moves) ≡ false → MovesClock trace (state_at trace moves) (state_at trace (moves + 1))
+    moves_so moves going =
+        let s = state_at trace moves in
+        let next = run_last trace moves (moves + 1) (opening trace) refl going in
+        let sound = stays.sound moves in
+        subst (MovesClock trace s) (sym next)
+        (moves_clock trace s (never_stuck trace ended.0 moves going)
+        (λ nobody a. cannot_idle trace (facts trace lawful) s sound a (nobody a)) (λ free a. idle_cannot trace (facts trace lawful) s sound a (free a)))

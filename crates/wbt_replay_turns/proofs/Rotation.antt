@@ -44,10 +44,10 @@ use Rattle.wbt_replay_turns.proofs.Seeking.{Sought, finds, finds_none, sought, n
 -- ---- steps of an actor
 
 -- no step, or one of the actor's
-abbrev Grown : (trace : Trace) (a : Actor) (s u : State) → Type 0
+abbrev pub Grown : (trace : Trace) (a : Actor) (s u : State) → Type 0
 Grown trace a s u = (u.steps ≡ s.steps) ⊎ ((e : StepEntry) × (u.steps ≡ s.steps ++ e ∷ []) × (e.who ≡ number_of trace a))
 
-grown_cpu : (trace : Trace) (i : ℕ) (todos : List Todo) (s : State) → Grown trace (who.Cpu i) s (cpu_on trace i todos s)
+pub grown_cpu : (trace : Trace) (i : ℕ) (todos : List Todo) (s : State) → Grown trace (who.Cpu i) s (cpu_on trace i todos s)
 grown_cpu trace i [] s = inl refl
 grown_cpu trace i (todo.Step item ∷ rest) s =
     let next = with_cpu i (record (cpu_of i s) { todo = rest; made = (cpu_of i s).made + 1 }) s in

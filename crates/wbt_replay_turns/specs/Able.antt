@@ -14,8 +14,8 @@ pub record IsReadyTask (trace : Trace) (s : State) (cpu task : ℕ) : Type 0 whe
   pub ongoing : (task_of task s).ended ≡ false
   pub rested : (task_of task s).rest ≤ s.now
 
--- A flusher is ready for a turn where its rest or its flight has ended, and while it has an inode. In the drain, when all tasks have ended,
--- it drops a rest that isn't kept.
+-- In this phase a flusher is ready for a turn: its rest or its flight has ended, or it has an inode. In the drain, when all tasks have ended, it
+-- drops a rest that isn't kept.
 abbrev pub IsReadyIn : (s : State) (phase : ReplayPhase) → Type 0
 IsReadyIn s (phase.Idle until kept) = (until ≤ s.now) ⊎ ((is_drained s ≡ true) × (kept ≡ false))
 IsReadyIn s (phase.Taken inode) = Unit {0}
@@ -23,6 +23,7 @@ IsReadyIn s (phase.Scanning scan) = Unit {0}
 IsReadyIn s (phase.Flying inode pages until) = until ≤ s.now
 IsReadyIn s phase.Finished = ⊥
 
+-- A flusher of the CPU is ready for a turn.
 pub record IsReadyFlusher (trace : Trace) (s : State) (cpu flusher : ℕ) : Type 0 where
   pub on : IsFlusherOn trace cpu flusher
   pub phase : IsReadyIn s (flusher_of flusher s).phase
@@ -33,6 +34,7 @@ pub data HasWork (trace : Trace) (s : State) (cpu : ℕ) : Type 0 where
   task : (number : ℕ) → IsReadyTask trace s cpu number → HasWork trace s cpu
   flusher : (number : ℕ) → IsReadyFlusher trace s cpu number → HasWork trace s cpu
 
+-- The CPU is there, isn't stopped, and has work.
 pub record CpuCan (trace : Trace) (s : State) (cpu : ℕ) : Type 0 where
   pub there : cpu < trace.cpus
   pub ongoing : (cpu_of cpu s).stopped ≡ false
@@ -53,6 +55,6 @@ abbrev pub Can : (trace : Trace) (s : State) (who : Actor) → Type 0
 Can trace s (actor.Cpu cpu) = CpuCan trace s cpu
 Can trace s actor.Timer = TimerCan s
 
--- Nobody can.
+-- No CPU can do anything, nor can the timer.
 abbrev pub NobodyCan : (trace : Trace) (s : State) → Type 0
 NobodyCan trace s = (who : Actor) → ¬ Can trace s who

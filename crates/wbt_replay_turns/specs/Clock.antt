@@ -72,7 +72,8 @@ pub record MovesClock (trace : Trace) (s u : State) : Type 0 where
   -- Nothing else moves it.
   pub alone : u.now ≢ s.now → TicksNext s.orders ⊎ ((s.orders ≡ []) × NobodyCan trace s)
 
--- The clock of the trace's run begins at the opening's moment, and each of the run's moves leaves it so.
+-- The clock of the trace's run begins at the opening's moment, never goes back, and each of the run's moves leaves it so.
 pub record ClockIsRight (trace : Trace) : Type 0 where
   pub first : (state_at trace 0).now ≡ opening_moment
+  pub onward : (moves : ℕ) → (state_at trace moves).now ≤ (state_at trace (moves + 1)).now
   pub moves : (moves : ℕ) → is_ended (state_at trace moves) ≡ false → MovesClock trace (state_at trace moves) (state_at trace (moves + 1))

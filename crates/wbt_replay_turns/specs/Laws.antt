@@ -9,7 +9,8 @@ use Rattle.wbt_replay_order.specs.Kept.InRange.{StaysInRange}
 use Rattle.wbt_replay_turns.specs.Clock.{ClockIsRight}
 use Rattle.wbt_replay_turns.specs.Lines.{ObeysOrder}
 use Rattle.wbt_replay_turns.specs.Rotation.{TurnsAreFair}
-use Rattle.wbt_replay_turns.specs.Schedules.{Turn, IsSchedule, scheduled, IsShown}
+use Rattle.wbt_replay_turns.specs.Schedules.{Choice, IsSchedule, scheduled, IsShown}
+use Rattle.wbt_replay_turns.specs.Words.{TakesTurns}
 
 -- What is kept for the end of a run holds at each moment.
 abbrev pub EndsWell : (trace : Trace) → Type 0
@@ -24,5 +25,8 @@ RunsObeyOrder = (trace : Trace) → IsLawful trace → StaysInRange trace → Ha
 abbrev pub RunsAreFair : Type 0
 RunsAreFair = (trace : Trace) → IsLawful trace → StaysInRange trace → HasEnded trace → TurnsAreFair trace
 
+abbrev pub RunsTakeTurns : Type 0
+RunsTakeTurns = (trace : Trace) → StaysInRange trace → EndsWell trace → TakesTurns trace
+
 abbrev pub SchedulesAreShown : Type 0
-SchedulesAreShown = (trace : Trace) → IsLawful trace → (turns : List Turn) → IsSchedule trace turns → ObeysOrder (scheduled trace turns) → IsShown trace turns
+SchedulesAreShown = (trace : Trace) → IsLawful trace → (choices : List Choice) → IsSchedule trace choices → ObeysOrder (scheduled trace choices) → IsShown trace choices

@@ -42,7 +42,7 @@ pub record MovesTurn (trace : Trace) (s u : State) : Type 0 where
   -- Where nobody can do anything, the rotation starts again with CPU 0.
   pub restarts : NobodyCan trace s → (u.rotation ≡ None) × (u.steps ≡ s.steps)
 
--- The rotation of the trace's run is so wherever no order line is left.
+-- So are the turns of the trace's run, wherever no order line is left.
 abbrev pub TurnsAreFair : (trace : Trace) → Type 0
 TurnsAreFair trace = (moves : ℕ) → is_ended (state_at trace moves) ≡ false → (state_at trace moves).orders ≡ []
     → MovesTurn trace (state_at trace moves) (state_at trace (moves + 1))

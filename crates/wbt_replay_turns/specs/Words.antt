@@ -1,11 +1,11 @@
 -- The steps of a turn are a word over their kinds. Each turn is a check, a write, a test, or some work of a flusher on its inode.
-use Rattle.std.specs.Prelude.{◌≡◌, ◌⊎◌, ℕ, zero, suc, ◌<◌, ◌==◌, if◌then◌else◌, List, [], ◌∷◌, ◌++◌}
+use Rattle.std.specs.Prelude.{◌≡◌, ◌⊎◌, ℕ, zero, suc, ◌<◌, ◌≤◌, ◌==◌, if◌then◌else◌, List, [], ◌∷◌, ◌++◌, length}
 use Rattle.wbt_trace.specs.declared.trace.Trace.{Trace}
 use Rattle.wbt_grant.specs.declared.who.StepKind.{StepKind}
 use Rattle.wbt_grant.specs.declared.who.StepKind.TheVariants as kind
 use Rattle.wbt_journal.specs.Machine.{domains}
 use Rattle.wbt_journal.specs.declared.step.StepEntry.{StepEntry}
-use Rattle.wbt_replay_order.specs.Definition.Run.{state_at, journal_of}
+use Rattle.wbt_replay_order.specs.Definition.Run.{journal_of}
 
 -- ---- parts of a turn
 
@@ -33,7 +33,7 @@ counts (suc contexts) = kind.Count ∷ counts contexts
 abbrev pub MayMark : (word : List StepKind) → Type 0
 MayMark word = (word ≡ []) ⊎ (word ≡ kind.Mark ∷ [])
 
--- A page that can be claimed is; then the inode may be marked.
+-- A claim of the page comes next, where it can be claimed. Then the inode may be marked.
 abbrev pub MayClaim : (word : List StepKind) → Type 0
 MayClaim word = MayMark word ⊎ ((rest : List StepKind) × MayMark rest × (word ≡ kind.Claim ∷ rest))
 
@@ -43,7 +43,7 @@ MayTake word = (word ≡ []) ⊎ (word ≡ kind.Unmark ∷ [])
 
 -- ---- turns
 
--- The steps of a turn of a CPU.
+-- the steps of a turn of a CPU
 pub data IsTurn (trace : Trace) (word : List StepKind) : Type 0 where
   -- a task rests or ends; or a flusher finishes, or takes an inode
   rests : MayTake word → IsTurn trace word
@@ -72,5 +72,29 @@ AreTurns trace [] word = (left : List StepKind) × IsTurn trace (word ++ left)
 AreTurns trace (turn ∷ turns) word = IsTurn trace turn × ((rest : List StepKind) × (word ≡ turn ++ rest) × AreTurns trace turns rest)
 
 -- So are the steps of each CPU in the journal.
-abbrev pub TakesTurns : (trace : Trace) → Type 0
-TakesTurns trace = (cpu : ℕ) → cpu < trace.cpus → (turns : List (List StepKind)) × AreTurns trace turns (kinds_of cpu (journal_of trace).steps)
+abbrev pub CpusTakeTurns : (trace : Trace) → Type 0
+CpusTakeTurns trace = (cpu : ℕ) → cpu < trace.cpus → (turns : List (List StepKind)) × AreTurns trace turns (kinds_of cpu (journal_of trace).steps)
+
+-- ---- the timer
+
+-- A turn of the timer: for each domain it loads the count, raises the peak, and publishes the limits in three steps.
+abbrev pub publications : (domains : ℕ) → List StepKind
+publications zero = []
+publications (suc domains) = kind.Count ∷ kind.Peak ∷ kind.Unseal ∷ kind.Thresh ∷ kind.Publish ∷ publications domains
+
+-- a word so many times
+abbrev pub repeated : (times : ℕ) (word : List StepKind) → List StepKind
+repeated zero word = []
+repeated (suc times) word = repeated times word ++ word
+
+-- The timer's steps in the journal are those of so many turns, but for some of the last one that are left to be made.
+pub record TimerTakesTurns (trace : Trace) : Type 0 where
+  pub turns : ℕ
+  pub left : List StepKind
+  pub last : length left ≤ length (publications (domains trace))
+  pub steps : kinds_of trace.cpus (journal_of trace).steps ++ left ≡ repeated turns (publications (domains trace))
+
+-- The steps of each CPU and of the timer are those of turns.
+pub record TakesTurns (trace : Trace) : Type 0 where
+  pub cpus : CpusTakeTurns trace
+  pub timer : TimerTakesTurns trace

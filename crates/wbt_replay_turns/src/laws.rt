@@ -1,6 +1,6 @@
 //! The laws of a run's order. Each function proves what its contract says, and does nothing.
 
-ghost use Rattle.wbt_replay_turns.specs.Laws.{RunsAreFair, RunsKeepTime, RunsObeyOrder, SchedulesAreShown};
+ghost use Rattle.wbt_replay_turns.specs.Laws.{RunsAreFair, RunsKeepTime, RunsObeyOrder, RunsTakeTurns, SchedulesAreShown};
 
 /// The clock moves by tick lines, and to the next moment at which something ends where no order line is left and nobody can do anything.
 /// Nothing else moves it.
@@ -16,6 +16,11 @@ pub fn runs_obey_order()
 /// Without order lines an actor finishes its turn, and then the first one in the order of the rotation that can do something has its own.
 pub fn runs_are_fair()
     ensures { RunsAreFair }
+{}
+
+/// The steps of each CPU are those of whole turns, one after another, and of a last one that may be cut off; so are the timer's.
+pub fn runs_take_turns()
+    ensures { RunsTakeTurns }
 {}
 
 /// Each schedule of steps and ticks is that of a lawful trace, whose run makes its steps in this order, as long as each actor can make its own.

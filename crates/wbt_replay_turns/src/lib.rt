@@ -1,4 +1,4 @@
-//! Laws of the ordered run: when its clock moves, whose step comes next, and that order lines are obeyed.
+//! Laws of the ordered run: when its clock moves, that order lines are obeyed, whose turn comes without them, and which steps a turn makes.
 //!
 //! ```text
 //! ghost use Rattle.wbt_replay_turns.specs.Laws.{RunsKeepTime};

@@ -1,5 +1,5 @@
 -- What a move does of the first order line, where it asks for steps.
-use Rattle.std.proofs.Common.{◌≡◌, ℕ, zero, suc, Bool, true, false, not, ◌&&◌, leb, List, [], ◌∷◌, ◌++◌, length, get_or, refl, sym, ◌∙◌, ap, subst}
+use Rattle.std.proofs.Common.{◌≡◌, ℕ, zero, suc, Bool, true, false, not, ◌&&◌, cond, leb, List, [], ◌∷◌, ◌++◌, length, get_or, refl, sym, ◌∙◌, ap, subst}
 use Rattle.wbt_journal.specs.declared.step.StepEntry.{StepEntry}
 use Rattle.wbt_trace.specs.declared.trace.Trace.{Trace}
 use Rattle.wbt_replay_moves.specs.Definition.Cpu.{at_turn}
@@ -27,13 +27,13 @@ use Rattle.wbt_replay_turns.proofs.Kept.Items.{Order}
 use Rattle.wbt_replay_turns.proofs.Kept.Turns.{kept_begin}
 use Rattle.wbt_replay_turns.proofs.Lines.Steps.{Steps, makes, halts, spends, quiet_on, steps_on}
 
--- ---- a search for a turn doesn't go on
+-- ---- a search for a turn of a CPU finds one of a job, or none
 
 goes : (found : Chance) → Bool
 goes chance.Nothing = false
 goes chance.GoesOn = true
 goes (chance.Begins job place) = false
-goes chance.TimerBegins = false
+goes chance.TimerBegins = true
 
 abbrev Rests : (found : Chance) → Type 0
 Rests found = goes found ≡ false
@@ -63,15 +63,31 @@ seek_rests c s (suc tries) place = by_first (is_nothing (job_turn c s place (job
     by_first true more = more
     by_first false more = job_rests c s place (job_at place c)
 
-turn_rests : (a : Actor) (s : State) → Rests (turn_at a s)
+cpu_rests : (i : ℕ) (s : State) → Rests (turn_at (who.Cpu i) s)
 unfolding goes
-turn_rests (who.Cpu i) s = either Rests (cpu_of i s).stopped chance.Nothing (seek_job (cpu_of i s) s (length (cpu_of i s).jobs) (cpu_of i s).next)
+cpu_rests i s = either Rests (cpu_of i s).stopped chance.Nothing (seek_job (cpu_of i s) s (length (cpu_of i s).jobs) (cpu_of i s).next)
     (λ is. refl) (λ no. seek_rests (cpu_of i s) s (length (cpu_of i s).jobs) (cpu_of i s).next)
-turn_rests who.Timer s = either Rests (not (is_drained s) && leb s.timer.next s.now) chance.TimerBegins chance.Nothing (λ is. refl) (λ no. refl)
 
 goes_never : Rests chance.GoesOn → ⊥
 unfolding goes
 goes_never is = cc is
+
+times_never : Rests chance.TimerBegins → ⊥
+unfolding goes
+times_never is = cc is
+
+-- Nobody is found to go on by a search for a turn,
+never_goes : (a : Actor) (s : State) → turn_at a s ≡ chance.GoesOn → ⊥
+never_goes (who.Cpu i) s = λ found. goes_never (subst Rests found (cpu_rests i s))
+never_goes who.Timer s = by_test (not (is_drained s) && leb s.timer.next s.now)
+  where
+    by_test : (b : Bool) → cond b chance.TimerBegins chance.Nothing ≡ chance.GoesOn → ⊥
+    by_test true found = cc found
+    by_test false found = cc found
+
+-- and no CPU to begin the timer's turn.
+pub never_times : (i : ℕ) (s : State) → turn_at (who.Cpu i) s ≡ chance.TimerBegins → ⊥
+never_times i s found = times_never (subst Rests found (cpu_rests i s))
 
 -- ---- a turn begins without a step
 
@@ -109,7 +125,7 @@ module _ (trace : Trace) (a : Actor) (more : List Stretch) (s : State) (many : l
       → OfLine trace a (suc left) more s (begin_or_drop trace a found more s)
   by_found left is none chance.Nothing nothing =
       idle left refl (ap (λ (n : Ahead). chance_by n a s) none ∙ nothing) refl refl
-  by_found left is none chance.GoesOn found = absurd (goes_never (subst Rests found (turn_rests a s)))
+  by_found left is none chance.GoesOn found = absurd (never_goes a s found)
   by_found left is none (chance.Begins n place) found =
       still_on (suc left) is (begin trace a n place s) (ap (λ (o : Order). o.orders) (kept_begin trace a n place s)) (begins_silently trace a n place s)
   by_found left is none chance.TimerBegins found = quiet is refl

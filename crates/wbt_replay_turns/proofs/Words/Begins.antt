@@ -1,6 +1,6 @@
 -- A turn that a CPU begins: what it has to do comes to the steps of a turn.
-use Rattle.std.proofs.Common.{◌≡◌, ◌⊎◌, ℕ, zero, suc, ◌+◌, ◌<◌, Bool, true, false, cond, List, [], ◌∷◌, ◌++◌, length, get_or, refl, sym, ◌∙◌, ap, subst, arith}
-use Rattle.std.proofs.lemmas.List.{append-nil, length-set}
+use Rattle.std.proofs.Common.{◌≡◌, ℕ, ◌+◌, ◌<◌, List, [], ◌∷◌, ◌++◌, length, get_or, refl, sym, subst}
+use Rattle.std.proofs.lemmas.List.{append-nil}
 use Rattle.wbt_expiry.specs.declared.due.Due.{Due}
 use Rattle.wbt_journal.specs.Machine.{domains}
 use Rattle.wbt_journal.specs.declared.entry.Entry.TheVariants as entry
@@ -14,7 +14,6 @@ use Rattle.wbt_replay_moves.specs.Definition.Idle.{take_last, take_or_finish, fi
 use Rattle.wbt_replay_moves.specs.Definition.Perform.{begin_turn, begin_for, begin_phase}
 use Rattle.wbt_replay_moves.specs.Definition.State.{State, cpu_of, with_cpu, flusher_of, task_of, with_task, queue_of, with_queue, in_phase, is_drained, waiting_of}
 use Rattle.wbt_replay_moves.specs.Definition.Writer.{begin_due, begin_work, check_items}
-use Rattle.wbt_replay_moves.specs.declared.state.Actor.{Actor}
 use Rattle.wbt_replay_moves.specs.declared.state.Actor.TheVariants as who
 use Rattle.wbt_replay_moves.specs.declared.state.Cpu.{Cpu}
 use Rattle.wbt_replay_moves.specs.declared.state.ReplayJob.{ReplayJob}
@@ -31,7 +30,7 @@ use Rattle.wbt_replay_moves.specs.declared.todo.Todo.{Todo}
 use Rattle.wbt_replay_moves.specs.declared.todo.Todo.TheVariants as todo
 use Rattle.wbt_replay_order.specs.Definition.Order.{after, job_at, begin_job, begin}
 use Rattle.wbt_replay_order.proofs.Facts.Lists.{either}
-use Rattle.wbt_replay_turns.proofs.Words.Begun.{Fits, fits_none, fits_end, fits_check, fits_write, fits_unmark, fits_look, fits_complete, fits_test}
+use Rattle.wbt_replay_turns.proofs.Words.Fits.{Fits, fits_none, fits_end, fits_check, fits_write, fits_unmark, fits_look, fits_complete, fits_test}
 use Rattle.wbt_replay_turns.proofs.Words.Todos.{Todos, as_before, then_next, then_last, then_log, then_quiet}
 
 -- The CPU has a turn to do, and nothing else.

@@ -1,5 +1,5 @@
 -- Each step of a CPU's turn: its kind, and what it puts down.
-use Rattle.std.proofs.Common.{◌≡◌, ◌⊎◌, inl, inr, ℕ, zero, suc, ◌+◌, ◌<◌, Bool, true, false, cond, eqb, ℤ, pos, negsuc, ◌+ℤ◌, unsigned_abs, List, [], ◌∷◌, ◌++◌, length, get_or, refl, sym, ◌∙◌, ap, subst, ⊎_elim}
+use Rattle.std.proofs.Common.{◌≡◌, inl, inr, ℕ, ◌<◌, true, false, eqb, ℤ, pos, negsuc, ◌+ℤ◌, unsigned_abs, List, [], ◌∷◌, ◌++◌, length, get_or, refl, ◌∙◌, ap, ⊎_elim}
 use Rattle.std.proofs.lemmas.List.{append-nil}
 use Rattle.wbt_book.specs.Book.{is_claimable}
 use Rattle.wbt_book.specs.PageWords.{shared_word}
@@ -12,10 +12,9 @@ use Rattle.wbt_journal.specs.Machine.{batch_of}
 use Rattle.wbt_journal.specs.declared.entry.Entry.TheVariants as entry
 use Rattle.wbt_journal.specs.declared.step.StepEntry.{StepEntry}
 use Rattle.wbt_rules.specs.Things.{context_of, group_of}
-use Rattle.wbt_rules.specs.declared.scan.Scan.{Scan}
 use Rattle.wbt_trace.specs.declared.trace.Trace.{Trace}
 use Rattle.wbt_replay_moves.specs.Definition.Counters.{add, fold, clear}
-use Rattle.wbt_replay_moves.specs.Definition.Cpu.{added, own_of, with_own, do_next, log_at, then_do, owed_to}
+use Rattle.wbt_replay_moves.specs.Definition.Cpu.{own_of, with_own, do_next, log_at, owed_to}
 use Rattle.wbt_replay_moves.specs.Definition.Flight.{complete_by, complete_in, complete_first}
 use Rattle.wbt_replay_moves.specs.Definition.Idle.{unmark_by, unmark_in}
 use Rattle.wbt_replay_moves.specs.Definition.Perform.{make_step}
@@ -35,7 +34,6 @@ use Rattle.wbt_replay_moves.specs.declared.todo.Step.TheVariants as step
 use Rattle.wbt_replay_moves.specs.declared.todo.Todo.{Todo}
 use Rattle.wbt_replay_moves.specs.declared.todo.Todo.TheVariants as todo
 use Rattle.wbt_replay_order.proofs.Facts.Lists.{either}
-use Rattle.wbt_replay_turns.specs.Words.{IsSettled}
 use Rattle.wbt_replay_turns.proofs.Words.Language.{StepRuns, Runs, Yields, one_of, single, split_owed}
 use Rattle.wbt_replay_turns.proofs.Words.Todos.{Todos, as_before, then_cpu, then_next, then_log, then_quiet}
 

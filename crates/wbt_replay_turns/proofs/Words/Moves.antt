@@ -1,6 +1,6 @@
 -- At each moment of a run the steps of each CPU are those of whole turns, and of one of which its items are left.
-use Rattle.std.proofs.Common.{◌≡◌, ◌≢◌, ◌⊎◌, inl, inr, ℕ, zero, suc, ◌+◌, ◌<◌, ◌≤◌, Bool, true, false, cond, eqb, List, [], ◌∷◌, ◌++◌, length, get_or, All, Option, Some, None, ⊎_elim, refl, sym, ◌∙◌, ap, subst, arith, eq-eqb, ne_eqb}
-use Rattle.std.proofs.lemmas.Bool.{cases_Bool, cases_lt, cond-false}
+use Rattle.std.proofs.Common.{◌≡◌, ◌≢◌, ℕ, zero, suc, ◌+◌, ◌<◌, Bool, true, false, cond, eqb, List, [], ◌∷◌, ◌++◌, length, get_or, All, Option, Some, None, ⊎_elim, refl, sym, ◌∙◌, ap, subst, arith, eq-eqb, ne_eqb}
+use Rattle.std.proofs.lemmas.Bool.{cases_lt}
 use Rattle.std.proofs.lemmas.List.{append-nil, length-set, length-append, get_or-set_same, get_or-set_other, get_or_past}
 use Rattle.std.proofs.lemmas.List.Elements.{All-nil, All-get_or}
 use mathlib.Core.Logic.{dite}
@@ -8,18 +8,14 @@ use native.Mathlib.Decide.{ℕ_discrete}
 use Rattle.wbt_flex.specs.Proportions.{after_period}
 use Rattle.wbt_flex.specs.declared.half.Half.{Half}
 use Rattle.wbt_grant.specs.declared.who.StepKind.{StepKind}
-use Rattle.wbt_journal.specs.Machine.{domains}
 use Rattle.wbt_journal.specs.declared.step.StepEntry.{StepEntry}
 use Rattle.wbt_trace.specs.declared.trace.Trace.{Trace}
 use Rattle.wbt_replay_moves.specs.Definition.Perform.{make_step, make_move, make_timer_step, make_timer_move}
-use Rattle.wbt_replay_moves.specs.Definition.State.{State, no_cpu, cpu_of, with_cpu, domain_of, is_drained}
+use Rattle.wbt_replay_moves.specs.Definition.State.{State, no_cpu, cpu_of, with_cpu, domain_of}
 use Rattle.wbt_replay_moves.specs.Definition.Timer.{with_timer, period_to, is_time, periods}
 use Rattle.wbt_replay_moves.specs.declared.state.Actor.{Actor}
 use Rattle.wbt_replay_moves.specs.declared.state.Actor.TheVariants as who
 use Rattle.wbt_replay_moves.specs.declared.state.Cpu.{Cpu}
-use Rattle.wbt_replay_moves.specs.declared.state.Domain.{Domain}
-use Rattle.wbt_replay_moves.specs.declared.state.Stretch.{Stretch}
-use Rattle.wbt_replay_moves.specs.declared.state.Stretch.TheVariants as stretch
 use Rattle.wbt_replay_moves.specs.declared.todo.Silent.{Silent}
 use Rattle.wbt_replay_moves.specs.declared.todo.Step.{Step}
 use Rattle.wbt_replay_moves.specs.declared.todo.TimerSilent.{TimerSilent}
@@ -31,35 +27,28 @@ use Rattle.wbt_replay_moves.specs.declared.todo.TimerTodo.TheVariants as timer_t
 use Rattle.wbt_replay_moves.specs.declared.todo.Todo.{Todo}
 use Rattle.wbt_replay_moves.specs.declared.todo.Todo.TheVariants as todo
 use Rattle.wbt_replay_order.specs.Definition.Opening.{first_cpu, first_cpus, opening}
-use Rattle.wbt_replay_order.specs.Definition.Order as order
-use Rattle.wbt_replay_order.specs.Definition.Order.{todo_ahead, cpu_ahead, ahead_of, turn_at, chance_by, chance_of, is_full, is_halted, spend, stop, cpu_on, timer_on, go_on, begin, with_orders, begin_or_drop, follow, next_moment, at_moment, next_turn, finish_turn, rotate_from, place_after, actor_at, seek_job, tick, advance_by, advance, is_ended}
-use Rattle.wbt_replay_order.specs.Definition.Run.{most_moves, state_at, last_state, journal_of}
-use Rattle.wbt_replay_order.specs.Kept.Ending.{Ending, ArePaced}
+use Rattle.wbt_replay_order.specs.Definition.Order.{is_full, is_halted, spend, stop, cpu_on, timer_on, go_on, begin}
+use Rattle.wbt_replay_order.specs.Definition.Run.{most_moves, last_state, journal_of}
+use Rattle.wbt_replay_order.specs.Kept.Ending.{Ending}
 use Rattle.wbt_replay_order.specs.Kept.InRange.{StaysInRange}
-use Rattle.wbt_replay_order.specs.declared.chance.Ahead.{Ahead}
-use Rattle.wbt_replay_order.specs.declared.chance.Ahead.TheVariants as ahead
-use Rattle.wbt_replay_order.specs.declared.chance.Chance.{Chance}
-use Rattle.wbt_replay_order.specs.declared.chance.Chance.TheVariants as chance
-use Rattle.wbt_replay_order.proofs.Facts.Actors.{there_by_turn}
 use Rattle.wbt_replay_order.proofs.Facts.Lists.{either, all_push}
 use Rattle.wbt_replay_order.proofs.Growth.Growing.{silent_move}
-use Rattle.wbt_replay_order.proofs.Growth.Runs.{run_none, run_last, run_stays}
 use Rattle.wbt_replay_turns.specs.Laws.{EndsWell}
-use Rattle.wbt_replay_turns.specs.Words.{IsTurn, kinds_of, TakesTurns}
+use Rattle.wbt_replay_turns.specs.Words.{kinds_of, CpusTakeTurns}
 use Rattle.wbt_replay_turns.proofs.Lines.Moves.{begins_silently}
 use Rattle.wbt_replay_turns.proofs.Lines.Runs.{journal_steps}
 use Rattle.wbt_replay_turns.proofs.Lines.Steps.{cpu_one, quiet_timer_move, timer_makes}
-use Rattle.wbt_replay_turns.proofs.Seeking.{Sought, finds, finds_none, sought}
-use Rattle.wbt_replay_turns.proofs.Words.Begins.{Opens, opens}
-use Rattle.wbt_replay_turns.proofs.Words.Begun.{fits_none}
+use Rattle.wbt_replay_turns.proofs.Words.Advancing.{Ready, always}
+use Rattle.wbt_replay_turns.proofs.Words.Begins.{opens}
+use Rattle.wbt_replay_turns.proofs.Words.Fits.{fits_none}
 use Rattle.wbt_replay_turns.proofs.Words.Items.{Does, nothing, does, does_step}
 use Rattle.wbt_replay_turns.proofs.Words.Language.{Parses, parses_on, parses_begun, parses_cut}
-use Rattle.wbt_replay_turns.proofs.Words.Silent.{Leaves, leaves}
-use Rattle.wbt_replay_turns.proofs.Words.Todos.{Becomes, Todos, as_before, then_quiet}
+use Rattle.wbt_replay_turns.proofs.Words.Silent.{leaves}
+use Rattle.wbt_replay_turns.proofs.Words.Todos.{Todos, as_before, then_quiet}
 
 -- ---- the kinds of an actor's steps
 
-kinds_push : (i : ℕ) (steps : List StepEntry) (e : StepEntry) → kinds_of i (steps ++ e ∷ []) ≡ kinds_of i steps ++ cond (eqb e.who i) (e.kind ∷ []) []
+pub kinds_push : (i : ℕ) (steps : List StepEntry) (e : StepEntry) → kinds_of i (steps ++ e ∷ []) ≡ kinds_of i steps ++ cond (eqb e.who i) (e.kind ∷ []) []
 kinds_push i [] e = refl
 kinds_push i (x ∷ steps) e = by_test (eqb x.who i) (kinds_push i steps e)
   where
@@ -69,61 +58,52 @@ kinds_push i (x ∷ steps) e = by_test (eqb x.who i) (kinds_push i steps e)
     by_test true is = ap (λ (l : List StepKind). x.kind ∷ l) is
     by_test false is = is
 
-kinds_own : (i : ℕ) (steps more : List StepEntry) (e : StepEntry) (k : StepKind) → more ≡ steps ++ e ∷ [] → e.who ≡ i → e.kind ≡ k → kinds_of i more ≡ kinds_of i steps ++ k ∷ []
+pub kinds_own : (i : ℕ) (steps more : List StepEntry) (e : StepEntry) (k : StepKind) → more ≡ steps ++ e ∷ [] → e.who ≡ i → e.kind ≡ k → kinds_of i more ≡ kinds_of i steps ++ k ∷ []
 kinds_own i steps more e k is by kind =
     ap (kinds_of i) is ∙ (kinds_push i steps e ∙ (ap (λ (b : Bool). kinds_of i steps ++ cond b (e.kind ∷ []) []) (eq-eqb e.who i by)
     ∙ ap (λ (j : StepKind). kinds_of i steps ++ j ∷ []) kind))
 
-kinds_other : (i j : ℕ) (steps more : List StepEntry) (e : StepEntry) → more ≡ steps ++ e ∷ [] → e.who ≡ i → j ≢ i → kinds_of j more ≡ kinds_of j steps
+pub kinds_other : (i j : ℕ) (steps more : List StepEntry) (e : StepEntry) → more ≡ steps ++ e ∷ [] → e.who ≡ i → j ≢ i → kinds_of j more ≡ kinds_of j steps
 kinds_other i j steps more e is by other =
     ap (kinds_of j) is ∙ (kinds_push j steps e ∙ (ap (λ (b : Bool). kinds_of j steps ++ cond b (e.kind ∷ []) []) (ne_eqb e.who j (λ same. other (sym same ∙ by)))
     ∙ append-nil (kinds_of j steps)))
 
 -- ---- what holds at each moment
 
--- what is needed of a state for a move
-pub record ReadyIn (trace : Trace) (steps : List StepEntry) (cpus : List Cpu) (ds : List Domain) : Type 0 where
-  pub paced : ArePaced trace.halt steps cpus
-  pub many : length cpus ≡ trace.cpus
-  pub domains_many : length ds ≡ domains trace
-
-abbrev Ready : (trace : Trace) (s : State) → Type 0
-Ready trace s = ReadyIn trace s.steps s.cpus s.domains
-
 -- each CPU's steps, by the CPUs and steps of a state
 abbrev ParsesIn : (trace : Trace) (steps : List StepEntry) (cpus : List Cpu) → Type 0
 ParsesIn trace steps cpus = (i : ℕ) → i < length cpus → Parses trace (get_or cpus i no_cpu).todo (kinds_of i steps)
 
-abbrev P : (trace : Trace) (s : State) → Type 0
-P trace s = ParsesIn trace s.steps s.cpus
+abbrev AllParse : (trace : Trace) (s : State) → Type 0
+AllParse trace s = ParsesIn trace s.steps s.cpus
 
-module _ (trace : Trace) (s : State) (h : P trace s) where
+module _ (trace : Trace) (s : State) (h : AllParse trace s) where
   -- one CPU moved, and the others made no step
   moved : (i : ℕ) (todos : List Todo) (u : State) → Todos i todos s u → ((j : ℕ) → j ≢ i → kinds_of j u.steps ≡ kinds_of j s.steps)
-      → Parses trace todos (kinds_of i u.steps) → P trace u
+      → Parses trace todos (kinds_of i u.steps) → AllParse trace u
   moved i todos u b others here j less = dite (ℕ_discrete j i)
       (λ e. subst (λ (n : ℕ). Parses trace (cpu_of n u).todo (kinds_of n u.steps)) (sym e) (subst (λ (l : List Todo). Parses trace l (kinds_of i u.steps)) (sym b.here) here))
       (λ n. subst (λ (l : List Todo). Parses trace l (kinds_of j u.steps)) (sym (b.others j n))
       (subst (Parses trace (cpu_of j s).todo) (sym (others j n)) (h j (omega (arith, less, b.many)))))
 
   -- a CPU is changed, but not what it has to do, and no step is made
-  quietly : (i : ℕ) → i < length s.cpus → (u : State) → Todos i (cpu_of i s).todo s u → u.steps ≡ s.steps → P trace u
+  quietly : (i : ℕ) → i < length s.cpus → (u : State) → Todos i (cpu_of i s).todo s u → u.steps ≡ s.steps → AllParse trace u
   quietly i there u b same =
       moved i (cpu_of i s).todo u b (λ j n. ap (kinds_of j) same) (subst (Parses trace (cpu_of i s).todo) (ap (kinds_of i) (sym same)) (h i there))
 
   -- the timer makes a step, which is none of a CPU
-  timely : (u : State) (e : StepEntry) → u.cpus ≡ s.cpus → u.steps ≡ s.steps ++ e ∷ [] → e.who ≡ length s.cpus → P trace u
+  timely : (u : State) (e : StepEntry) → u.cpus ≡ s.cpus → u.steps ≡ s.steps ++ e ∷ [] → e.who ≡ length s.cpus → AllParse trace u
   timely u e cpus steps by =
       subst (λ (l : List Cpu). ParsesIn trace u.steps l) (sym cpus)
       (λ j less. subst (Parses trace (cpu_of j s).todo) (sym (kinds_other (length s.cpus) j s.steps u.steps e steps by (λ e. omega (arith, e, less)))) (h j less))
 
   -- neither CPUs nor steps are changed
-  same : (u : State) → u.cpus ≡ s.cpus → u.steps ≡ s.steps → P trace u
+  same : (u : State) → u.cpus ≡ s.cpus → u.steps ≡ s.steps → AllParse trace u
   same u cpus steps = subst (λ (l : List Cpu). ParsesIn trace u.steps l) (sym cpus) (subst (λ (l : List StepEntry). ParsesIn trace l s.cpus) (sym steps) h)
 
 -- ---- a CPU goes on
 
-module _ (trace : Trace) (i : ℕ) (s : State) (there : i < length s.cpus) (ready : Ready trace s) (h : P trace s) where
+module _ (trace : Trace) (i : ℕ) (s : State) (there : i < length s.cpus) (ready : Ready trace s) (h : AllParse trace s) where
   -- what others have, after an item was taken and then done
   composed : (c : Cpu) (todos : List Todo) (u : State) → Todos i todos (with_cpu i c s) u → Todos i todos s u
   composed c todos u b = record {
@@ -134,7 +114,7 @@ module _ (trace : Trace) (i : ℕ) (s : State) (there : i < length s.cpus) (read
 
   by_item : (item : Step) (rest : List Todo) → (cpu_of i s).todo ≡ todo.Step item ∷ rest
       → Ending trace (make_step trace i item (with_cpu i (record (cpu_of i s) { todo = rest; made = (cpu_of i s).made + 1 }) s))
-      → P trace (make_step trace i item (with_cpu i (record (cpu_of i s) { todo = rest; made = (cpu_of i s).made + 1 }) s))
+      → AllParse trace (make_step trace i item (with_cpu i (record (cpu_of i s) { todo = rest; made = (cpu_of i s).made + 1 }) s))
   by_item item rest is ending =
       let c : Cpu = record (cpu_of i s) { todo = rest; made = (cpu_of i s).made + 1 } in
       by_does item rest is ending (does_step trace i (with_cpu i c s) (omega (arith, there, length-set s.cpus i c)) item)
@@ -143,7 +123,7 @@ module _ (trace : Trace) (i : ℕ) (s : State) (there : i < length s.cpus) (read
           → Ending trace (make_step trace i item (with_cpu i (record (cpu_of i s) { todo = rest; made = (cpu_of i s).made + 1 }) s))
           → Does i item (with_cpu i (record (cpu_of i s) { todo = rest; made = (cpu_of i s).made + 1 }) s)
           (make_step trace i item (with_cpu i (record (cpu_of i s) { todo = rest; made = (cpu_of i s).made + 1 }) s))
-          → P trace (make_step trace i item (with_cpu i (record (cpu_of i s) { todo = rest; made = (cpu_of i s).made + 1 }) s))
+          → AllParse trace (make_step trace i item (with_cpu i (record (cpu_of i s) { todo = rest; made = (cpu_of i s).made + 1 }) s))
       by_does item rest is ending (nothing none) =
           let one = cpu_one trace i s there ready.paced item rest ending in
           absurd (omega (arith, ap (λ (l : List StepEntry). length l) none, ap (λ (l : List StepEntry). length l) one.is, length-append s.steps (one.entry ∷ [])))
@@ -158,7 +138,7 @@ module _ (trace : Trace) (i : ℕ) (s : State) (there : i < length s.cpus) (read
           moved trace s h i (items ++ rest) u (composed c (items ++ rest) u all) (λ j n. kinds_other i j s.steps u.steps e steps by n)
           (subst (Parses trace (items ++ rest)) (sym own) (parses_on trace (todo.Step item) items rest (k ∷ []) (kinds_of i s.steps) yields before))
 
-  by_silent : (item : Silent) (rest : List Todo) → (cpu_of i s).todo ≡ todo.Silent item ∷ rest → P trace (make_move trace i item (with_cpu i (record (cpu_of i s) { todo = rest }) s))
+  by_silent : (item : Silent) (rest : List Todo) → (cpu_of i s).todo ≡ todo.Silent item ∷ rest → AllParse trace (make_move trace i item (with_cpu i (record (cpu_of i s) { todo = rest }) s))
   by_silent item rest is =
       let c : Cpu = record (cpu_of i s) { todo = rest } in
       let next : State = with_cpu i c s in
@@ -172,17 +152,17 @@ module _ (trace : Trace) (i : ℕ) (s : State) (there : i < length s.cpus) (read
       (subst (Parses trace (l.items ++ rest)) (append-nil (kinds_of i s.steps) ∙ ap (kinds_of i) (sym silent))
       (parses_on trace (todo.Silent item) l.items rest [] (kinds_of i s.steps) l.yields before))
 
-  by_cpu : (todos : List Todo) → (cpu_of i s).todo ≡ todos → Ending trace (cpu_on trace i todos s) → P trace (cpu_on trace i todos s)
+  by_cpu : (todos : List Todo) → (cpu_of i s).todo ≡ todos → Ending trace (cpu_on trace i todos s) → AllParse trace (cpu_on trace i todos s)
   by_cpu [] is = λ ending. h
   by_cpu (todo.Step item ∷ rest) is =
-      either (λ (u : State). Ending trace u → P trace u) (is_halted trace.halt (cpu_of i s).made) (stop i s) _
+      either (λ (u : State). Ending trace u → AllParse trace u) (is_halted trace.halt (cpu_of i s).made) (stop i s) _
       (λ halted ending. quietly trace s h i there (stop i s) (then_quiet i s there (cpu_of i s).todo s _ (as_before i s) refl) refl)
-      (λ on. either (λ (u : State). Ending trace u → P trace u) (is_full s) (spend s) _ (λ full ending. h) (λ room. by_item item rest is))
+      (λ on. either (λ (u : State). Ending trace u → AllParse trace u) (is_full s) (spend s) _ (λ full ending. h) (λ room. by_item item rest is))
   by_cpu (todo.Silent item ∷ rest) is = λ ending. by_silent item rest is
 
 -- ---- the timer
 
-timer_cpus : (trace : Trace) (item : TimerStep) (s : State) → (make_timer_step trace item s).cpus ≡ s.cpus
+pub timer_cpus : (trace : Trace) (item : TimerStep) (s : State) → (make_timer_step trace item s).cpus ≡ s.cpus
 unfolding make_timer_step
 timer_cpus trace (timer_step.Count domain) s = refl
 timer_cpus trace (timer_step.Peak domain) s = refl
@@ -201,10 +181,10 @@ silent_cpus (timer_silent.Period domain) s =
     (λ time. period_cpus domain (periods s.timer) (after_period (domain_of domain s).events (periods s.timer)) s) (λ early. refl)
 silent_cpus timer_silent.Rest s = refl
 
-by_timer : (trace : Trace) (s : State) → P trace s → (todos : List TimerTodo) → P trace (timer_on trace todos s)
+by_timer : (trace : Trace) (s : State) → AllParse trace s → (todos : List TimerTodo) → AllParse trace (timer_on trace todos s)
 by_timer trace s h [] = h
 by_timer trace s h (timer_todo.Step item ∷ rest) =
-    either (P trace) (is_full s) (spend s) _ (λ full. h)
+    either (AllParse trace) (is_full s) (spend s) _ (λ full. h)
     (λ room.
     let t = with_timer (record s.timer { todo = rest }) s in
     let one = timer_makes trace item t in
@@ -214,94 +194,21 @@ by_timer trace s h (timer_todo.Silent item ∷ rest) =
 
 -- ---- an actor
 
-on_actor : (trace : Trace) (a : Actor) (s : State) → Ready trace s → P trace s → Ending trace (go_on trace a s) → P trace (go_on trace a s)
+on_actor : (trace : Trace) (a : Actor) (s : State) → Ready trace s → AllParse trace s → Ending trace (go_on trace a s) → AllParse trace (go_on trace a s)
 on_actor trace (who.Cpu i) s ready h ending = ⊎_elim
     (λ there. by_cpu trace i s there ready h (cpu_of i s).todo refl ending)
-    (λ past. subst (P trace) (sym (ap (λ (l : List Todo). cpu_on trace i l s) (ap (λ (c : Cpu). c.todo) (get_or_past s.cpus i no_cpu past)))) h)
+    (λ past. subst (AllParse trace) (sym (ap (λ (l : List Todo). cpu_on trace i l s) (ap (λ (c : Cpu). c.todo) (get_or_past s.cpus i no_cpu past)))) h)
     (cases_lt i (length s.cpus))
 on_actor trace who.Timer s ready h ending = by_timer trace s h s.timer.todo
 
--- who can begin a turn has nothing left of the one before
-free_cpu : (s : State) (i job place : ℕ) → ahead_of (who.Cpu i) s ≡ ahead.Nothing → turn_at (who.Cpu i) s ≡ chance.Begins job place → (cpu_of i s).todo ≡ []
-free_cpu s i n place none found = by_stopped (cpu_of i s).stopped refl found
-  where
-    by_todo : (ts : List Todo) → (cpu_of i s).todo ≡ ts → todo_ahead ts ≡ ahead.Nothing → (cpu_of i s).todo ≡ []
-    by_todo [] is e = is
-    by_todo (todo.Step item ∷ rest) is e = absurd (cc e)
-    by_todo (todo.Silent item ∷ rest) is e = absurd (cc e)
-
-    by_stopped : (b : Bool) → (cpu_of i s).stopped ≡ b
-        → cond b chance.Nothing (seek_job (cpu_of i s) s (length (cpu_of i s).jobs) (cpu_of i s).next) ≡ chance.Begins n place → (cpu_of i s).todo ≡ []
-    by_stopped true is e = absurd (cc e)
-    by_stopped false is e = by_todo (cpu_of i s).todo refl (sym (cond-false (cpu_of i s).stopped ahead.Nothing (todo_ahead (cpu_of i s).todo) is) ∙ none)
-
-begin_cpu : (trace : Trace) (i job place : ℕ) (s : State) → Ready trace s → P trace s → i < length s.cpus → (cpu_of i s).todo ≡ []
-    → P trace (begin trace (who.Cpu i) job place s)
+begin_cpu : (trace : Trace) (i job place : ℕ) (s : State) → Ready trace s → AllParse trace s → i < length s.cpus → (cpu_of i s).todo ≡ []
+    → AllParse trace (begin trace (who.Cpu i) job place s)
 begin_cpu trace i n place s ready h there free =
     let o = opens trace i s there free ready.domains_many n place in
     let silent = begins_silently trace (who.Cpu i) n place s in
     let before = subst (λ (l : List Todo). Parses trace l (kinds_of i s.steps)) free (h i there) in
     moved trace s h i o.items (begin trace (who.Cpu i) n place s) o.todos (λ j m. ap (kinds_of j) silent)
     (subst (Parses trace o.items) (ap (kinds_of i) (sym silent)) (parses_begun trace o.items (kinds_of i s.steps) o.fits before))
-
--- ---- a move of the run
-
-module _ (trace : Trace) (s : State) (ready : Ready trace s) (h : P trace s) where
-  -- the turn that an actor was found to begin, or its next move, also where the rotation was changed
-  by_chance : (a : Actor) (turn : Option Actor) (next : Ahead) → ahead_of a s ≡ next → (found : Chance) → chance_by next a s ≡ found
-      → Ending trace (order.take trace a found (record s { rotation = turn })) → P trace (order.take trace a found (record s { rotation = turn }))
-  by_chance a turn next is chance.Nothing found ending = h
-  by_chance a turn next is chance.GoesOn found ending = on_actor trace a (record s { rotation = turn }) ready h ending
-  by_chance (who.Cpu i) turn ahead.Nothing is (chance.Begins n place) found ending = begin_cpu trace i n place (record s { rotation = turn }) ready h (there_by_turn s i n place found) (free_cpu s i n place is found)
-  by_chance (who.Cpu i) turn ahead.Step is (chance.Begins n place) found ending = absurd (cc found)
-  by_chance (who.Cpu i) turn ahead.Silent is (chance.Begins n place) found ending = absurd (cc found)
-  by_chance who.Timer turn next is (chance.Begins n place) found ending = h
-  by_chance a turn next is chance.TimerBegins found ending = h
-
-  by_moment : (found : Option ℕ) → P trace (at_moment found s)
-  by_moment None = h
-  by_moment (Some m) = h
-
-  by_search : (u : State) → Sought trace s (place_after s.rotation s) u → Ending trace u → P trace u
-  by_search u (finds d inside passed some is) ending =
-      let a : Actor = actor_at _ s in
-      subst (P trace) (sym is) (by_chance a (Some a) (ahead_of a s) refl (chance_of a s) refl (subst (Ending trace) is ending))
-  by_search u (finds_none passed is) ending = subst (P trace) (sym is) (by_moment (next_moment s))
-
-  by_next : Ending trace (next_turn trace s) → P trace (next_turn trace s)
-  by_next = by_search (next_turn trace s) (sought trace s)
-
-  by_finish : (a : Actor) (next : Ahead) → Ending trace (finish_turn trace a next s) → P trace (finish_turn trace a next s)
-  by_finish a ahead.Step = on_actor trace a s ready h
-  by_finish a ahead.Silent = on_actor trace a s ready h
-  by_finish a ahead.Nothing = by_next
-
-  by_rotation : (turn : Option Actor) → Ending trace (rotate_from trace turn s) → P trace (rotate_from trace turn s)
-  by_rotation None = by_next
-  by_rotation (Some a) = by_finish a (ahead_of a s)
-
-  by_found : (a : Actor) → ahead_of a s ≡ ahead.Nothing → (found : Chance) → turn_at a s ≡ found → (more : List Stretch)
-      → Ending trace (begin_or_drop trace a found more s) → P trace (begin_or_drop trace a found more s)
-  by_found a none chance.Nothing is more ending = h
-  by_found a none chance.GoesOn is more ending = on_actor trace a s ready h ending
-  by_found (who.Cpu i) none (chance.Begins n place) is more ending = begin_cpu trace i n place s ready h (there_by_turn s i n place is) (free_cpu s i n place none is)
-  by_found who.Timer none (chance.Begins n place) is more ending = h
-  by_found a none chance.TimerBegins is more ending = h
-
-  by_line : (a : Actor) (steps : ℕ) (next : Ahead) → ahead_of a s ≡ next → (more : List Stretch) → Ending trace (follow trace a steps next more s) → P trace (follow trace a steps next more s)
-  by_line a steps ahead.Silent is more ending = on_actor trace a s ready h ending
-  by_line a zero ahead.Step is more ending = h
-  by_line a (suc steps) ahead.Step is more ending = on_actor trace a (with_orders (stretch.Steps a steps ∷ more) s) ready h ending
-  by_line a zero ahead.Nothing is more ending = h
-  by_line a (suc steps) ahead.Nothing is more ending = by_found a is (turn_at a s) refl more ending
-
-  by_orders : (orders : List Stretch) → Ending trace (advance_by trace orders s) → P trace (advance_by trace orders s)
-  by_orders [] = by_rotation s.rotation
-  by_orders (stretch.Tick ticks ∷ more) = λ ending. h
-  by_orders (stretch.Steps a steps ∷ more) = by_line a steps (ahead_of a s) refl more
-
-  on_move : Ending trace (advance trace s) → P trace (advance trace s)
-  on_move = by_orders s.orders
 
 -- ---- the run
 
@@ -317,27 +224,15 @@ first_kinds : (trace : Trace) (i : ℕ) → kinds_of i (opening trace).steps ≡
 unfolding opening
 first_kinds trace i = refl
 
-opens_so : (trace : Trace) → P trace (opening trace)
+opens_so : (trace : Trace) → AllParse trace (opening trace)
 opens_so trace i less =
     subst (Parses trace (cpu_of i (opening trace)).todo) (sym (first_kinds trace i))
     (subst (λ (l : List Todo). Parses trace l []) (sym (first_todo trace i less)) ([], λ more runs. fits_none trace more runs))
 
-module _ (trace : Trace) (stays : StaysInRange trace) (h : EndsWell trace) where
-  ready_at : (m : ℕ) → Ready trace (state_at trace m)
-  ready_at m = record { paced = (h m).paced; many = (stays.sound m).holds.cpus.many; domains_many = (stays.sound m).holds.domains.many }
-
-  along : (m : ℕ) → P trace (state_at trace m)
-  along zero = subst (P trace) (sym (run_none trace 0 (opening trace) refl)) (opens_so trace)
-  along (suc m) = ⊎_elim
-      (λ over. subst (P trace) (sym (run_stays trace m (suc m) (opening trace) (omega arith) over)) (along m))
-      (λ going.
-      let next = run_last trace m (suc m) (opening trace) (omega arith) going in
-      subst (P trace) (sym next) (on_move trace (state_at trace m) (ready_at m) (along m) (subst (Ending trace) next (h (suc m)))))
-      (cases_Bool (is_ended (state_at trace m)))
-
-  pub takes_turns : TakesTurns trace
-  takes_turns cpu there =
-      let s : State = last_state trace in
-      let at : Parses trace (cpu_of cpu s).todo (kinds_of cpu s.steps) = along most_moves cpu (omega (arith, there, (stays.sound most_moves).holds.cpus.many)) in
-      parses_cut trace (cpu_of cpu s).todo (kinds_of cpu (journal_of trace).steps)
-      (subst (Parses trace (cpu_of cpu s).todo) (ap (kinds_of cpu) (sym (journal_steps trace))) at)
+pub takes_turns : (trace : Trace) → StaysInRange trace → EndsWell trace → CpusTakeTurns trace
+takes_turns trace stays h cpu there =
+    let s : State = last_state trace in
+    let along = always trace (AllParse trace) (λ s now orders rotation k. k) (on_actor trace) (begin_cpu trace) (λ s ready k free. k) stays h (opens_so trace) in
+    let at : Parses trace (cpu_of cpu s).todo (kinds_of cpu s.steps) = along most_moves cpu (omega (arith, there, (stays.sound most_moves).holds.cpus.many)) in
+    parses_cut trace (cpu_of cpu s).todo (kinds_of cpu (journal_of trace).steps)
+    (subst (Parses trace (cpu_of cpu s).todo) (ap (kinds_of cpu) (sym (journal_steps trace))) at)

@@ -1,9 +1,8 @@
 -- Each silent move of a CPU's turn: what it puts down.
-use Rattle.std.proofs.Common.{◌≡◌, ◌⊎◌, inl, inr, ℕ, zero, suc, ◌+◌, ◌<◌, ◌||◌, Bool, true, false, cond, eqb, ltb, List, [], ◌∷◌, ◌++◌, length, Option, Some, None, refl, ◌∙◌, ap, subst, ⊎_elim}
+use Rattle.std.proofs.Common.{◌⊎◌, inl, inr, ℕ, zero, suc, ◌+◌, ◌<◌, ◌||◌, Bool, false, eqb, ltb, List, [], ◌∷◌, ◌++◌, length, Option, Some, None, refl, ◌∙◌, ap, ⊎_elim}
 use Rattle.wbt_estimate.specs.Estimate.{update_of}
 use Rattle.wbt_estimate.specs.declared.estimate.Estimate.{Estimate}
 use Rattle.wbt_expiry.specs.Waiting.{Waiting as Wheel}
-use Rattle.wbt_expiry.specs.declared.due.Due.{Due}
 use Rattle.wbt_flex.specs.Proportions.{fraction_of, may_be_added}
 use Rattle.wbt_grant.specs.declared.who.StepKind.{StepKind}
 use Rattle.wbt_grant.specs.declared.who.StepKind.TheVariants as kind
@@ -15,10 +14,10 @@ use Rattle.wbt_replay_moves.specs.Definition.Check.{decide_by, writer_of}
 use Rattle.wbt_replay_moves.specs.Definition.Cpu.{log_at, then_do}
 use Rattle.wbt_replay_moves.specs.Definition.Estimates.{estimate_to, sample_of}
 use Rattle.wbt_replay_moves.specs.Definition.Flight.{land_by, land_in, landed, share, share_now, share_group, part_in, with_written}
-use Rattle.wbt_replay_moves.specs.Definition.Idle.{take_or_rest, rest_until, test_by, with_hard, noticed, age, age_so, tested_by, take_now, with_pairs, note}
+use Rattle.wbt_replay_moves.specs.Definition.Idle.{take_or_rest, rest_until, test_by, with_hard, noticed, age, tested_by, take_now}
 use Rattle.wbt_replay_moves.specs.Definition.Perform.{make_move}
 use Rattle.wbt_replay_moves.specs.Definition.Scan.{close_by, close_in, close_items, is_over, hand_over_by, hand_over_in, land_empty}
-use Rattle.wbt_replay_moves.specs.Definition.State.{State, cpu_of, flusher_of, task_of, domain_of, writeback_of, queue_of, with_queue, in_phase}
+use Rattle.wbt_replay_moves.specs.Definition.State.{State, cpu_of, flusher_of, task_of, domain_of, writeback_of, queue_of, in_phase}
 use Rattle.wbt_replay_moves.specs.Definition.Writer.{end_by, end_now, has_nothing}
 use Rattle.wbt_replay_moves.specs.declared.state.ReplayPhase.{ReplayPhase}
 use Rattle.wbt_replay_moves.specs.declared.state.ReplayPhase.TheVariants as phase

@@ -270,3 +270,9 @@ returns-in-Ok-clause-schedules c = run.shows_schedules c.args.trace.now c.requir
 
 pub returns-in-Err-clause-schedules : goal.returns-in-Err-clause-schedules
 returns-in-Err-clause-schedules c = run.shows_schedules c.args.trace.now c.requires.lawful
+
+pub returns-in-Ok-clause-turns : goal.returns-in-Ok-clause-turns
+returns-in-Ok-clause-turns c = run.turns c.args.trace.now c.requires.lawful
+
+pub returns-in-Err-clause-turns : goal.returns-in-Err-clause-turns
+returns-in-Err-clause-turns c = run.turns c.args.trace.now c.requires.lawful

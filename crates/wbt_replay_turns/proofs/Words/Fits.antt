@@ -1,5 +1,5 @@
 -- The items that a turn begins with come to the steps of a turn.
-use Rattle.std.proofs.Common.{◌≡◌, ◌⊎◌, inl, inr, ℕ, zero, suc, ◌+◌, Bool, true, false, cond, leb, List, [], ◌∷◌, ◌++◌, length, refl, sym, ◌∙◌, ap, subst, ⊎_elim, arith}
+use Rattle.std.proofs.Common.{◌≡◌, inl, inr, ℕ, zero, suc, ◌+◌, leb, List, [], ◌∷◌, ◌++◌, refl, ◌∙◌, ap, ⊎_elim, arith}
 use Rattle.std.proofs.lemmas.List.{append-nil, append_assoc}
 use Rattle.wbt_counter.specs.declared.counter.Counter.{Counter}
 use Rattle.wbt_counter.specs.declared.counter.Counter.TheVariants.{Domain, Context}
@@ -17,7 +17,7 @@ use Rattle.wbt_replay_moves.specs.declared.todo.Step.TheVariants as step
 use Rattle.wbt_replay_moves.specs.declared.todo.Todo.{Todo}
 use Rattle.wbt_replay_moves.specs.declared.todo.Todo.TheVariants as todo
 use Rattle.wbt_replay_order.proofs.Facts.Lists.{either}
-use Rattle.wbt_replay_turns.specs.Words.{loads, counts, MayTake, IsTurn, rests, checks, writes_again, writes, tests, looks, completes}
+use Rattle.wbt_replay_turns.specs.Words.{loads, counts, IsTurn, rests, checks, writes_again, writes, tests, looks, completes}
 use Rattle.wbt_replay_turns.proofs.Words.Language.{Runs, SilentRuns, runs_parts, one_of, none_of, single}
 
 -- ---- loads
@@ -128,6 +128,14 @@ fits_look trace word h = let is = single (todo.Step step.Look) word h in looks i
 pub fits_complete : (trace : Trace) → Fits trace (todo.Step step.Complete ∷ [])
 fits_complete trace word h = let is = single (todo.Step step.Complete) word h in completes is.0 is.1 is.2
 
+-- loads, counts and what is taken, put together
+joined : (l a b taken x y word : List StepKind) (n k : ℕ) → x ≡ l ++ a → a ≡ counts n → y ≡ x ++ b → b ≡ counts k → word ≡ y ++ taken → word ≡ l ++ counts (n + k) ++ taken
+joined l a b taken x y word n k x_is a_is y_is b_is is =
+    let first : x ≡ l ++ counts n = x_is ∙ ap (λ (z : List StepKind). l ++ z) a_is in
+    let both : x ++ b ≡ l ++ counts n ++ counts k = ap (λ (z : List StepKind). z ++ b) first ∙ ap (λ (z : List StepKind). l ++ counts n ++ z) b_is in
+    let all : l ++ counts n ++ counts k ≡ l ++ counts (n + k) = append_assoc l (counts n) (counts k) ∙ ap (λ (z : List StepKind). l ++ z) (counts_more n k) in
+    is ∙ ap (λ (z : List StepKind). z ++ taken) (y_is ∙ (both ∙ all))
+
 pub fits_test : (trace : Trace) (measures weighs : List ℕ) (s : State)
     → Fits trace (domain_loads (domains trace) 0 ++ measures_of measures s ++ weighs_of weighs ++ todo.Silent silent.Test ∷ [])
 fits_test trace measures weighs s word h =
@@ -139,8 +147,6 @@ fits_test trace measures weighs s word h =
     let c = runs_parts l m b.0 b.2 in
     let n = measures_run measures s c.1 c.3 in
     let k = weighs_run weighs b.1 b.3 in
-    let front : a.0 ≡ loads (domains trace) ++ counts (n.0 + k.0) =
-    b.4 ∙ (ap (λ (x : List StepKind). x ++ b.1) (c.4 ∙ (ap (λ (x : List StepKind). x ++ c.1) (domains_run (domains trace) 0 c.0 c.2) ∙ ap (λ (x : List StepKind). loads (domains trace) ++ x) n.1))
-    ∙ (ap (λ (x : List StepKind). loads (domains trace) ++ counts n.0 ++ x) k.1
-    ∙ (append_assoc (loads (domains trace)) (counts n.0) (counts k.0) ∙ ap (λ (x : List StepKind). loads (domains trace) ++ x) (counts_more n.0 k.0)))) in
-    tests (n.0 + k.0) a.1 (single (todo.Silent silent.Test) a.1 a.3) (a.4 ∙ ap (λ (x : List StepKind). x ++ a.1) front)
+    let first : b.0 ≡ loads (domains trace) ++ c.1 = c.4 ∙ ap (λ (z : List StepKind). z ++ c.1) (domains_run (domains trace) 0 c.0 c.2) in
+    tests (n.0 + k.0) a.1 (single (todo.Silent silent.Test) a.1 a.3)
+    (joined (loads (domains trace)) c.1 b.1 a.1 b.0 a.0 word n.0 k.0 first n.1 b.4 k.1 a.4)
