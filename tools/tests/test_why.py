@@ -5,6 +5,7 @@ import os
 import re
 import subprocess
 import sys
+from functools import partial
 from unittest import mock
 
 from journals.law_reader import DomainReading, law_of
@@ -117,7 +118,7 @@ def why(*words: str, given: str = "") -> tuple[int, str, str]:
 class Why(WithDirectory):
     def test_each_fault_of_a_trace(self) -> None:
         for content, *wanted in TRACES:
-            self.refused(trace_of, content, *wanted)
+            self.refused(partial(trace_of, is_for_program=True), content, *wanted)
 
     def test_each_fault_of_a_law_text(self) -> None:
         for content, *wanted in LAWS:
