@@ -3,14 +3,14 @@
 
 It is written from the laws and from the description of the turns alone, with a turn as a generator that stops before each of its
 steps. The formulas are those of tools/laws. Nothing rests on it: worked runs and tools/check-runs take their texts from it, so that
-a definition that is changed together with its code is noticed.
+a definition that is changed together with its code is noticed. It also runs four lines of a trace that wbsim refuses, "In a closed loop" in
+docs/LINUX.md, but not with --as-wbsim.
 
 usage: tools/replay.py [--as-wbsim] < TRACE
 """
 import os
 import sys
 from bisect import insort
-from collections import deque
 
 sys.dont_write_bytecode = True
 sys.path.insert(0, os.path.dirname(os.path.realpath(__file__)))
@@ -24,7 +24,7 @@ from laws.counters import context_batch, domain_batch, error_of, fixed_bound  # 
 from laws.decision import DomainRead, Kind, Task  # noqa: E402
 from laws.estimate import AGE, Estimate  # noqa: E402
 from laws.limits import (  # noqa: E402
-    Limits, cgroup_avail, chunk_of, context_thresh, flight_of, follow, ratelimit_pages, setpoint_of, thresholds)
+    Limits, cgroup_avail, context_thresh, flight_of, follow, page_at, place_after, quota_of, ratelimit_pages, setpoint_of, thresholds)
 from laws.position import position  # noqa: E402
 from laws.proportions import Half, fraction, may_add  # noqa: E402
 from laws.strict import decide_for, is_over_own, strict_bound  # noqa: E402
@@ -60,6 +60,26 @@ class Writer:
         return verdict
 
 
+class Works:
+    """What a task is to do, one after another: pages of inodes, and rests in ticks. `next` is what it comes to, or None."""
+
+    def __init__(self, actions, inodes):
+        self.rest = self.each(actions, inodes)
+        self.take()
+
+    def take(self):
+        """What it comes to is done."""
+        self.next = next(self.rest, None)
+
+    @staticmethod
+    def each(actions, inodes):
+        for it in actions:
+            if isinstance(it, RestAction):
+                yield it.ticks
+            else:
+                yield from ((inodes[it.inode], page) for page in range(it.first, it.first + it.pages))
+
+
 # ---- the machine
 
 
@@ -79,35 +99,27 @@ def estimate_line(context, it):
 class Machine:
     """The machine of a trace, and what has become of it so far."""
 
-    def __init__(self, text):
-        """Of the text of a trace. Raises `Fault` where it is none."""
-        trace = trace_of(WholeText("standard input", text.encode("latin-1")))
+    def __init__(self, text, is_for_program=False):
+        """Of the text of a trace. Raises `Fault` where it is none. One for the program has no lines of a closed loop."""
+        trace = trace_of(WholeText("standard input", text.encode("latin-1")), is_for_program)
         self.settings, self.cap, self.halt, self.avail = trace.settings, trace.cap, trace.halt, trace.avail
         self.cpus = [Thing() for _ in range(trace.cpus)]
-        self.devices = [Thing(rate=it.rate, least=it.least, most=it.greatest, is_strict=it.is_strict, queue=[]) for it in trace.devices]
+        self.devices = [Thing(rate=it.rate, least=it.least, most=it.greatest, is_strict=it.is_strict, chunk=it.chunk,
+                              is_cyclic=it.is_cyclic, queue=[]) for it in trace.devices]
         self.domains = [Thing(group=None)] + [Thing(group=(it.file_pages, it.headroom)) for it in trace.cgroups]
-        self.contexts = [Thing(device=self.devices[it.device], group=it.domain, expire=it.expire) for it in trace.contexts]
-        self.inodes = [Thing(number=number, context=it.context, first=it.first, end=it.first + it.pages, marked=False)
+        self.contexts = [Thing(device=self.devices[it.device], group=it.domain, expire=it.expire, first=it.estimate)
+                         for it in trace.contexts]
+        self.inodes = [Thing(number=number, context=it.context, first=it.first, pages=it.pages, marked=False)
                        for number, it in enumerate(trace.inodes)]
-        self.tasks = [Thing(number=number, cpu=self.cpus[cpu], works=deque(), contexts=set(), until=0, ended=False)
-                      for number, cpu in enumerate(trace.tasks)]
+        self.tasks = [Thing(number=number, cpu=self.cpus[cpu], works=Works(trace.works(number), self.inodes), contexts=set(), until=0,
+                            ended=False) for number, cpu in enumerate(trace.tasks)]
         self.flushers = [Thing(number=number, device=self.devices[it.device], cpu=self.cpus[it.cpu], is_ageing=trace.is_ageing(it.device))
                          for number, it in enumerate(trace.flushers)]
-        for number, actions in trace.actions.items():
-            for it in actions:
-                self.plan(self.tasks[number], it)
+        for number, context in trace.writers():
+            self.tasks[number].contexts.add(context)
         self.orders = [(None, it.ticks) if isinstance(it, Tick) else (len(self.cpus) if it.cpu is None else it.cpu, it.steps)
                        for it in trace.orders]
         self.open()
-
-    def plan(self, task, action):
-        """What a task is to do: a page of an inode, or a rest in ticks."""
-        if isinstance(action, RestAction):
-            task.works.append(action.ticks)
-        else:
-            inode = self.inodes[action.inode]
-            task.works += [(inode, page) for page in range(action.first, action.first + action.pages)]
-            task.contexts.add(inode.context)
 
     def open(self):
         count = len(self.cpus)
@@ -126,7 +138,8 @@ class Machine:
         for name in [f"d{it}" for it in range(len(self.domains))] + [f"c{it}" for it in range(len(self.contexts))]:
             self.counters[name] = Thing(version=0, count=0, batch=(domain_batch if name[0] == "d" else context_batch)(count))
         for it in self.contexts:
-            it.estimate, it.written, it.parts = Estimate(), 0, {0: Half(0), it.group: Half(0)}
+            it.estimate = Estimate(it.first.bandwidth, it.first.average, it.first.ratelimit) if it.first else Estimate()
+            it.written, it.parts = 0, {0: Half(0), it.group: Half(0)}
             it.exact, it.most, it.greatest_limit = 0, 0, 0
         self.dirty, self.writeback = set(), set()
         self.fresh = self.done = 0
@@ -140,10 +153,11 @@ class Machine:
         for it in self.flushers:
             it.phase, it.until, it.kept, it.batch, it.hard = "idle", 0, False, [], self.domains[0].limits.hard
             it.waiting = []
+            it.places = dict.fromkeys(range(len(self.inodes)), 0)
             it.is_first = next(other for other in self.flushers if other.device is it.device) is it
         for it in self.tasks:
             it.writers = {context: Writer(self.contexts[context].device.is_strict, self.cap) for context in it.contexts}
-            it.writer, it.context, it.ended = None, None, not it.works
+            it.writer, it.context, it.ended = None, None, it.works.next is None
         self.running = sum(not it.ended for it in self.tasks)
         self.timer = Thing(next=1 + TIMER_REST, period=1 + PERIOD, turn=None)
         self.stopped, self.spent = 0, False
@@ -251,9 +265,9 @@ class Machine:
             task.until = self.clock + verdict.pause
 
     def write(self, cpu, task):
-        inode, page = task.works[0]
+        inode, page = task.works.next
         yield
-        task.works.popleft()
+        task.works.take()
         fresh = page not in self.dirty
         cpu.log.append(f"write {task.number} {page} {'fresh' if fresh else 'already'}")
         if fresh:
@@ -271,11 +285,12 @@ class Machine:
     def task_turn(self, cpu, task):
         if task.writer and task.writer.due:
             yield from self.check(cpu, task)
-        elif task.works and isinstance(task.works[0], int):
-            task.until = self.clock + task.works.popleft()
-        elif task.works:
+        elif isinstance(task.works.next, int):
+            task.until = self.clock + task.works.next
+            task.works.take()
+        elif task.works.next:
             yield from self.write(cpu, task)
-        if not task.works and not (task.writer and task.writer.due):
+        if task.works.next is None and not (task.writer and task.writer.due):
             task.ended = True
             self.running -= 1
             cpu.leaks += sum(it.task.dirtied for it in task.writers.values())
@@ -358,8 +373,8 @@ class Machine:
         yield
         inode.marked = False
         average = self.contexts[inode.context].estimate.average
-        chunk = chunk_of(average, it.hard)
-        it.__dict__.update(phase="scanning", inode=inode, page=inode.first, batch=[], chunk=chunk, noted=False)
+        quota = quota_of(average, it.hard, it.device.chunk)
+        it.__dict__.update(phase="scanning", inode=inode, start=it.places[inode.number], passed=0, batch=[], quota=quota, noted=False)
         self.step(cpu.number, "unmark")
 
     def idle(self, cpu, it):
@@ -378,7 +393,8 @@ class Machine:
         return [(other in self.dirty, other in self.writeback) for other in range(first, first + 32)]
 
     def scan(self, cpu, it):
-        page, inode = it.page, it.inode
+        inode = it.inode
+        page = page_at(inode.first, inode.pages, it.start, it.passed)
         yield
         seen = self.word(page)
         is_dirty, is_written = seen[page % 32]
@@ -394,10 +410,12 @@ class Machine:
             self.step(cpu.number, "claim")
             it.batch.append(page)
         it.noted |= is_dirty and is_written
-        it.page = page + 1
-        if it.page < inode.end and len(it.batch) < it.chunk:
+        it.passed += 1
+        if it.passed < inode.pages and len(it.batch) < it.quota:
             return
-        if it.page < inode.end or it.noted:
+        if it.device.is_cyclic:
+            it.places[inode.number] = place_after(inode.pages, it.start, it.passed)
+        if it.passed < inode.pages or it.noted:
             yield
             self.mark(cpu, inode)
         pages = len(it.batch)
@@ -589,11 +607,11 @@ def main():
     """Prints the journal of standard input, and answers the status."""
     parser = Parser(prog="replay.py", usage="tools/replay.py [--as-wbsim] < TRACE", description=__doc__.partition("\n")[0],
                     epilog=sentence())
-    parser.add_argument("--as-wbsim", action="store_true", help="ends with the statuses and the sentences of 'wbsim replay'")
+    parser.add_argument("--as-wbsim", action="store_true", help="ends with the statuses and the sentences of 'wbsim replay', and refuses the lines that it refuses")
     as_wbsim = parser.parse_args().as_wbsim
     machine = None
     try:
-        machine = Machine(read_whole("-").data.decode("latin-1"))
+        machine = Machine(read_whole("-").data.decode("latin-1"), as_wbsim)
         machine.run()
         sys.stdout.writelines(line + "\n" for line in machine.journal())
         sys.stdout.flush()

@@ -11,6 +11,7 @@ a run over threads is lawful for its trace says `wbsim audit`. A journal is read
     trace         what a machine has and what its tasks do
     trace_limits  what its numbers and its lines are at most
     trace_reader  reading that
+    trace_text    printing it, as `wbsim check` does, with the lines that only the model has
     law_reader    reading a law text
     events        what each line of a journal says, as a type for each sort of line
     forms         how a line of each type is spelled

@@ -70,7 +70,7 @@ class Plan:
     """What a task still has to do: how long it rests after the write that it made last."""
 
     def __init__(self, trace: Trace, task: int) -> None:
-        self._actions = iter(trace.actions.get(task, []))
+        self._actions = trace.works(task)
         self._left = 0
         self._begin()
 

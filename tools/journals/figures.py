@@ -13,6 +13,8 @@ from .step_sums import steps_of, sums
 
 TYPE_CHECKING = False
 if TYPE_CHECKING:
+    from collections.abc import Iterator
+
     from .step_sums import StepSums
 
 OPENING = 1
@@ -63,12 +65,15 @@ class Figures(namedtuple("Figures", "pauses paused longest waits pages latest be
 
 
 class Plan:
-    """What a task still has to do: the pages of the write that it is in, how long it rests after the page that came last, and the writes that
-    follow, each as its pages and the rest after it. `ready` is when it may go on."""
+    """What a task still has to do: the pages of the write that it is in and how long it rests after them, how long it rests after the page that
+    came last, and the writes that follow, each as its pages and the rest after it. A pace, its pages and ticks, cuts them. `ready` is when it
+    may go on."""
 
     def __init__(self) -> None:
         self.actions = [[0, 0]]
-        self.at, self.left, self.rest, self.ready = 0, 0, 0, OPENING
+        self.pace = 1 << 62, 0
+        self.left, self.after, self.rest, self.ready = 0, 0, 0, OPENING
+        self.following = self.cut()
 
     def begun(self) -> Plan:
         """At the opening."""
@@ -79,19 +84,34 @@ class Plan:
 
     def go_on(self) -> None:
         """To the next write."""
-        self.at += 1
-        self.left = self.actions[self.at][0] if self.at < len(self.actions) else 1 << 62
+        self.left, self.after = next(self.following, (1 << 62, 0))
+
+    def cut(self) -> Iterator[tuple[int, int]]:
+        """The writes, each as its pages and the rest after it, as the pace cuts them."""
+        pages, ticks = self.pace
+        number, whole = 0, sum(many for many, _ in self.actions)
+        for left, rest in self.actions[1:]:
+            while left:
+                many = min(left, pages - number % pages)
+                number, left = number + many, left - many
+                yield many, (ticks if number % pages == 0 and number < whole else 0) + (0 if left else rest)
+
+    def rests(self) -> bool:
+        """Whether the task rests at all."""
+        return self.pace[0] < sum(many for many, _ in self.actions) or any(rest for _, rest in self.actions)
 
 
-ACTION = re.compile(r"^(?:task ([0-9]+) |(write|rest) ([0-9]+) (?:[0-9]+ [0-9]+ )?([0-9]+)$)", re.M)
+ACTION = re.compile(r"^(?:task ([0-9]+) |pace ([0-9]+) ([0-9]+) ([0-9]+)$|(write|rest) ([0-9]+) (?:[0-9]+ [0-9]+ )?([0-9]+)$)", re.M)
 
 
 def plans_of(trace: str) -> list[Plan]:
     """Those of the tasks of a trace, which is one."""
     plans: dict[int, Plan] = {}
-    for task, word, who, many in ACTION.findall(trace):
+    for task, paced, pages, ticks, word, who, many in ACTION.findall(trace):
         if task:
             plans[int(task)] = Plan()
+        elif paced:
+            plans[int(paced)].pace = int(pages), int(ticks)
         elif word == "write":
             plans[int(who)].actions.append([int(many), 0])
         else:
@@ -109,7 +129,7 @@ def figures(trace: str, journal: bytes) -> Figures:
     plans, latest = plans_of(trace), max(int(now) for _, now, _ in limits)
     steps = sums(journal, first, end)
     after = first - len(STEPS) if steps else LEFT.search(journal, head.end() - 1).end()
-    if any(rest for plan in plans for _, rest in plan.actions):
+    if any(plan.rests() for plan in plans):
         checks, latest = walk(journal, head.end(), after, plans, latest)
     else:
         checks, latest = look(journal, head.end() - 1, after, latest)
@@ -185,7 +205,7 @@ def written(plan: Plan, pages: int, known: int) -> int:
         some = min(pages, plan.left)
         pages, plan.left, plan.rest = pages - some, plan.left - some, 0
         if not plan.left:
-            plan.rest = plan.actions[plan.at][1]
+            plan.rest = plan.after
             plan.go_on()
         plan.ready = known + plan.rest
     return known

@@ -75,6 +75,8 @@ class Reasons:
         self._rates = rates
         self._error = error_of(trace.cpus)
         self._firsts = [inode.first for inode in trace.inodes]
+        self._first_rates = [(it.estimate.average, it.estimate.ratelimit) if it.estimate else (FIRST_RATE, FIRST_RATE)
+                             for it in trace.contexts]
         self._check_after = 0
         self._cpus = [CpuNumbers() for _ in range(trace.cpus)]
         self._cpu = self._cpus[0]
@@ -134,7 +136,7 @@ class Reasons:
     def _check(self, event: events.Check) -> Reason:
         writer = self._writer(event.task, event.context)
         reads = [domain_read(self._trace, read, event.context) for read in self._reads]
-        average, rate_limit = self._rates.get((event.context, event.estimate), (FIRST_RATE, FIRST_RATE))
+        average, rate_limit = self._rates.get((event.context, event.estimate), self._first_rates[event.context])
         is_strict = self._trace.is_strict(event.context)
         asked = Asked(reads, self._pages, average, rate_limit, writer.task, event.now, self._error, is_strict)
         verdict = decide_for(is_strict, reads, self._pages, average, rate_limit, writer.task, event.now, self._error, self._trace.cap)

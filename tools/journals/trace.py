@@ -1,17 +1,21 @@
 """What a trace says: a machine and what its tasks do."""
 from __future__ import annotations
 
+from collections.abc import Iterator
 from dataclasses import dataclass, field
 
 
 @dataclass(frozen=True)
 class Device:
-    """A device: pages a second, its least and greatest share in percent, and whether each context is held to its own part."""
+    """A device: pages a second, its least and greatest share in percent, and whether each context is held to its own part. Where lines say
+    so, a scan for it ends with so many pages, and goes on where the last one ended."""
 
     rate: int
     least: int
     greatest: int
     is_strict: bool = False
+    chunk: int | None = None
+    is_cyclic: bool = False
 
 
 @dataclass(frozen=True)
@@ -23,12 +27,23 @@ class Cgroup:
 
 
 @dataclass(frozen=True)
+class FirstEstimate:
+    """The estimate of a context at the opening, in pages a second."""
+
+    bandwidth: int
+    average: int
+    ratelimit: int
+
+
+@dataclass(frozen=True)
 class Context:
-    """A context: the pages of one domain on one device. Where a line says so, its inodes are due after so many hundredths of a second."""
+    """A context: the pages of one domain on one device. Where lines say so, its inodes are due after so many hundredths of a second, and its
+    first estimate isn't the one that all have."""
 
     device: int
     domain: int
     expire: int | None = None
+    estimate: FirstEstimate | None = None
 
 
 @dataclass(frozen=True)
@@ -38,6 +53,14 @@ class Inode:
     context: int
     first: int
     pages: int
+
+
+@dataclass(frozen=True)
+class Pace:
+    """A task rests for so many ticks after each so many of its pages, where a further one follows."""
+
+    pages: int
+    ticks: int
 
 
 @dataclass(frozen=True)
@@ -93,8 +116,12 @@ class Trace:
     contexts: list[Context] = field(default_factory=list)
     inodes: list[Inode] = field(default_factory=list)
     tasks: list[int] = field(default_factory=list)
+    paces: dict[int, Pace] = field(default_factory=dict)
     flushers: list[Flusher] = field(default_factory=list)
     actions: dict[int, list[WriteAction | RestAction]] = field(default_factory=dict)
+    acting: list[int] = field(default_factory=list)
+    """The task of each action, in the order of the lines."""
+
     orders: list[Order | Tick] = field(default_factory=list)
     halt: int | None = None
     pages: int = 0
@@ -123,6 +150,21 @@ class Trace:
     def ageing_devices(self) -> list[int]:
         """The devices whose inodes are written for their age."""
         return [device for device in range(len(self.devices)) if self.is_ageing(device)]
+
+    def works(self, task: int) -> Iterator[WriteAction | RestAction]:
+        """What a task does, one after another: its actions, each write cut where its pace has a rest."""
+        pace, number = self.paces.get(task), 0
+        for action in self.actions.get(task, []):
+            if pace is None or isinstance(action, RestAction):
+                yield action
+                continue
+            done = 0
+            while done < action.pages:
+                if number and number % pace.pages == 0:
+                    yield RestAction(pace.ticks)
+                many = min(action.pages - done, pace.pages - number % pace.pages)
+                yield WriteAction(action.inode, action.first + done, many)
+                done, number = done + many, number + many
 
     def writers(self) -> set[tuple[int, int]]:
         """The pairs of a task and the context of an inode that it writes."""

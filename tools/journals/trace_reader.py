@@ -1,4 +1,5 @@
-"""Reading a trace. A text that `wbsim check` refuses is refused here with the same line and cause.
+"""Reading a trace. A text that `wbsim check` refuses is refused here with the same line and cause, but for the lines of a closed loop,
+which that program doesn't know. They are refused where the text is for it.
 
 Each call of a line looks for its faults in the order of the format's table: unknown names, what is given twice, what is out of range,
 too many. Of several with one cause the leftmost is told.
@@ -14,7 +15,7 @@ from program.errors import Cause, Fault
 from . import trace_limits as limits
 from .ranges import CAP, CPUS, Range
 from .spelling import column_of, cut
-from .trace import Cgroup, Context, Device, Flusher, Inode, Order, RestAction, Tick, Trace, WriteAction
+from .trace import Cgroup, Context, Device, FirstEstimate, Flusher, Inode, Order, Pace, RestAction, Tick, Trace, WriteAction
 from .whole_text import Refused, WholeText, read_whole
 
 COUNTS = {
@@ -22,6 +23,9 @@ COUNTS = {
     "expire": 2, "inode": 3, "task": 2, "flusher": 3, "write": 4, "rest": 2, "order": 2, "order timer": 1, "tick": 1, "halt": 1,
 }
 """How many numbers each line has."""
+
+LOOP_COUNTS = {"chunk": 2, "cyclic": 1, "estimate": 4, "pace": 3}
+"""The same of the lines of a closed loop, which `tools/replay.py` alone runs."""
 
 
 class Found(Exception):
@@ -39,9 +43,9 @@ def read_trace(path: str) -> Trace:
     return trace_of(read_whole(path))
 
 
-def trace_of(text: WholeText) -> Trace:
-    """The trace of a text. Raises `Fault` where it is none."""
-    reader = TraceReader()
+def trace_of(text: WholeText, is_for_program: bool = False) -> Trace:
+    """The trace of a text. Raises `Fault` where it is none. One for the program has no lines of a closed loop."""
+    reader = TraceReader(is_for_program)
     text.give(reader)
     missing = reader.missing()
     if missing:
@@ -51,6 +55,8 @@ def trace_of(text: WholeText) -> Trace:
 
 def unknown_word(word: str) -> str:
     """What is said of a word that begins no line, or of two."""
+    if word in LOOP_COUNTS:
+        return f"no line of a trace for wbsim begins with '{word}': only tools/replay.py reads such a line"
     near = get_close_matches(word.lower(), [*COUNTS, "set"], 1, 0.75)
     hint = f"; is it '{near[0]}'?" if near else ""
     if word.startswith("set "):
@@ -61,8 +67,9 @@ def unknown_word(word: str) -> str:
 class TraceReader:
     """Takes a trace line by line."""
 
-    def __init__(self) -> None:
+    def __init__(self, is_for_program: bool = False) -> None:
         self.trace = Trace()
+        self.counts = COUNTS if is_for_program else {**COUNTS, **LOOP_COUNTS}
         self.number = 0
         self.lines: dict[str, list[int]] = {"avail": [], "cgroup": [0]}
         self.action_lines = 0
@@ -72,18 +79,19 @@ class TraceReader:
             "cgroup": self.cgroup, "context": self.context, "expire": self.expire, "inode": self.inode, "task": self.task,
             "flusher": self.flusher, "write": self.write, "rest": self.rest, "order": self.order, "order timer": self.order_timer,
             "tick": self.tick, "halt": self.halt,
+            "chunk": self.chunk, "cyclic": self.cyclic, "estimate": self.estimate, "pace": self.pace,
         }
         for name in limits.SETTINGS:
             self.calls[f"set {name}"] = lambda value, name=name: self.setting(name, value)
 
     def spell(self, text: str) -> None:
         """Raises `Refused` where the text is spelled as no line."""
-        cut(text, COUNTS, unknown_word)
+        cut(text, self.counts, unknown_word)
 
     def line(self, text: str) -> None:
         """One line. Raises `Refused`."""
         self.number += 1
-        word, numbers = cut(text, COUNTS, unknown_word)
+        word, numbers = cut(text, self.counts, unknown_word)
         try:
             self.calls[word](*numbers)
         except Found as found:
@@ -205,6 +213,19 @@ class TraceReader:
         self.stands(f"strict {device}")
         self.trace.devices[device] = replace(self.trace.devices[device], is_strict=True)
 
+    def chunk(self, device: int, pages: int) -> None:
+        self.known(0, "device", device)
+        self.once(f"chunk {device}")
+        self.ranged(1, pages, limits.CHUNK)
+        self.stands(f"chunk {device}")
+        self.trace.devices[device] = replace(self.trace.devices[device], chunk=pages)
+
+    def cyclic(self, device: int) -> None:
+        self.known(0, "device", device)
+        self.once(f"cyclic {device}")
+        self.stands(f"cyclic {device}")
+        self.trace.devices[device] = replace(self.trace.devices[device], is_cyclic=True)
+
     def cgroup(self, number: int, file_pages: int, headroom: int) -> None:
         self.follows("cgroup", number)
         self.ranged(1, file_pages, limits.FILE_PAGES)
@@ -228,6 +249,14 @@ class TraceReader:
         self.stands(f"expire {context}")
         self.trace.contexts[context] = replace(self.trace.contexts[context], expire=hundredths)
 
+    def estimate(self, context: int, bandwidth: int, average: int, ratelimit: int) -> None:
+        self.known(0, "context", context)
+        self.once(f"estimate {context}")
+        for place, rate in enumerate((bandwidth, average, ratelimit), 1):
+            self.ranged(place, rate, limits.RATE_OF_ESTIMATE)
+        self.stands(f"estimate {context}")
+        self.trace.contexts[context] = replace(self.trace.contexts[context], estimate=FirstEstimate(bandwidth, average, ratelimit))
+
     def inode(self, number: int, context: int, pages: int) -> None:
         self.known(1, "context", context)
         self.follows("inode", number)
@@ -246,6 +275,14 @@ class TraceReader:
         self.room_for("task")
         self.stands("task")
         self.trace.tasks.append(cpu)
+
+    def pace(self, task: int, pages: int, ticks: int) -> None:
+        self.known(0, "task", task)
+        self.once(f"pace {task}")
+        self.ranged(1, pages, limits.PACE)
+        self.ranged(2, ticks, limits.REST)
+        self.stands(f"pace {task}")
+        self.trace.paces[task] = Pace(pages, ticks)
 
     def flusher(self, number: int, device: int, cpu: int) -> None:
         self.known(1, "device", device)
@@ -284,6 +321,7 @@ class TraceReader:
 
     def act(self, task: int, action: WriteAction | RestAction) -> None:
         self.trace.actions.setdefault(task, []).append(action)
+        self.trace.acting.append(task)
 
     def order(self, cpu: int, steps: int) -> None:
         self.cpu_stands(0)

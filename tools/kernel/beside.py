@@ -1,17 +1,21 @@
 """What a kernel did, and what a replay of a trace like its machine did.
 
-Both are looked at from the first check that isn't free to the last one. A level is held from check to check. Pages written are those of
+Both are looked at from the first check that isn't free to the last one. The writers of a replay are its tasks with a pace, if there are any. A level is held from check to check. Pages written are those of
 the whole machine for the kernel, and those of the batches that were written in the span for a replay.
 """
 from __future__ import annotations
 
-from collections.abc import Iterable, Sequence
+from collections import Counter
+from collections.abc import Callable, Iterable, Sequence
 from dataclasses import dataclass, field
+from typing import NamedTuple
 
 from journals import events
 from journals.events import Decision, Event
 from journals.trace import Trace
 
+from .joining import Joined
+from .loop_machine import FEW
 from .whole import Story
 
 Point = tuple[float, float]
@@ -66,32 +70,49 @@ class Span:
         return sum(after[1] < before[1] for before, after in pairs), len(pairs)
 
 
-def of_kernel(story: Story) -> Span:
-    """What the kernel did."""
-    begin, end = story.checks[0].check.time, story.checks[-1].check.time
-    it = Span("kernel", sorted({joined.check.task for joined in story.checks}), checks=len(story.checks))
-    for joined in story.checks:
+def of_kernel(story: Story, longest: float | None = None) -> Span:
+    """What the kernel did, in at most so many seconds."""
+    begin = story.checks[0].check.time
+    checks = [joined for joined in story.checks if longest is None or joined.check.time - begin <= longest]
+    end = checks[-1].check.time
+    it = Span("kernel", sorted({joined.check.task for joined in checks}), checks=len(checks))
+    for joined in checks:
         check = joined.check
-        it.levels.append((check.time - begin, check.dirty))
+        it.levels.append((check.time - begin, joined.state.count if joined.state and check.is_of_cgroup else check.dirty))
         if check.pause > 0:
             it.pauses.append((check.task, check.time - begin, check.pause / 1000))
             it.waits += not check.rate
         if joined.state:
             freerun = (joined.state.thresh + joined.state.background) // 2
             it.limits = (freerun, check.setpoint, joined.state.thresh, max(check.limit, joined.state.thresh))
+    disks = written_disks(checks)
     for sample in story.text.samples:
-        it.rate_limits.setdefault(f"disk {sample.disk}", []).append((sample.time - begin, sample.ratelimit))
+        if sample.disk in disks and sample.time <= end:
+            points = it.rate_limits.setdefault(f"disk {sample.disk}", [])
+            if points and sample.time <= begin:
+                points.clear()
+            points.append((max(sample.time - begin, 0.0), sample.ratelimit))
     states = [state for state in story.text.states if begin <= state.time <= end]
     if len(states) > 1:
         it.written = (states[-1].written - states[0].written) / max(states[-1].time - states[0].time, 1e-9)
     return it
 
 
-def of_replay(trace: Trace, journal: Iterable[Event]) -> Span:
-    """What a replay did."""
-    it = Span("replay", [f"task {number}" for number in range(len(trace.tasks))])
+def written_disks(checks: Sequence[Joined]) -> set[str]:
+    """The disks of checks but those that have few of their pages, each with its cgroup."""
+    pages: Counter[str] = Counter()
+    for it in checks:
+        pages[it.check.disk] += it.check.dirtied
+    return {disk for disk, many in pages.items() if many * FEW >= sum(pages.values())}
+
+
+def of_replay(trace: Trace, journal: Iterable[Event], longest: float | None = None) -> Span:
+    """What a replay did, in at most so many seconds."""
+    writers = sorted(trace.paces) or list(range(len(trace.tasks)))
+    written = {context for task, context in trace.writers() if task in writers}
+    it = Span("replay", [f"task {number}" for number in writers])
     levels: list[tuple[int, int]] = []
-    pauses: list[tuple[int, int, int]] = []
+    pauses: list[tuple[int, int, int, bool]] = []
     rate_limits: list[tuple[int, int, int]] = []
     batches: list[tuple[int, int]] = []
     count = 0
@@ -100,13 +121,12 @@ def of_replay(trace: Trace, journal: Iterable[Event]) -> Span:
             count = max(event.count, 0)
             freerun = (event.thresh + event.background) // 2
             it.limits = (freerun, (freerun + event.hard) // 2, event.thresh, event.hard)
-        elif isinstance(event, events.Check) and event.decision is not Decision.FREE:
+        elif isinstance(event, events.Check) and event.decision is not Decision.FREE and event.task in writers:
             levels.append((event.now, count))
             if event.pause:
-                pauses.append((event.task, event.now, event.pause))
-                it.waits += event.decision is Decision.WAIT
-        elif isinstance(event, events.Estimate):
-            rate_limits.append((event.at, trace.contexts[event.context].device, event.rate_limit))
+                pauses.append((event.task, event.now, event.pause, event.decision is Decision.WAIT))
+        elif isinstance(event, events.Estimate) and event.context in written:
+            rate_limits.append((event.at, event.context, event.rate_limit))
         elif isinstance(event, events.Batch):
             batches.append((event.until, event.pages))
         elif isinstance(event, events.Steps):
@@ -115,35 +135,66 @@ def of_replay(trace: Trace, journal: Iterable[Event]) -> Span:
     if not levels:
         return it
     begin, end = levels[0][0], levels[-1][0]
-    it.checks = len(levels)
-    it.levels = [((now - begin) / 1000, pages) for now, pages in levels]
-    it.pauses = sorted((f"task {task}", (now - begin) / 1000, length / 1000) for task, now, length in pauses)
-    for at, device, rate in sorted(rate_limits):
+    if longest is not None:
+        end = min(end, begin + round(1000 * longest))
+    it.levels = [((now - begin) / 1000, pages) for now, pages in levels if now <= end]
+    it.checks = len(it.levels)
+    pauses = [pause for pause in pauses if pause[1] <= end]
+    it.pauses = sorted((f"task {task}", (now - begin) / 1000, length / 1000) for task, now, length, _ in pauses)
+    it.waits = sum(is_wait for *_, is_wait in pauses)
+    for at, context, rate in sorted(rate_limits):
         if begin <= at <= end:
-            it.rate_limits.setdefault(f"device {device}", []).append(((at - begin) / 1000, rate))
+            it.rate_limits.setdefault(f"context {context}", []).append(((at - begin) / 1000, rate))
     it.written = sum(pages for until, pages in batches if begin < until <= end) / it.seconds
     return it
 
 
-def rows(spans: Sequence[Span]) -> list[tuple[str, list[str]]]:
-    """The table: what it is, and the value of each."""
-    def each(of: object) -> list[str]:
-        return [of(it) for it in spans]  # type: ignore[operator]
+class Row(NamedTuple):
+    """A row of the table: what it is, the value of each, and the quotient of the second to the first, where there is one."""
 
-    return [
-        ("seconds", each(lambda it: f"{it.seconds:.1f}")),
-        ("checks that aren't free", each(lambda it: f"{it.checks}")),
-        ("pages of the domain, mean", each(lambda it: f"{it.level():.0f}")),
-        ("  least", each(lambda it: f"{min((pages for _, pages in it.levels), default=0):.0f}")),
-        ("  greatest", each(lambda it: f"{max((pages for _, pages in it.levels), default=0):.0f}")),
-        ("  setpoint", each(lambda it: f"{it.limits[1]}")),
-        ("  hard limit", each(lambda it: f"{it.limits[3]}")),
-        ("pages written a second", each(lambda it: f"{it.written:.0f}")),
-        ("time paused of a writer, %", each(lambda it: f"{it.paused():.1f}")),
-        ("pauses a second of a writer", each(lambda it: f"{len(it.pauses) / it.seconds / max(len(it.writers), 1):.1f}")),
-        ("a pause, mean, ms", each(lambda it: f"{1000 * sum(length for *_, length in it.pauses) / max(len(it.pauses), 1):.1f}")),
-        ("  longest, ms", each(lambda it: f"{1000 * max((length for *_, length in it.pauses), default=0):.0f}")),
-        ("  at a rate of 0, %", each(lambda it: f"{100 * it.waits / max(len(it.pauses), 1):.1f}")),
-        ("rate limit, mean, pages/s", each(lambda it: f"{it.rate_limit():.0f}")),
-        ("  estimates that fell, of all", each(lambda it: "{} of {}".format(*it.fallen()))),
-    ]
+    name: str
+    values: list[str]
+    quotient: str
+
+
+def rows(spans: Sequence[Span]) -> list[Row]:
+    """The table."""
+    fell = Row("  estimates that fell, of all", ["{} of {}".format(*it.fallen()) for it in spans], "")
+    return [*(row_of(name, [of(it) for it in spans], digits) for name, digits, of in NUMBERS), fell]
+
+
+def row_of(name: str, values: list[float], digits: int) -> Row:
+    """The row of some values with so many digits behind the point."""
+    quotient = f"{values[1] / values[0]:.2f}" if len(values) == 2 and values[0] else ""
+    return Row(name, [f"{value:.{digits}f}" for value in values], quotient)
+
+
+NUMBERS: list[tuple[str, int, Callable[[Span], float]]] = [
+    ("seconds", 1, lambda it: it.seconds),
+    ("checks that aren't free", 0, lambda it: it.checks),
+    ("pages of the domain, mean", 0, lambda it: it.level()),
+    ("  least", 0, lambda it: min((pages for _, pages in it.levels), default=0)),
+    ("  greatest", 0, lambda it: max((pages for _, pages in it.levels), default=0)),
+    ("  setpoint", 0, lambda it: it.limits[1]),
+    ("  hard limit", 0, lambda it: it.limits[3]),
+    ("pages written a second", 0, lambda it: it.written),
+    ("time paused of a writer, %", 1, lambda it: it.paused()),
+    ("pauses a second of a writer", 1, lambda it: len(it.pauses) / it.seconds / max(len(it.writers), 1)),
+    ("a pause, mean, ms", 1, lambda it: 1000 * sum(length for *_, length in it.pauses) / max(len(it.pauses), 1)),
+    ("  longest, ms", 0, lambda it: 1000 * max((length for *_, length in it.pauses), default=0)),
+    ("  at a rate of 0, %", 1, lambda it: 100 * it.waits / max(len(it.pauses), 1)),
+    ("rate limit, mean, pages/s", 0, lambda it: it.rate_limit()),
+]
+"""What each row but the last says: its name, how many digits stand behind the point, and its value."""
+
+
+def farthest(one: Sequence[Point], other: Sequence[Point]) -> tuple[float, float]:
+    """The greatest distance of two counts at one time, each held from point to point, and when it is that. Both have a point."""
+    counts, greatest = [one[0][1], other[0][1]], (0.0, 0.0)
+    last = min(one[-1][0], other[-1][0])
+    moves = sorted((time, which, pages) for which, points in enumerate((one, other)) for time, pages in points if time <= last)
+    for place, (time, which, pages) in enumerate(moves):
+        counts[which] = pages
+        if place + 1 == len(moves) or moves[place + 1][0] > time:
+            greatest = max(greatest, (abs(counts[0] - counts[1]), time), key=lambda it: it[0])
+    return greatest

@@ -5,7 +5,7 @@ from .clock import PROFILE, Clock
 from .numbers import ceil_div, sat_sub
 
 FIRST_RATE = 25600
-"""Each rate of an estimate before its first sample."""
+"""Each rate of an estimate before its first sample, where nothing else is said of its context."""
 
 AGE = 200
 """Ticks after which a sample makes a new estimate."""
@@ -57,9 +57,9 @@ def next_ratelimit(ratelimit: int, before: int, balanced: int, task: int, is_bel
 class Estimate:
     """An estimate, and what it becomes by samples."""
 
-    def __init__(self) -> None:
+    def __init__(self, bandwidth: int = FIRST_RATE, average: int = FIRST_RATE, ratelimit: int = FIRST_RATE) -> None:
         self.version, self.at, self.written, self.dirtied = 0, 1, 0, 0
-        self.bandwidth = self.average = self.ratelimit = self.balanced = FIRST_RATE
+        self.bandwidth, self.average, self.ratelimit, self.balanced = bandwidth, average, ratelimit, ratelimit
 
     def update(self, now: int, written: int, dirtied: int, ratio: int, is_below: bool) -> None:
         """Takes a sample, at least `AGE` ticks after the last one."""

@@ -87,6 +87,21 @@ def chunk_of(average: int, hard: int) -> int:
     return (min(average // 2, hard // 8) + 1024) // 1024 * 1024
 
 
+def quota_of(average: int, hard: int, chunk: int | None) -> int:
+    """With how many pages a scan ends: a chunk, or fewer where the device has so many."""
+    return chunk_of(average, hard) if chunk is None else min(chunk_of(average, hard), chunk)
+
+
+def page_at(first: int, pages: int, start: int, passed: int) -> int:
+    """The page at which a scan of an inode looks next, that began at a place of it and has passed so many pages."""
+    return first + (start + passed) % pages
+
+
+def place_after(pages: int, start: int, passed: int) -> int:
+    """The place of an inode that a scan comes to, that began at a place of it and has passed so many pages."""
+    return (start + passed) % pages
+
+
 def flight_of(pages: int, rate: int) -> int:
     """How many ticks a disk of so many pages a second needs for a batch."""
     return ceil_div(pages * 1000, rate)

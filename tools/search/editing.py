@@ -98,7 +98,7 @@ def tasks(lines: list[list[str]], value: int) -> list[list[str]]:
     had = sum(line[0] == "task" for line in lines)
     if not had:
         raise OtherWords("the trace has no task")
-    kept = [line for line in lines if line[0] not in ("task", "write", "rest") or int(line[1]) < value]
+    kept = [line for line in lines if line[0] not in ("task", "pace", "write", "rest") or int(line[1]) < value]
     inodes = {line[1]: line for line in lines if line[0] == "inode"}
     following = len(inodes)
     placed = [line[2] for line in lines if line[0] == "task"]
@@ -112,6 +112,6 @@ def tasks(lines: list[list[str]], value: int) -> list[list[str]]:
                     kept.append(["inode", str(following), *inodes[line[2]][2:]])
                     following += 1
                 kept.append(["write", str(task), own[line[2]], *line[3:]])
-            elif line[0] == "rest" and int(line[1]) == task % had:
-                kept.append(["rest", str(task), line[2]])
+            elif line[0] in ("pace", "rest") and int(line[1]) == task % had:
+                kept.append([line[0], str(task), *line[2:]])
     return kept

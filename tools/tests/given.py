@@ -5,6 +5,7 @@ written by hand for these tests.
 """
 from __future__ import annotations
 
+import glob
 import os
 import tempfile
 import unittest
@@ -36,11 +37,9 @@ def text(name: str) -> str:
 
 
 def examples() -> Iterable[tuple[str, str]]:
-    """Each trace of examples/ that has its journal beside it, and that journal."""
-    for name in sorted(os.listdir(EXAMPLES)):
-        stem, ending = os.path.splitext(os.path.join(EXAMPLES, name))
-        if ending == ".journal":
-            yield f"{stem}.trace", f"{stem}.journal"
+    """Each trace of examples/ and examples/loop/ that has its journal beside it, and that journal."""
+    for path in sorted(glob.glob(os.path.join(EXAMPLES, "*.journal")) + glob.glob(os.path.join(EXAMPLES, "loop", "*.journal"))):
+        yield f"{path.removesuffix('.journal')}.trace", path
 
 
 def trace_of(name: str) -> Trace:

@@ -63,6 +63,11 @@ class Parameters(unittest.TestCase):
         self.assertEqual((len(more.tasks), len(more.inodes), more.pages), (5, 5, 3 * 107 + 2 * 75))
         self.assertEqual([more.inodes[action.inode].pages for task in range(5) for action in more.actions[task]], [107, 75, 107, 75, 107])
 
+    def test_paces_of_tasks(self) -> None:
+        paced = "task 0 0\ntask 1 0\npace 1 2 3\ninode 0 0 1\nwrite 1 0 0 1\n"
+        self.assertEqual(parameter("tasks").changed(paced, 1), "task 0 0\ninode 0 0 1\n")
+        self.assertIn("\npace 3 2 3\n", parameter("tasks").changed(paced, 4))
+
     def test_names_that_are_none(self) -> None:
         for name in ("speed", "device-01", "device-"):
             with self.assertRaisesRegex(OtherWords, "no parameter is named"):

@@ -3,8 +3,9 @@ from __future__ import annotations
 
 import os
 
-from journals.trace import Cgroup, Flusher, Order, RestAction, Tick, WriteAction
+from journals.trace import Cgroup, FirstEstimate, Flusher, Order, Pace, RestAction, Tick, WriteAction
 from journals.trace_reader import read_trace, trace_of as trace_of_text
+from journals.trace_text import trace_text
 from journals.whole_text import WholeText
 from program.errors import Cause, Fault
 
@@ -40,6 +41,23 @@ REFUSED = [
     (MACHINE + "expire 0 0\n", 8, Cause.OUT_OF_RANGE),
     (MACHINE + "expire 0 100001\n", 8, Cause.OUT_OF_RANGE),
     (MACHINE + "expire 0\n", 8, Cause.BAD_LINE),
+    (MACHINE + "chunk 0 0\n", 8, Cause.OUT_OF_RANGE),
+    (MACHINE + "chunk 0 2097153\n", 8, Cause.OUT_OF_RANGE),
+    (MACHINE + "chunk 0 2097152\nchunk 0 5\n", 9, Cause.GIVEN_TWICE),
+    (MACHINE + "chunk 1 0\n", 8, Cause.UNKNOWN_NAME),
+    (MACHINE + "chunk 0\n", 8, Cause.BAD_LINE),
+    (MACHINE + "cyclic 7\n", 8, Cause.UNKNOWN_NAME),
+    (MACHINE + "cyclic 0\ncyclic 0\n", 9, Cause.GIVEN_TWICE),
+    (MACHINE + "cyclic 0 1\n", 8, Cause.BAD_LINE),
+    (MACHINE + "estimate 0 0 1 1\n", 8, Cause.OUT_OF_RANGE),
+    (MACHINE + "estimate 0 1 1 1099511627777\n", 8, Cause.OUT_OF_RANGE),
+    (MACHINE + "estimate 0 1 1099511627776 1\nestimate 0 1 1 0\n", 9, Cause.GIVEN_TWICE),
+    (MACHINE + "estimate 1 1 1 1\n", 8, Cause.UNKNOWN_NAME),
+    (MACHINE + "pace 1 1 1\n", 8, Cause.UNKNOWN_NAME),
+    (MACHINE + "pace 0 0 1\n", 8, Cause.OUT_OF_RANGE),
+    (MACHINE + "pace 0 2097153 1\n", 8, Cause.OUT_OF_RANGE),
+    (MACHINE + "pace 0 1 1000000000001\n", 8, Cause.OUT_OF_RANGE),
+    (MACHINE + "pace 0 2097152 1000000000000\npace 0 0 0\n", 9, Cause.GIVEN_TWICE),
     ("task 0 0\n", 1, Cause.UNKNOWN_NAME),
     ("order 0 1\n", 1, Cause.UNKNOWN_NAME),
     ("cpus 1\ntask 1 0\n", 2, Cause.OUT_OF_RANGE),
@@ -86,6 +104,38 @@ class Traces(WithDirectory):
         trace = trace_of_text(WholeText("t", f"{MACHINE}{more}".encode("ascii")))
         self.assertEqual([context.expire for context in trace.contexts], [None, None, 100000])
         self.assertEqual(trace.ageing_devices(), [1])
+
+    def test_lines_of_a_closed_loop(self) -> None:
+        more = "device 1 1 0 100\ncontext 1 1 0\nflusher 1 1 0\nchunk 1 5\ncyclic 0\nestimate 1 100 90 50\npace 0 2 50\n"
+        trace = trace_of_text(WholeText("t", f"{MACHINE}{more}".encode("ascii")))
+        self.assertEqual([(device.chunk, device.is_cyclic) for device in trace.devices], [(None, True), (5, False)])
+        self.assertEqual([context.estimate for context in trace.contexts], [None, FirstEstimate(100, 90, 50)])
+        self.assertEqual(trace.paces, {0: Pace(2, 50)})
+
+    def test_a_pace_cuts_writes(self) -> None:
+        more = "inode 1 0 7\npace 0 2 50\nwrite 0 1 0 5\nrest 0 3\nwrite 0 1 5 2\n"
+        trace = trace_of_text(WholeText("t", f"{MACHINE}{more}".encode("ascii")))
+        rest = RestAction(50)
+        self.assertEqual(list(trace.works(0)), [WriteAction(1, 2, 2), rest, WriteAction(1, 4, 2), rest, WriteAction(1, 6, 1), RestAction(3),
+                                                WriteAction(1, 7, 1), rest, WriteAction(1, 8, 1)])
+        self.assertEqual(len(trace.actions[0]), 3)
+
+    def test_its_text_is_that_of_check(self) -> None:
+        for name in ("ordinary", "realistic"):
+            with open(os.path.join(EXAMPLES, f"{name}.out"), encoding="ascii") as file:
+                wanted = file.read()
+            text = "".join(f"{line}\n" for line in trace_text(read_trace(os.path.join(EXAMPLES, f"{name}.trace"))))
+            self.assertEqual(text, wanted)
+            self.assertEqual(list(trace_text(trace_of_text(WholeText("t", text.encode("ascii"))))), text.splitlines())
+
+    def test_where_lines_stand_in_its_text(self) -> None:
+        more = ("pace 0 2 50\ndevice 1 1 0 100\ncontext 1 1 0\nestimate 0 100 90 50\nexpire 1 10\nflusher 1 1 0\ncyclic 1\nchunk 1 5\n"
+                "strict 1\ncyclic 0\ntask 1 0\nwrite 1 0 0 1\nrest 0 3\nwrite 1 0 1 1\n")
+        text = list(trace_text(trace_of_text(WholeText("t", f"{MACHINE}{more}".encode("ascii")))))
+        self.assertEqual(text[7:], [
+            "device 0 25600 0 100", "device 1 1 0 100", "strict 1", "chunk 1 5", "cyclic 0", "cyclic 1", "context 0 0 0", "context 1 1 0",
+            "expire 1 10", "estimate 0 100 90 50", "inode 0 0 2", "task 0 0", "task 1 0", "pace 0 2 50", "flusher 0 0 0", "flusher 1 1 0",
+            "write 1 0 0 1", "rest 0 3", "write 1 0 1 1"])
 
     def test_what_orders_its_steps(self) -> None:
         trace = trace_of_text(WholeText("t", f"{MACHINE}cgroup 1 7 8\norder 0 3\norder timer 2\ntick 9\nhalt 5\n".encode("ascii")))

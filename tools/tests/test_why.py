@@ -5,6 +5,7 @@ import os
 import re
 import subprocess
 import sys
+from functools import partial
 from unittest import mock
 
 from journals.law_reader import DomainReading, law_of
@@ -33,6 +34,8 @@ TRACES = [
     ("cpus 1\navail 0 01", 2, 9, "bad line", "number spelled with a leading zero"),
     ("CPUS 1\n", 1, 1, "bad line", "no line of a trace begins with 'CPUS'; is it 'cpus'?"),
     ("now 5000\n", 1, 1, "bad line", "no line of a trace begins with 'now'"),
+    (MACHINE + "chunk 0 2\n", 8, 1, "bad line", "no line of a trace for wbsim begins with 'chunk': only tools/replay.py reads such a line"),
+    (MACHINE + "pace 0 x\n", 8, 1, "bad line", "no line of a trace for wbsim begins with 'pace': only tools/replay.py reads such a line"),
     ("set dirty_speed 1\n", 1, 5, "bad line", "no setting is named 'dirty_speed'"),
     ("set\n", 1, 4, "bad line", "a field is missing: 'set' has a second word"),
     ("cpus 01\n", 1, 6, "bad line", "number spelled with a leading zero"),
@@ -115,7 +118,7 @@ def why(*words: str, given: str = "") -> tuple[int, str, str]:
 class Why(WithDirectory):
     def test_each_fault_of_a_trace(self) -> None:
         for content, *wanted in TRACES:
-            self.refused(trace_of, content, *wanted)
+            self.refused(partial(trace_of, is_for_program=True), content, *wanted)
 
     def test_each_fault_of_a_law_text(self) -> None:
         for content, *wanted in LAWS:
@@ -189,6 +192,8 @@ class Why(WithDirectory):
         self.assertIn("lawful law text: a check in no cgroup", why("-", given=LAW)[1])
         self.assertIn("line 3, column 1: bad line: no line of a trace begins with 'now'", why("--as", "trace", "-", given=LAW)[1])
         self.assertIn("line 2, column 1: bad line: 'avail' where the 'cap'", why("--as", "law", "-", given=MACHINE)[1])
+        self.assertIn("no line of a trace for wbsim begins with 'estimate'", why("-", given="estimate 0 1 1 1\n")[1])
+        self.assertIn("bad line: 'estimate' where the 'cpus'", why("-", given="estimate 1 1\n")[1])
 
     def test_other_words_and_read_faults(self) -> None:
         self.assertEqual(why()[0], 1)

@@ -7,7 +7,8 @@ import subprocess
 import sys
 from collections import Counter
 
-from wrong.inputs import FULL, Input, examples, inputs, law_rows, small_replays, sum_of, trace_text, worked_runs
+from wrong.inputs import FULL, LOOP, Input, examples, inputs, law_rows, small_replays, sum_of, trace_text, worked_runs
+from wrong.loops import OF_LOOPS
 from wrong.order import WITHOUT_EFFECT, changed
 from wrong.rules import RULES, Rule
 from wrong.trying import Copy, parted
@@ -69,7 +70,8 @@ class OfTheRepository(WithDirectory):
         assert rows
         self.assertEqual(len(law_rows(ROOT)), int(rows.group(1)))
         self.assertEqual(len(small_replays(ROOT)), 4)
-        kept = [name for name in os.listdir(os.path.join(ROOT, "examples")) if name.endswith((".journal", ".sum"))]
+        folders = [os.path.join(ROOT, "examples"), os.path.join(ROOT, "examples", LOOP)]
+        kept = [name for folder in folders for name in os.listdir(folder) if name.endswith((".journal", ".sum"))]
         self.assertEqual(Counter(it.command for it in examples(ROOT)), {"replay": len(kept), "law": 1})
 
 
@@ -90,7 +92,9 @@ class OfRules(WithDirectory):
     def test_documents_say_how_many_there_are(self) -> None:
         for document in ("docs/CLAIMS.md", "docs/PROVED.md"):
             with open(os.path.join(ROOT, document), encoding="utf-8") as file:
-                self.assertRegex(file.read(), rf"\b{len(RULES)} (wrong )?rules\b", document)
+                text = file.read()
+            self.assertRegex(text, rf"\b{len(RULES) - len(OF_LOOPS)} (wrong )?rules\b", document)
+            self.assertRegex(text, rf"\b{len(OF_LOOPS)} more\b", document)
 
     def test_places_of_a_text(self) -> None:
         self.assertEqual(changed("a b c", ("a", "x"), ("c", "")), ("a b c", "x b "))

@@ -4,6 +4,7 @@
     inputs   every worked run, row and example of the repository: the text that goes in, and the one that is wanted
     rule     what a wrong rule is: a change of one place of `tools/replay.py` or `tools/laws/`
     order    the wrong rules of the order of a replay, and those that change no journal
+    loops    the wrong rules of the lines of a closed loop
     rules    all wrong rules
     outputs  what the program prints of inputs; it runs in the changed copy
     trying   the copy, the change, and which inputs notice it

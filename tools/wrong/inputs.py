@@ -25,6 +25,9 @@ UNKNOWN = 1 << 30
 FULL = ("last-step-halted.trace",)
 """The examples that make as many steps as a replay may have, which takes Python some tens of seconds: they are longer than all others."""
 
+LOOP = "loop"
+"""The folder of examples that `tools/replay.py` alone runs: they have lines that the program refuses."""
+
 
 @dataclass(frozen=True)
 class Input:
@@ -132,12 +135,13 @@ def small_replays(root: str) -> list[Input]:
 def examples(root: str) -> list[Input]:
     """Those whose output is kept, or its sum."""
     found = []
-    for path in sorted(glob.glob(os.path.join(root, "examples", "*.*"))):
+    folder = os.path.join(root, "examples")
+    for path in sorted(glob.glob(os.path.join(folder, "*.*")) + glob.glob(os.path.join(folder, LOOP, "*.*"))):
         stem, ending = os.path.splitext(path)
         for beside, command in KEPT.get(ending, {}).items():
             if os.path.exists(stem + beside):
                 kept = content(stem + beside)
-                name = os.path.basename(path)
+                name = os.path.relpath(path, folder)
                 unknown = 2 * UNKNOWN if name in FULL else UNKNOWN
                 wanted, length = (kept.strip(), unknown) if beside == ".sum" else (sum_of(kept), len(kept))
                 found.append(Input(name, command, content(path), wanted, length))

@@ -67,11 +67,11 @@ WEIGHING = """\
 UNMARKED = "        yield\n        inode.marked = False\n"
 CHUNK = """\
         average = self.contexts[inode.context].estimate.average
-        chunk = chunk_of(average, it.hard)
+        quota = quota_of(average, it.hard, it.device.chunk)
 """
 
 HANDED_OVER = """\
-        if it.page < inode.end or it.noted:
+        if it.passed < inode.pages or it.noted:
             yield
             self.mark(cpu, inode)
         pages = len(it.batch)
@@ -147,7 +147,7 @@ PERIODS = """\
 
 TURN = """\
             yield from self.check(cpu, task)
-        elif task.works and isinstance(task.works[0], int):
+        elif isinstance(task.works.next, int):
 """
 JOBS = """\
             jobs = [tasks] if tasks else []
@@ -203,16 +203,16 @@ OF_STEPS = (
     Rule("a test notices inodes where it begins, not where it has loaded all", REPLAY,
          *exchanged(LOADED + OLD_ESTIMATES + WEIGHING, NOTICED)),
     # Of a scan and a flight.
-    Rule("a quota is by the hard limit that is published", REPLAY, "chunk_of(average, it.hard)", "chunk_of(average, self.domains[0].limits.hard)"),
+    Rule("a quota is by the hard limit that is published", REPLAY, "quota_of(average, it.hard,", "quota_of(average, self.domains[0].limits.hard,"),
     Rule("a quota is by the estimate before the inode is unmarked", REPLAY, *exchanged(UNMARKED, CHUNK)),
     Rule("a batch's moment is taken before the mark", REPLAY,
-         *changed(HANDED_OVER, ("        if it.page", "        handed = self.clock\n        if it.page"),
+         *changed(HANDED_OVER, ("        if it.passed", "        handed = self.clock\n        if it.passed"),
                   ("min(self.clock + flight", "min(handed + flight"), ("{self.clock} {until}", "{handed} {until}"))),
     Rule("a page whose claim fails is passed over", REPLAY,
          'self.step(cpu.number, "claim")\n                return',
-         'self.step(cpu.number, "claim")\n                it.page = page + 1\n                return'),
-    Rule("an inode is scanned in one turn", REPLAY, "len(it.batch) < it.chunk:\n            return",
-         "len(it.batch) < it.chunk:\n            yield from self.scan(cpu, it)\n            return"),
+         'self.step(cpu.number, "claim")\n                it.passed += 1\n                return'),
+    Rule("an inode is scanned in one turn", REPLAY, "len(it.batch) < it.quota:\n            return",
+         "len(it.batch) < it.quota:\n            yield from self.scan(cpu, it)\n            return"),
     Rule("a batch lands in one turn", REPLAY, "        if it.batch:\n            return",
          "        if it.batch:\n            yield from self.land(cpu, it)\n            return"),
     Rule("the last page of a batch lands first", REPLAY, "it.batch.pop(0)", "it.batch.pop()"),
@@ -256,10 +256,10 @@ OF_NEXT_TURNS = (
          "        last = [number for number, _ in self.orders if number is not None][-1:] or [len(actors) - 1]\n"
          "        actors = actors[last[0] + 1:] + actors[:last[0] + 1]\n        while not self.is_over():\n            moved = False\n"),
     Rule("a writer that is let through writes in the turn of its check", REPLAY,
-         *changed(TURN, ("        elif task.works and", "        if task.writer and (task.writer.due or task.until > self.clock):\n            pass\n"
-                         "        elif task.works and"))),
+         *changed(TURN, ("        elif isinstance", "        if task.writer and (task.writer.due or task.until > self.clock):\n            pass\n"
+                         "        elif isinstance"))),
     Rule("a task that has written all pages ends without its last check", REPLAY,
-         "if not task.works and not (task.writer and task.writer.due):", "if not task.works:"),
+         "if task.works.next is None and not (task.writer and task.writer.due):", "if task.works.next is None:"),
     # From which place tasks, flushers and devices are sought.
     Rule("a CPU's flushers come before its writers", REPLAY,
          *changed(JOBS, ("jobs = [tasks] if tasks else []", "jobs = [flusher for flusher in self.flushers if flusher.cpu is it]"),
@@ -303,7 +303,7 @@ OF_MOMENTS = (
     Rule("the timer's first turn is a tick early", REPLAY, "next=1 + TIMER_REST", "next=TIMER_REST"),
     Rule("the first period begins a tick early", REPLAY, "period=1 + PERIOD", "period=PERIOD"),
     Rule("a rest begins where the task's last rest or pause ended", REPLAY,
-         "task.until = self.clock + task.works.popleft()", "task.until = max(task.until, 1) + task.works.popleft()"),
+         "task.until = self.clock + task.works.next", "task.until = max(task.until, 1) + task.works.next"),
     Rule("flushers keep their rests in the drain", REPLAY, "self.clock or not self.running and not it.kept", "self.clock"),
 )
 

@@ -16,3 +16,4 @@ class Rule(NamedTuple):
 REPLAY, LIMITS, POSITION, PAUSES = "replay.py", "laws/limits.py", "laws/position.py", "laws/pauses.py"
 DECISION, ESTIMATE, PROPORTIONS = "laws/decision.py", "laws/estimate.py", "laws/proportions.py"
 COUNTERS, ALLOWANCE, STRICT, AGE = "laws/counters.py", "laws/allowance.py", "laws/strict.py", "laws/age.py"
+WORKS = "journals/trace.py"

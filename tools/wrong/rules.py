@@ -1,6 +1,7 @@
 """The wrong rules. Those of the order of a replay stand in `order`."""
 from __future__ import annotations
 
+from .loops import OF_LOOPS
 from .order import OF_ORDER
 from .rule import AGE, ALLOWANCE, COUNTERS, DECISION, ESTIMATE, LIMITS, PAUSES, POSITION, PROPORTIONS, REPLAY, STRICT, Rule
 
@@ -69,7 +70,7 @@ OF_FLUSHERS = (
     Rule("background writeback by the last domain alone", REPLAY,
          "is_over |= max(count[1], 0)", "is_over = max(count[1], 0)"),
     Rule("a quota of one page more", REPLAY,
-         "if it.page < inode.end and len(it.batch) < it.chunk:", "if it.page < inode.end and len(it.batch) <= it.chunk:"),
+         "if it.passed < inode.pages and len(it.batch) < it.quota:", "if it.passed < inode.pages and len(it.batch) <= it.quota:"),
     Rule("a flusher keeps the hard limit of the opening", REPLAY,
          "it.hard, global_load = held[1].hard, (held, count)", "global_load = (held, count)"),
     Rule("a chunk is of the whole bandwidth", LIMITS, "min(average // 2, hard // 8)", "min(average, hard // 8)"),
@@ -79,9 +80,9 @@ OF_FLUSHERS = (
          "if other.device is it.device) is it", "if other.device is it.device) is not None"),
     Rule("a batch is added to the global domain alone", REPLAY, "for domain in sorted({0, at.group}):", "for domain in (0,):"),
     Rule("a page of an inode that was noted is not marked again", REPLAY,
-         "if it.page < inode.end or it.noted:", "if it.page < inode.end:"),
+         "if it.passed < inode.pages or it.noted:", "if it.passed < inode.pages:"),
     Rule("an inode whose scan stops at the quota is not marked again", REPLAY,
-         "if it.page < inode.end or it.noted:", "if it.noted:"),
+         "if it.passed < inode.pages or it.noted:", "if it.noted:"),
     Rule("a claim looks at its own page alone", REPLAY, "if self.word(page) != seen:", "if self.word(page)[page % 32] != seen[page % 32]:"),
     Rule("a flusher doesn't keep its rest in the drain", REPLAY,
          "self.clock + FLUSHER_REST if it.noted else 0, it.noted)", "self.clock + FLUSHER_REST if it.noted else 0)"),
@@ -218,7 +219,7 @@ OF_WRITERS = (
     Rule("a check is due one fresh write of the CPU later", ALLOWANCE, "elif since >= ratelimit_pages:", "elif since > ratelimit_pages:"),
     Rule("a due check leaves the CPU's fresh writes", ALLOWANCE, "    if dirtied >= limit:\n        since = 0", "    if dirtied >= limit:\n        since = since"),
     Rule("no check is due where no page is left", ALLOWANCE, "dirtied >= limit or not left)", "dirtied >= limit)"),
-    Rule("a task that has nothing to do has not ended", REPLAY, "it.writer, it.context, it.ended = None, None, not it.works",
+    Rule("a task that has nothing to do has not ended", REPLAY, "it.writer, it.context, it.ended = None, None, it.works.next is None",
          "it.writer, it.context, it.ended = None, None, False"),
     Rule("a page that is dirty already counts as a fresh one of its writer", REPLAY,
          "if fresh:\n            self.dirty.add(page)", "task.writers[inode.context].task = task.writers[inode.context].task._replace("
@@ -247,8 +248,8 @@ OF_TURNS = (
     Rule("a replay of all its steps is spent by a CPU that its halt line stops", REPLAY,
          "self.halt is not None and actor.made >= self.halt:",
          "self.halt is not None and actor.made >= self.halt and len(self.steps) < MOST_STEPS:"),
-    Rule("a rest ends one tick late", REPLAY, "task.until = self.clock + task.works.popleft()",
-         "task.until = self.clock + task.works.popleft() + 1"),
+    Rule("a rest ends one tick late", REPLAY, "task.until = self.clock + task.works.next",
+         "task.until = self.clock + task.works.next + 1"),
 )
 
 OF_STRICT_DEVICES = (
@@ -375,4 +376,4 @@ OF_AGES = (
 )
 
 RULES = (*OF_LIMITS, *OF_LOADS, *OF_FLUSHERS, *OF_ESTIMATES, *OF_PROPORTIONS, *OF_POSITIONS, *OF_PAUSES, *OF_DECISIONS, *OF_WRITERS,
-         *OF_COUNTERS, *OF_TURNS, *OF_ORDER, *OF_STRICT_DEVICES, *OF_AGES)
+         *OF_COUNTERS, *OF_TURNS, *OF_ORDER, *OF_STRICT_DEVICES, *OF_AGES, *OF_LOOPS)

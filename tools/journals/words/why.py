@@ -14,7 +14,8 @@ from ..trace_reader import trace_of
 from ..whole_text import WholeText, read_whole
 
 FIRST_OF_ONE = re.compile(
-    rb"^(?:(now|estimate|domain)|avail|set|device|strict|expire|cgroup|inode|flusher|write|rest|order|tick|halt)\b", re.MULTILINE)
+    rb"^(?:(now\b|estimate \S* \S*$|domain\b)|"
+    rb"(?:avail|set|device|strict|chunk|cyclic|cgroup|expire|estimate|inode|pace|flusher|write|rest|order|tick|halt)\b)", re.MULTILINE)
 """The first word that only law texts have, which is kept, or only traces."""
 
 SHOWN = {**{code: 0x2400 + code for code in range(32)}, ord("\t"): "→", ord("\r"): "↵", ord("\n"): "",
@@ -53,7 +54,7 @@ def kind_of(data: bytes) -> str:
 
 def lawful(whole: WholeText, kind: str) -> str:
     """What a text is. Raises `Fault` where it is refused."""
-    return law_words(law_of(whole)) if kind == "law" else trace_words(trace_of(whole))
+    return law_words(law_of(whole)) if kind == "law" else trace_words(trace_of(whole, is_for_program=True))
 
 
 def trace_words(trace: Trace) -> str:

@@ -11,11 +11,11 @@ from program.errors import OtherWords
 from program.output import Staging, held_text, publish
 from program.statuses import Status
 
-from ..beside import of_kernel, of_replay, rows
+from ..beside import farthest, of_kernel, of_replay, rows
 from .texts import add_text, joined
 
 FIT = 0.5
-"""The shorter of two spans is at least such a part of the longer one, or numbers of both say little beside each other."""
+"""A replay's span is at least such a part of the text's, or numbers of both say little beside each other."""
 
 FORMATS = ("png", "svg", "pdf")
 
@@ -24,7 +24,8 @@ def add(command: argparse.ArgumentParser) -> None:
     """A text, a trace and its journal, and whether there is a picture."""
     add_text(command)
     command.add_argument("trace", metavar="TRACE", help="of a machine like that of the text ('wb kernel trace')")
-    command.add_argument("journal", metavar="JOURNAL", help="its journal: tools/replay.py < TRACE, or wbsim replay")
+    command.add_argument("journal", metavar="JOURNAL", help="its journal: tools/replay.py < TRACE, or where the trace is made without --loop, wbsim replay")
+    command.add_argument("--seconds", type=float, metavar="S", help="only the first so many seconds of both")
     command.add_argument("--picture", metavar="DIRECTORY", help="draws both, too")
     command.add_argument("--name", default="beside", help="of the picture (beside)")
     command.add_argument("--force", action="store_true", help="write over a picture that lies there")
@@ -37,16 +38,19 @@ def run(given: argparse.Namespace) -> Status:
         picture.demand()
     story = joined(given)
     trace = read_trace(given.trace)
-    spans = [of_kernel(story), of_replay(trace, Reader(given.journal, trace).events())]
-    if not spans[1].levels:
+    kernel = of_kernel(story, given.seconds)
+    replay = of_replay(trace, Reader(given.journal, trace).events(), kernel.seconds)
+    spans = [kernel, replay]
+    if not replay.levels:
         raise OtherWords("the journal has no check that isn't free")
-    shorter, longer = sorted(span.seconds for span in spans)
-    if shorter < FIT * longer:
-        print(f"wb: the spans don't fit: {spans[0].seconds:.1f} s of the kernel, {spans[1].seconds:.1f} s of the replay", file=sys.stderr)
+    if replay.seconds < FIT * kernel.seconds:
+        print(f"wb: the replay spans less than half of the text: {replay.seconds:.1f} of {kernel.seconds:.1f} s", file=sys.stderr)
     with held_text() as text:
-        print(f"{'':<32}{'kernel':>12}{'replay':>12}", file=text)
-        for name, values in rows(spans):
-            print(f"{name:<32}" + "".join(f"{value:>12}" for value in values), file=text)
+        print(f"{'':<32}{'kernel':>12}{'replay':>12}{'quotient':>10}", file=text)
+        for name, values, quotient in rows(spans):
+            print(f"{name:<32}{''.join(f'{value:>12}' for value in values)}{quotient:>10}".rstrip(), file=text)
+        pages, time = farthest(kernel.levels, replay.levels)
+        print(f"the counts are farthest apart at {time:.1f} s: {pages:.0f} pages", file=text)
     if given.picture:
         from .. import beside_drawing
 
