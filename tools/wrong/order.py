@@ -210,7 +210,8 @@ OF_STEPS = (
                   ("min(self.clock + flight", "min(handed + flight"), ("{self.clock} {until}", "{handed} {until}"))),
     Rule("a page whose claim fails is passed over", REPLAY,
          'self.step(cpu.number, "claim")\n                return',
-         'self.step(cpu.number, "claim")\n                it.passed += 1\n                return'),
+         'self.step(cpu.number, "claim")\n                it.passed += 1\n'
+         '                if it.passed == inode.pages and not it.batch:\n                    self.rest(it, 0, False)\n                return'),
     Rule("an inode is scanned in one turn", REPLAY, "len(it.batch) < it.quota:\n            return",
          "len(it.batch) < it.quota:\n            yield from self.scan(cpu, it)\n            return"),
     Rule("a batch lands in one turn", REPLAY, "        if it.batch:\n            return",
