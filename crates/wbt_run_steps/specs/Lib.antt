@@ -9,3 +9,4 @@ pub mod Inodes
 pub mod Queues
 pub mod Reads
 pub mod Gate
+pub mod Kinds
