@@ -1,5 +1,5 @@
 -- The steps of a turn are a word over their kinds. Each turn is a check, a write, a test, or some work of a flusher on its inode.
-use Rattle.std.specs.Prelude.{◌≡◌, ◌⊎◌, ℕ, zero, suc, Option, Some, None, List, [], ◌∷◌, ◌++◌}
+use Rattle.std.specs.Prelude.{◌≡◌, ◌⊎◌, ℕ, zero, suc, Bool, true, false, Option, Some, None, List, [], ◌∷◌, ◌++◌, length}
 use Rattle.wbt_grant.specs.declared.record.LastStep.{LastStep}
 use Rattle.wbt_grant.specs.declared.who.StepKind.{StepKind}
 use Rattle.wbt_grant.specs.declared.who.StepKind.TheVariants as kind
@@ -34,9 +34,13 @@ MayMark word = (word ≡ []) ⊎ (word ≡ kind.Mark ∷ [])
 abbrev pub MayClaim : (word : List StepKind) → Type 0
 MayClaim word = MayMark word ⊎ ((rest : List StepKind) × MayMark rest × (word ≡ kind.Claim ∷ rest))
 
--- The page is given back next. Then the inode may be marked.
+-- Events of the page are settled, or none are.
+abbrev pub MaySettle : (word : List StepKind) → Type 0
+MaySettle word = (word ≡ []) ⊎ IsSettled word
+
+-- The page is given back next. Where it was dirty again its events are settled, and after a batch's last page the inode is marked.
 abbrev pub GivesBack : (word : List StepKind) → Type 0
-GivesBack word = (rest : List StepKind) × MayMark rest × (word ≡ kind.Back ∷ rest)
+GivesBack word = (settled : List StepKind) × (marked : List StepKind) × MaySettle settled × MayMark marked × (word ≡ kind.Back ∷ settled ++ marked)
 
 -- The mark of an inode that is taken is cleared.
 abbrev pub MayTake : (word : List StepKind) → Type 0
@@ -59,17 +63,47 @@ pub data IsTurn (domains : ℕ) (word : List StepKind) : Type 0 where
   looks : (rest : List StepKind) → MayClaim rest → word ≡ kind.Look ∷ rest → IsTurn domains word
   -- it completes a page of its batch
   completes : (settled : List StepKind) → IsSettled settled → word ≡ kind.Complete ∷ settled → IsTurn domains word
-  -- it gives back a page of a batch that its disk failed to write, which no disk of an ordered run does
+  -- it looks at a page of a batch that its disk failed to write, and gives it back
   gives_back : (rest : List StepKind) → GivesBack rest → word ≡ kind.Look ∷ rest → IsTurn domains word
 
--- The steps of a turn that was cut off: some may be left to be made.
-abbrev pub IsCutTurn : (domains : ℕ) (word : List StepKind) → Type 0
-IsCutTurn domains word = (left : List StepKind) × IsTurn domains (word ++ left)
+-- It isn't the turn that gives a page back: no disk failed.
+abbrev pub KeepsPages : (domains : ℕ) (word : List StepKind) (turn : IsTurn domains word) → Type 0
+KeepsPages domains word (gives_back rest back is) = ⊥
+KeepsPages domains word other = Unit {0}
 
--- These are the steps of whole turns, one after another, and of a last one, of which some may be left to be made.
+-- ---- words one after another
+
+-- A word of this kind was cut off: some of it may be left to be made.
+abbrev pub IsCut : (IsWord : List StepKind → Type 0) (word : List StepKind) → Type 0
+IsCut IsWord word = (left : List StepKind) × IsWord (word ++ left)
+
+-- The word is these words of a kind, one after another.
+abbrev pub AreWhole : (IsWord : List StepKind → Type 0) (words : List (List StepKind)) (word : List StepKind) → Type 0
+AreWhole IsWord [] word = word ≡ []
+AreWhole IsWord (first ∷ words) word = IsWord first × ((rest : List StepKind) × (word ≡ first ++ rest) × AreWhole IsWord words rest)
+
+-- It is these, and then one of the kind that may be cut off.
+abbrev pub AreCut : (IsWord : List StepKind → Type 0) (words : List (List StepKind)) (word : List StepKind) → Type 0
+AreCut IsWord [] word = IsCut IsWord word
+AreCut IsWord (first ∷ words) word = IsWord first × ((rest : List StepKind) × (word ≡ first ++ rest) × AreCut IsWord words rest)
+
+-- It is some words of a kind, none of which was cut off.
+pub record IsWhole (IsWord : List StepKind → Type 0) (word : List StepKind) : Type 0 where
+  pub words : List (List StepKind)
+  pub are : AreWhole IsWord words word
+
+-- It is some, of which the last may be cut off.
+pub record IsCutOff (IsWord : List StepKind → Type 0) (word : List StepKind) : Type 0 where
+  pub words : List (List StepKind)
+  pub are : AreCut IsWord words word
+
+-- The steps of a turn that was cut off.
+abbrev pub IsCutTurn : (domains : ℕ) (word : List StepKind) → Type 0
+IsCutTurn domains word = IsCut (IsTurn domains) word
+
+-- These are the steps of whole turns, one after another, and of a last one that may be cut off.
 abbrev pub AreTurns : (domains : ℕ) (turns : List (List StepKind)) (word : List StepKind) → Type 0
-AreTurns domains [] word = IsCutTurn domains word
-AreTurns domains (turn ∷ turns) word = IsTurn domains turn × ((rest : List StepKind) × (word ≡ turn ++ rest) × AreTurns domains turns rest)
+AreTurns domains turns word = AreCut (IsTurn domains) turns word
 
 -- ---- the timer
 
@@ -77,6 +111,16 @@ AreTurns domains (turn ∷ turns) word = IsTurn domains turn × ((rest : List St
 abbrev pub publications : (domains : ℕ) → List StepKind
 publications zero = []
 publications (suc domains) = kind.Count ∷ kind.Peak ∷ kind.Unseal ∷ kind.Thresh ∷ kind.Publish ∷ publications domains
+
+-- The same, where the last version of some domains stands already: it publishes no limits of these.
+abbrev pub publications_but : (lasts : List Bool) → List StepKind
+publications_but [] = []
+publications_but (false ∷ lasts) = kind.Count ∷ kind.Peak ∷ kind.Unseal ∷ kind.Thresh ∷ kind.Publish ∷ publications_but lasts
+publications_but (true ∷ lasts) = kind.Count ∷ kind.Peak ∷ publications_but lasts
+
+-- the steps of a turn of the timer, where there are so many domains
+abbrev pub IsTimerTurn : (domains : ℕ) (word : List StepKind) → Type 0
+IsTimerTurn domains word = (lasts : List Bool) × (length lasts ≡ domains) × (word ≡ publications_but lasts)
 
 -- a word so many times
 abbrev pub repeated : (times : ℕ) (word : List StepKind) → List StepKind
