@@ -7,11 +7,10 @@ use Rattle.wbt_grant.specs.Seats.{timer_after}
 use Rattle.wbt_grant.specs.Setting.{Setting}
 use Rattle.wbt_grant.specs.declared.record.TimerRecord.{TimerRecord}
 use Rattle.wbt_grant.specs.declared.who.Who.TheVariants.{Timer}
-use Rattle.wbt_kit.specs.Kit.{HasTimer}
 use Rattle.wbt_kit.specs.declared.kit.Kit.{Kit}
 use Rattle.wbt_kit.specs.declared.kit.Seats.{Seats}
 use Rattle.wbt_table.specs.Calls.{AskedTimer, Made, Puts, TimesAll, timer_of}
-use Rattle.wbt_table.specs.History.{LogsSteps, Past, timer_log_of}
+use Rattle.wbt_table.specs.History.{LogsSteps, timer_log_of}
 use Rattle.wbt_table.specs.Layout.{setting}
 use Rattle.wbt_table.specs.Seat.{Seated, Times}
 use Rattle.wbt_table.specs.declared.answer.Put.{Put}

@@ -1,4 +1,5 @@
 mod Asking
+pub mod Made
 mod Found
 pub mod Lines
 pub mod Since

@@ -1,4 +1,5 @@
 pub mod Side
 pub mod Turn
 pub mod Gate
+pub mod Kinds
 pub mod Ready

@@ -9,6 +9,7 @@ ghost use Rattle.wbt_kit.specs.Kit.{AreSeatsOf, HasTimer};
 ghost use Rattle.wbt_table.specs.Layout.{domains};
 ghost use Rattle.wbt_table.specs.declared.answer.Put.TheVariants.{Stopped};
 ghost use Rattle.wbt_timer.specs.Gate.{AskedBeforePublishing, LoadsCount};
+ghost use Rattle.wbt_timer.specs.Kinds.{CutsTurn, HasSealed, PutSteps, TakesTurn};
 ghost use Rattle.wbt_timer.specs.Turn as spec;
 ghost use Rattle.wbt_timer.specs.Turn.{Counted, IsTimerStopped, Published, PublishedFirst, PublishedSome, line_for, no_side, side_after};
 
@@ -46,6 +47,8 @@ pub fn publish_each<G: Gate>(
     ensures some { result ≡ false → (global : _) × PublishedSome machine.now now global sides.old.items sides.new.items seats.old seats.new log.old.items log.new.items }
     ensures stopped { result ≡ false → IsTimerStopped (G.said gate.now kit.now.throttle.layout.cpus) seats.new }
     ensures asked { AskedBeforePublishing kit.now (G.said gate.now kit.now.throttle.layout.cpus) seats.old seats.new }
+    ensures takes_turn { IsTrue result → HasSealed seats.old → TakesTurn (length sides.old.items) seats.old seats.new }
+    ensures cuts_turn { result ≡ false → HasSealed seats.old → CutsTurn (length sides.old.items) seats.old seats.new }
     ensures hards { All (λ s. s.hard ≤ MAX_LIMIT) sides.new.items }
     ensures room { (vec_len log.new ≤ vec_len log.old + length sides.old.items) × (vec_capacity log.new ≡ vec_capacity log.old) }
 {
@@ -149,6 +152,7 @@ fn publish<G: Gate>(kit: &Kit, seats: &mut Seats, domain: u32, limits: Limits, g
     requires timer { (r : _) × HasTimer r seats.old }
     ensures seats { AreSeatsOf kit.now seats.new }
     ensures published { Published domain limits result seats.old seats.new }
+    ensures steps { HasSealed seats.old → PutSteps result seats.old seats.new }
     ensures stopped { result ≡ Stopped → IsTimerStopped (G.said gate.now kit.now.throttle.layout.cpus) seats.new }
     ensures asked { AskedBeforePublishing kit.now (G.said gate.now kit.now.throttle.layout.cpus) seats.old seats.new }
 {

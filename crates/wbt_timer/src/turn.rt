@@ -6,6 +6,7 @@ ghost use Rattle.wbt_table.specs.Layout.{domains};
 ghost use Rattle.wbt_kit.specs.Kit.{AreSeatsOf, HasTimer};
 ghost use Rattle.wbt_kit.specs.declared.turn.Turn.TheVariants.{Halted};
 ghost use Rattle.wbt_timer.specs.Gate.{AskedBeforePublishing};
+ghost use Rattle.wbt_timer.specs.Kinds.{CutsTurn, HasSealed, StepsBy, TakesTurn};
 ghost use Rattle.wbt_timer.specs.Ready.{IsReady};
 ghost use Rattle.wbt_timer.specs.Side.{next_of};
 ghost use Rattle.wbt_timer.specs.Turn.{IsTimerStopped, TimerAnswers, TimerHalts, TimerSteps};
@@ -26,6 +27,10 @@ impl TimerSide {
     /// Halted where the gate stopped it in a publication, and then begins no periods; the gate is asked before each step that publishes,
     /// and before no other. All memory is taken before the first step: where
     /// it is refused nothing was done.
+    ///
+    /// Its steps are, for each domain, that it loads the count, raises the peak, and publishes by `unseal`, `thresh` and `publish`; these
+    /// three are left out where the last sequence stands. Halted it has made a first part of them, and where it rests none. The first
+    /// publication of a domain after one that was stopped has no `unseal`.
     pub fn turn<C: Clock, G: Gate>(
         &mut self,
         _alloc: Global,
@@ -42,6 +47,7 @@ impl TimerSide {
         ensures answers { TimerAnswers (C.told clock.now) result self.old self.new seats.old seats.new log.old.items log.new.items }
         ensures stopped { result ≡ Halted → IsTimerStopped (G.said gate.now kit.now.throttle.layout.cpus) seats.new }
         ensures asked { AskedBeforePublishing kit.now (G.said gate.now kit.now.throttle.layout.cpus) seats.old seats.new }
+        ensures steps { HasSealed seats.old → StepsBy (domains kit.now.throttle.layout) result seats.old seats.new }
         ensures ready { (trace : _) → IsReady trace kit.now self.old seats.old → IsReady trace kit.now self.new seats.new }
     {
         self.answer(kit, seats, clock, gate, log)
@@ -64,6 +70,7 @@ impl TimerSide {
         ensures answers { TimerAnswers (C.told clock.now) result self.old self.new seats.old seats.new log.old.items log.new.items }
         ensures stopped { result ≡ Halted → IsTimerStopped (G.said gate.now kit.now.throttle.layout.cpus) seats.new }
         ensures asked { AskedBeforePublishing kit.now (G.said gate.now kit.now.throttle.layout.cpus) seats.old seats.new }
+        ensures steps { HasSealed seats.old → StepsBy (domains kit.now.throttle.layout) result seats.old seats.new }
     {
         let now = told_moment(clock);
         let until = self.next();
@@ -102,6 +109,8 @@ impl TimerSide {
         ensures halts { result ≡ false → TimerHalts now self.old self.new seats.old seats.new log.old.items log.new.items }
         ensures stopped { result ≡ false → IsTimerStopped (G.said gate.now kit.now.throttle.layout.cpus) seats.new }
         ensures asked { AskedBeforePublishing kit.now (G.said gate.now kit.now.throttle.layout.cpus) seats.old seats.new }
+        ensures takes_turn { IsTrue result → HasSealed seats.old → TakesTurn (domains kit.now.throttle.layout) seats.old seats.new }
+        ensures cuts_turn { result ≡ false → HasSealed seats.old → CutsTurn (domains kit.now.throttle.layout) seats.old seats.new }
     {
         let through = publish_each(&self.machine, &mut self.domains, kit, seats, now, gate, log);
         self.last = now;

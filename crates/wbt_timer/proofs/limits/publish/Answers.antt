@@ -5,6 +5,7 @@ use Rattle.wbt_grant.specs.Seats.{timer_after}
 use Rattle.wbt_table.specs.Layout.{setting}
 use Rattle.wbt_timer.proofs.Stepping.{last_put, may_put, put_kept, put_on, put_stopped}
 use Rattle.wbt_timer.proofs.Asking.{asked_beside, asked_more, asked_put}
+use Rattle.wbt_timer.proofs.Made.{put_steps, sealed_on, steps_one}
 use Rattle.wbt_timer.proofs.limits.publish.Goals as goal
 
 pub publish-requires-clause-may : goal.publish-requires-clause-may
@@ -60,3 +61,15 @@ returns-clause-asked g c =
     let one = c.raise_peak.ensures in
     asked_more kit said old mid new (asked_beside kit said (peak d l.hard) one.0 old mid (λ is. absurd (let e = is in cc)) one.1)
     (asked_put kit said d l c.publish.result mid new c.publish.ensures)
+
+pub returns-clause-steps : goal.returns-clause-steps
+returns-clause-steps g c sealed =
+    let d = c.args.domain in
+    let l = c.args.limits in
+    let set' = setting c.args.kit.now.throttle.layout in
+    let said = g.G.Gate.said c.args.gate.now c.args.kit.now.throttle.layout.cpus in
+    let old = c.args.seats.now in
+    let mid : Seats = record old { cpu = c.raise_peak.new.seat } in
+    let new : Seats = record old { cpu = c.publish.new.seat } in
+    let one = c.raise_peak.ensures in
+    put_steps set' d l said old mid new c.publish.result (steps_one set' (peak d l.hard) one.0 old mid one.1) (sealed_on (peak d l.hard) one.0 set' old mid (λ r. refl) one.1 sealed) c.publish.ensures

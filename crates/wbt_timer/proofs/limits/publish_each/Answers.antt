@@ -3,13 +3,19 @@ use Rattle.std.proofs.lemmas.List.{get_or_default}
 use Rattle.std.proofs.lemmas.List.Elements.{All-set}
 use Rattle.wbt_num.specs.Limits.{IsLawful}
 use Rattle.wbt_num.specs.declared.limits.TheConstants.{MAX_LIMIT}
+use Rattle.wbt_counter.specs.declared.counter.Counter.TheVariants.{Domain}
+use Rattle.wbt_grant.specs.Kinds.{count as count_step}
+use Rattle.wbt_grant.specs.declared.who.Who.TheVariants.{Timer}
+use Rattle.wbt_table.specs.Layout.{setting}
 use Rattle.wbt_run_laws.proofs.Lists.{each_append}
-use Rattle.wbt_timer.specs.Turn.{Outcome, PublishedEach, global_in, is_through, limits_by, no_side}
+use Rattle.wbt_timer.specs.Kinds.{PutSteps}
+use Rattle.wbt_timer.specs.Turn.{IsLastPut, Outcome, PublishedEach, global_in, is_through, limits_by, no_side}
 use Rattle.wbt_table.specs.declared.answer.Put.{Put}
 use Rattle.wbt_table.specs.declared.answer.Put.TheVariants.{Stopped}
 use Rattle.wbt_timer.specs.declared.side.DomainSide.{DomainSide}
 use Rattle.wbt_timer.proofs.Asking.{asked_count, asked_more, asked_none}
 use Rattle.wbt_timer.proofs.Found.{found_lawful}
+use Rattle.wbt_timer.proofs.Made.{not_stopped, sealed_on, steps_one, turn_cut, turn_more, turn_none}
 use Rattle.wbt_timer.proofs.Lines.{global_first, global_stays}
 use Rattle.wbt_timer.proofs.Stepping.{hard_after, not_through, published_more, published_none}
 use Rattle.wbt_timer.proofs.limits.publish_each.Goals as goal
@@ -19,6 +25,7 @@ pub loop-domain-init : goal.loop-domain-init
 loop-domain-init g c = record {
   each = published_none c.args.machine.now c.args.now c.args.sides.now.items c.args.seats.now c.args.log.now.items;
   asked = asked_none c.args.kit.now (g.G.Gate.said c.args.gate.now c.args.kit.now.throttle.layout.cpus) c.args.seats.now c.args.seats.now refl;
+  taken = turn_none c.args.seats.now;
   seats = c.requires.seats;
   timer = c.requires.timer;
   many = refl;
@@ -81,6 +88,19 @@ loop-domain-preserved g c =
           let old = c.args.seats.now in
           let mid = c.read-count.new.seats in
           asked_more kit said old mid c.publish-put.new.seats (asked_more kit said old c.loop-domain.seats mid c.loop-domain.invariant.asked (asked_count kit said c.loop-domain.domain c.loop-domain.seats mid c.read-count.ensures.step)) c.publish-put.ensures.asked;
+      taken = λ sealed.
+          let taken = c.loop-domain.invariant.taken sealed in
+          let s1 = c.loop-domain.seats in
+          let s2 = c.read-count.new.seats in
+          let load = c.read-count.ensures.step in
+          let set' = setting c.args.kit.now.throttle.layout in
+          turn_more _ i o.put f.outcomes c.args.seats.now s1 s2 c.publish-put.new.seats refl (not_stopped o.put (sym c.is_through.ensures ∙ c.if-not-is_through.false)) taken
+          (steps_one set' (count_step Timer (Domain i)) load.0 s1 s2 load.1)
+          (c.publish-put.ensures.steps (sealed_on (count_step Timer (Domain i)) load.0 set' s1 s2 (λ r. refl) load.1 taken.sealed)) f.each_domain
+          (λ r has.
+          let before = p.became r has in
+          let after = c.read-count.ensures.counted.became before.held before.has in
+          subst (IsLastPut o.put i) (after.published_are ∙ before.published_are) (c.publish-put.ensures.published.last after.held after.has));
       seats = c.publish-put.ensures.seats;
       timer = (two.held, two.has);
       many = ap (λ (l : List DomainSide). length l) c.note.ensures.side ∙ length-set items i _ ∙ c.loop-domain.invariant.many;
@@ -131,3 +151,18 @@ returns-then-not-is_through-clause-asked g c =
     let old = c.args.seats.now in
     let mid = c.read-count.new.seats in
     asked_more kit said old mid c.publish-put.new.seats (asked_more kit said old c.loop-domain.seats mid c.loop-domain.invariant.asked (asked_count kit said c.loop-domain.domain c.loop-domain.seats mid c.read-count.ensures.step)) c.publish-put.ensures.asked
+
+pub returns-then-not-is_through-clause-cuts_turn : goal.returns-then-not-is_through-clause-cuts_turn
+returns-then-not-is_through-clause-cuts_turn g c is sealed =
+    let i = c.loop-domain.domain in
+    let taken = c.loop-domain.invariant.taken sealed in
+    let s1 = c.loop-domain.seats in
+    let s2 = c.read-count.new.seats in
+    let s3 = c.publish-put.new.seats in
+    let load = c.read-count.ensures.step in
+    let set' = setting c.args.kit.now.throttle.layout in
+    let less : i < length c.args.sides.now.items = omega (arith, c.loop-domain-test.true, c.len-domain-end.ensures, c.loop-domain.invariant.many) in
+    let stopped : c.publish-put.result ≡ Stopped = not_through c.publish-put.result (sym c.is_through.ensures ∙ c.if-not-is_through.true) in
+    turn_cut (length c.args.sides.now.items) i c.args.seats.now s1 s2 s3 less taken (steps_one set' (count_step Timer (Domain i)) load.0 s1 s2 load.1)
+    (subst (λ (put : Put). PutSteps put s2 s3) stopped
+    (c.publish-put.ensures.steps (sealed_on (count_step Timer (Domain i)) load.0 set' s1 s2 (λ r. refl) load.1 taken.sealed)))

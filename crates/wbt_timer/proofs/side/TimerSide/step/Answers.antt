@@ -1,7 +1,10 @@
-use Rattle.std.proofs.Common.{◌≡◌, ◌≤◌, ◌+◌, ◌*◌, length, sym, ap, ◌∙◌, refl, subst, arith}
+use Rattle.std.proofs.Common.{◌≡◌, ℕ, ◌≤◌, ◌+◌, ◌*◌, length, sym, ap, ◌∙◌, refl, subst, arith}
+use Rattle.wbt_table.specs.Layout.{domains}
+use Rattle.wbt_timer.specs.Kinds.{CutsTurn}
 use Rattle.wbt_timer.specs.Side.{Side, next_of}
 use Rattle.wbt_timer.specs.Turn.{TimerHalts, TimerSteps}
 use Rattle.wbt_timer.proofs.Asking.{asked_more, asked_none}
+use Rattle.wbt_timer.proofs.Made.{taken_same}
 use Rattle.wbt_timer.proofs.Turning.{as_many, few_periods, halted_side, halts, next_side, steps}
 use Rattle.wbt_timer.proofs.side.TimerSide.step.Goals as goal
 
@@ -122,3 +125,18 @@ returns-clause-asked g c =
     let one = c.publish_each-through.new in
     let two = c.begin_each.new in
     asked_more kit said c.args.seats.now one.seats two.seats c.publish_each-through.ensures.asked (asked_none kit said one.seats two.seats c.begin_each.ensures.each.kept.cpu)
+
+-- the kinds of its steps
+
+pub returns-clause-takes_turn : goal.returns-clause-takes_turn
+returns-clause-takes_turn g c is sealed =
+    let one = c.publish_each-through.new in
+    let two = c.begin_each.new in
+    let many : length c.self.inside.domains.items ≡ domains c.args.kit.now.throttle.layout = ap (λ (s : Side). length s.domains) c.self.view_is ∙ c.requires.domains.0 in
+    taken_same (length c.self.inside.domains.items) (domains c.args.kit.now.throttle.layout) c.args.seats.now one.seats two.seats many c.begin_each.ensures.each.kept.cpu
+    (c.publish_each-through.ensures.takes_turn c.if-not-through.false sealed)
+
+pub returns-then-not-through-clause-cuts_turn : goal.returns-then-not-through-clause-cuts_turn
+returns-then-not-through-clause-cuts_turn g c is sealed =
+    let many : length c.self.inside.domains.items ≡ domains c.args.kit.now.throttle.layout = ap (λ (s : Side). length s.domains) c.self.view_is ∙ c.requires.domains.0 in
+    subst (λ (n : ℕ). CutsTurn n c.args.seats.now c.publish_each-through.new.seats) many (c.publish_each-through.ensures.cuts_turn c.if-not-through.true sealed)
