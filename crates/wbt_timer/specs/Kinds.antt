@@ -31,7 +31,7 @@ pub record StepsAs (word : List StepKind) (old new : Seats) : Type 0 where
 abbrev pub Steps : (IsWord : List StepKind → Type 0) (old new : Seats) → Type 0
 Steps IsWord old new = (word : List StepKind) × IsWord word × StepsAs word old new
 
--- The timer has each publication behind it. After one that was cut off the next one of its domain would leave out a step.
+-- The timer has each publication behind it. After one that was cut off, the next one of its domain leaves out a step.
 abbrev pub HasSealed : (seats : Seats) → Type 0
 HasSealed seats = (r : TimerRecord) × HasTimer r seats × ((domain : ℕ) → is_sealed (stage_of domain r.drafts) ≡ true)
 
@@ -70,7 +70,7 @@ StepsBy domains other old new = StepsAs [] old new × HasSealed new
 abbrev pub peak_and_put : List StepKind
 peak_and_put = kind.Peak ∷ kind.Unseal ∷ kind.Thresh ∷ kind.Publish ∷ []
 
--- These were made by what came of the publication: all, a first part, or where the last version stood before the peak's alone.
+-- All of these were made, or where the gate stopped them a first part; where the last version stood already, the peak's alone.
 abbrev pub PutSteps : (put : Put) (old new : Seats) → Type 0
 PutSteps Done old new = StepsAs peak_and_put old new × HasSealed new
 PutSteps Stopped old new = (made : List StepKind) × (left : List StepKind) × (left ≢ []) × (made ++ left ≡ peak_and_put) × StepsAs made old new
