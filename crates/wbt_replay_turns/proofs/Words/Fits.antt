@@ -17,7 +17,8 @@ use Rattle.wbt_replay_moves.specs.declared.todo.Step.TheVariants as step
 use Rattle.wbt_replay_moves.specs.declared.todo.Todo.{Todo}
 use Rattle.wbt_replay_moves.specs.declared.todo.Todo.TheVariants as todo
 use Rattle.wbt_replay_order.proofs.Facts.Lists.{either}
-use Rattle.wbt_replay_turns.specs.Words.{loads, counts, IsTurn, rests, checks, writes_again, writes, tests, looks, completes}
+use Rattle.wbt_turns.specs.Words.{checks, completes, counts, loads, looks, rests, tests, writes, writes_again}
+use Rattle.wbt_replay_turns.specs.Words.{IsOrderedTurn}
 use Rattle.wbt_replay_turns.proofs.Words.Language.{Runs, SilentRuns, runs_parts, one_of, none_of, single}
 
 -- ---- loads
@@ -86,13 +87,13 @@ weighs_run (k ∷ ks) word h =
 
 -- these items come to the steps of a turn
 abbrev pub Fits : (trace : Trace) (todos : List Todo) → Type 0
-Fits trace todos = (word : List StepKind) → Runs todos word → IsTurn trace word
+Fits trace todos = (word : List StepKind) → Runs todos word → IsOrderedTurn trace word
 
 pub fits_none : (trace : Trace) → Fits trace []
-fits_none trace word h = rests (inl h)
+fits_none trace word h = (rests (inl h), tt)
 
 pub fits_end : (trace : Trace) → Fits trace (todo.Silent silent.End ∷ [])
-fits_end trace word h = rests (inl (single (todo.Silent silent.End) word h))
+fits_end trace word h = (rests (inl (single (todo.Silent silent.End) word h)), tt)
 
 -- the end of a check
 check_ends : (k : ℕ) (word : List StepKind) → Runs (todo.Step (step.Count (Context k)) ∷ todo.Silent silent.Decide ∷ todo.Silent silent.End ∷ []) word → word ≡ kind.Count ∷ []
@@ -104,29 +105,31 @@ check_ends k word h =
 pub fits_check : (trace : Trace) (k group : ℕ) → Fits trace (check_items k group)
 fits_check trace k zero word h =
     let a = load_runs 0 (Domain 0) (todo.Step (step.Count (Context k)) ∷ todo.Silent silent.Decide ∷ todo.Silent silent.End ∷ []) word h in
-    checks 1 (inl refl) (a.2 ∙ ap (λ (l : List StepKind). kind.First ∷ kind.Middle ∷ kind.Limits ∷ kind.Count ∷ l) (check_ends k a.0 a.1))
+    (checks 1 (inl refl) (a.2 ∙ ap (λ (l : List StepKind). kind.First ∷ kind.Middle ∷ kind.Limits ∷ kind.Count ∷ l) (check_ends k a.0 a.1)), tt)
 fits_check trace k (suc cgroup) word h =
     let end = todo.Step (step.Count (Context k)) ∷ todo.Silent silent.Decide ∷ todo.Silent silent.End ∷ [] in
     let a = load_runs 0 (Domain 0) (todo.Step (step.First (suc cgroup)) ∷ todo.Step (step.Middle (suc cgroup)) ∷ todo.Step (step.Limits (suc cgroup))
     ∷ todo.Step (step.Count (Domain (suc cgroup))) ∷ end) word h in
-    let b = load_runs (suc cgroup) (Domain (suc cgroup)) end a.0 a.1 in
-    checks 2 (inr refl) (a.2 ∙ ap (λ (l : List StepKind). kind.First ∷ kind.Middle ∷ kind.Limits ∷ kind.Count ∷ l)
-    (b.2 ∙ ap (λ (l : List StepKind). kind.First ∷ kind.Middle ∷ kind.Limits ∷ kind.Count ∷ l) (check_ends k b.0 b.1)))
+    let b = load_runs (suc cgroup) (Domain (suc cgroup)) end a.0 a.1 in (
+      checks 2 (inr refl) (a.2 ∙ ap (λ (l : List StepKind). kind.First ∷ kind.Middle ∷ kind.Limits ∷ kind.Count ∷ l)
+          (b.2 ∙ ap (λ (l : List StepKind). kind.First ∷ kind.Middle ∷ kind.Limits ∷ kind.Count ∷ l) (check_ends k b.0 b.1))),
+      tt,
+    )
 
 pub fits_write : (trace : Trace) → Fits trace (todo.Step step.Dirty ∷ todo.Silent silent.End ∷ [])
 fits_write trace word h =
     let parts = runs_parts (todo.Step step.Dirty ∷ []) (todo.Silent silent.End ∷ []) word h in
     let same : word ≡ parts.0 = parts.4 ∙ (ap (λ (l : List StepKind). parts.0 ++ l) (single (todo.Silent silent.End) parts.1 parts.3) ∙ append-nil parts.0) in
-    ⊎_elim (λ again. writes_again (same ∙ again)) (λ fresh. writes fresh.0 fresh.1 (same ∙ fresh.2)) (single (todo.Step step.Dirty) parts.0 parts.2)
+    ⊎_elim (λ again. (writes_again (same ∙ again), tt)) (λ fresh. (writes fresh.0 fresh.1 (same ∙ fresh.2), tt)) (single (todo.Step step.Dirty) parts.0 parts.2)
 
 pub fits_unmark : (trace : Trace) → Fits trace (todo.Step step.Unmark ∷ [])
-fits_unmark trace word h = rests (inr (single (todo.Step step.Unmark) word h))
+fits_unmark trace word h = (rests (inr (single (todo.Step step.Unmark) word h)), tt)
 
 pub fits_look : (trace : Trace) → Fits trace (todo.Step step.Look ∷ [])
-fits_look trace word h = let is = single (todo.Step step.Look) word h in looks is.0 is.1 is.2
+fits_look trace word h = let is = single (todo.Step step.Look) word h in (looks is.0 is.1 is.2, tt)
 
 pub fits_complete : (trace : Trace) → Fits trace (todo.Step step.Complete ∷ [])
-fits_complete trace word h = let is = single (todo.Step step.Complete) word h in completes is.0 is.1 is.2
+fits_complete trace word h = let is = single (todo.Step step.Complete) word h in (completes is.0 is.1 is.2, tt)
 
 -- loads, counts and what is taken, put together
 joined : (l a b taken x y word : List StepKind) (n k : ℕ) → x ≡ l ++ a → a ≡ counts n → y ≡ x ++ b → b ≡ counts k → word ≡ y ++ taken → word ≡ l ++ counts (n + k) ++ taken
@@ -147,6 +150,8 @@ fits_test trace measures weighs s word h =
     let c = runs_parts l m b.0 b.2 in
     let n = measures_run measures s c.1 c.3 in
     let k = weighs_run weighs b.1 b.3 in
-    let first : b.0 ≡ loads (domains trace) ++ c.1 = c.4 ∙ ap (λ (z : List StepKind). z ++ c.1) (domains_run (domains trace) 0 c.0 c.2) in
-    tests (n.0 + k.0) a.1 (single (todo.Silent silent.Test) a.1 a.3)
-    (joined (loads (domains trace)) c.1 b.1 a.1 b.0 a.0 word n.0 k.0 first n.1 b.4 k.1 a.4)
+    let first : b.0 ≡ loads (domains trace) ++ c.1 = c.4 ∙ ap (λ (z : List StepKind). z ++ c.1) (domains_run (domains trace) 0 c.0 c.2) in (
+      tests (n.0 + k.0) a.1 (single (todo.Silent silent.Test) a.1 a.3)
+          (joined (loads (domains trace)) c.1 b.1 a.1 b.0 a.0 word n.0 k.0 first n.1 b.4 k.1 a.4),
+      tt,
+    )

@@ -14,7 +14,8 @@ use Rattle.wbt_replay_moves.specs.declared.todo.Todo.TheVariants as todo
 use Rattle.wbt_counter.specs.declared.counter.Counter.{Counter}
 use Rattle.wbt_counter.specs.declared.counter.Counter.TheVariants.{Domain, Context}
 use Rattle.wbt_replay_order.proofs.Facts.Lists.{either}
-use Rattle.wbt_replay_turns.specs.Words.{IsAdded, IsSettled, MayMark, MayClaim, MayTake, IsTurn, AreTurns}
+use Rattle.wbt_turns.specs.Words.{AreCut, IsAdded, IsSettled, MayClaim, MayMark, MayTake}
+use Rattle.wbt_replay_turns.specs.Words.{IsOrderedTurn}
 
 -- ---- items
 
@@ -182,8 +183,8 @@ split_owed change context group last word =
 
 -- The word is that of whole turns, and of one of which these items are left.
 abbrev pub AreThen : (trace : Trace) (turns : List (List StepKind)) (todos : List Todo) (word : List StepKind) → Type 0
-AreThen trace [] todos word = (more : List StepKind) → Runs todos more → IsTurn trace (word ++ more)
-AreThen trace (turn ∷ turns) todos word = IsTurn trace turn × ((rest : List StepKind) × (word ≡ turn ++ rest) × AreThen trace turns todos rest)
+AreThen trace [] todos word = (more : List StepKind) → Runs todos more → IsOrderedTurn trace (word ++ more)
+AreThen trace (turn ∷ turns) todos word = IsOrderedTurn trace turn × ((rest : List StepKind) × (word ≡ turn ++ rest) × AreThen trace turns todos rest)
 
 abbrev pub Parses : (trace : Trace) (todos : List Todo) (word : List StepKind) → Type 0
 Parses trace todos word = (turns : List (List StepKind)) × AreThen trace turns todos word
@@ -191,7 +192,7 @@ Parses trace todos word = (turns : List (List StepKind)) × AreThen trace turns 
 grows : (trace : Trace) (item : Todo) (items more : List Todo) (made : List StepKind) → Yields item items made → (turns : List (List StepKind)) (word : List StepKind)
     → AreThen trace turns (item ∷ more) word → AreThen trace turns (items ++ more) (word ++ made)
 grows trace item items more made yields [] word h = λ rest runs.
-    subst (IsTurn trace) (sym (append_assoc word made rest)) (h (made ++ rest) (runs_on item items more made rest yields runs))
+    subst (IsOrderedTurn trace) (sym (append_assoc word made rest)) (h (made ++ rest) (runs_on item items more made rest yields runs))
 grows trace item items more made yields (turn ∷ turns) word h =
     (h.0, (h.1.0 ++ made, ap (λ (l : List StepKind). l ++ made) h.1.1 ∙ append_assoc turn h.1.0 made, grows trace item items more made yields turns h.1.0 h.1.2))
 
@@ -200,21 +201,21 @@ pub parses_on : (trace : Trace) (item : Todo) (items more : List Todo) (made wor
     → Parses trace (items ++ more) (word ++ made)
 parses_on trace item items more made word yields h = (h.0, grows trace item items more made yields h.0 word h.1)
 
-begins : (trace : Trace) (todos : List Todo) → ((w : List StepKind) → Runs todos w → IsTurn trace w) → (turns : List (List StepKind)) (word : List StepKind)
+begins : (trace : Trace) (todos : List Todo) → ((w : List StepKind) → Runs todos w → IsOrderedTurn trace w) → (turns : List (List StepKind)) (word : List StepKind)
     → AreThen trace turns [] word → Parses trace todos word
 begins trace todos fits [] word h =
-    (word ∷ [], (subst (IsTurn trace) (append-nil word) (h [] refl), ([], sym (append-nil word), fits)))
+    (word ∷ [], (subst (IsOrderedTurn trace) (append-nil word) (h [] refl), ([], sym (append-nil word), fits)))
 begins trace todos fits (turn ∷ turns) word h =
     let more = begins trace todos fits turns h.1.0 h.1.2 in
     (turn ∷ more.0, (h.0, (h.1.0, h.1.1, more.1)))
 
 -- A turn is over, and another one begins with these items.
-pub parses_begun : (trace : Trace) (todos : List Todo) (word : List StepKind) → ((w : List StepKind) → Runs todos w → IsTurn trace w) → Parses trace [] word → Parses trace todos word
+pub parses_begun : (trace : Trace) (todos : List Todo) (word : List StepKind) → ((w : List StepKind) → Runs todos w → IsOrderedTurn trace w) → Parses trace [] word → Parses trace todos word
 parses_begun trace todos word fits h = begins trace todos fits h.0 word h.1
 
-closes : (trace : Trace) (todos : List Todo) (turns : List (List StepKind)) (word : List StepKind) → AreThen trace turns todos word → AreTurns trace turns word
+closes : (trace : Trace) (todos : List Todo) (turns : List (List StepKind)) (word : List StepKind) → AreThen trace turns todos word → AreCut (IsOrderedTurn trace) turns word
 closes trace todos [] word h = let left = some_word todos in (left.0, h left.0 left.1)
 closes trace todos (turn ∷ turns) word h = (h.0, (h.1.0, h.1.1, closes trace todos turns h.1.0 h.1.2))
 
-pub parses_cut : (trace : Trace) (todos : List Todo) (word : List StepKind) → Parses trace todos word → (turns : List (List StepKind)) × AreTurns trace turns word
+pub parses_cut : (trace : Trace) (todos : List Todo) (word : List StepKind) → Parses trace todos word → (turns : List (List StepKind)) × AreCut (IsOrderedTurn trace) turns word
 parses_cut trace todos word h = (h.0, closes trace todos h.0 word h.1)

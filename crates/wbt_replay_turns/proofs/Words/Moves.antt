@@ -34,7 +34,7 @@ use Rattle.wbt_replay_order.specs.Kept.InRange.{StaysInRange}
 use Rattle.wbt_replay_order.proofs.Facts.Lists.{either, all_push}
 use Rattle.wbt_replay_order.proofs.Growth.Growing.{silent_move}
 use Rattle.wbt_replay_turns.specs.Laws.{EndsWell}
-use Rattle.wbt_replay_turns.specs.Words.{kinds_of, CpusTakeTurns}
+use Rattle.wbt_replay_turns.specs.Words.{kinds_by, CpusTakeTurns}
 use Rattle.wbt_replay_turns.proofs.Lines.Moves.{begins_silently}
 use Rattle.wbt_replay_turns.proofs.Lines.Runs.{journal_steps}
 use Rattle.wbt_replay_turns.proofs.Lines.Steps.{cpu_one, quiet_timer_move, timer_makes}
@@ -48,48 +48,48 @@ use Rattle.wbt_replay_turns.proofs.Words.Todos.{Todos, as_before, then_quiet}
 
 -- ---- the kinds of an actor's steps
 
-pub kinds_push : (i : ℕ) (steps : List StepEntry) (e : StepEntry) → kinds_of i (steps ++ e ∷ []) ≡ kinds_of i steps ++ cond (eqb e.who i) (e.kind ∷ []) []
+pub kinds_push : (i : ℕ) (steps : List StepEntry) (e : StepEntry) → kinds_by i (steps ++ e ∷ []) ≡ kinds_by i steps ++ cond (eqb e.who i) (e.kind ∷ []) []
 kinds_push i [] e = refl
 kinds_push i (x ∷ steps) e = by_test (eqb x.who i) (kinds_push i steps e)
   where
-    by_test : (b : Bool) → kinds_of i (steps ++ e ∷ []) ≡ kinds_of i steps ++ cond (eqb e.who i) (e.kind ∷ []) []
-        → cond b (x.kind ∷ kinds_of i (steps ++ e ∷ [])) (kinds_of i (steps ++ e ∷ []))
-        ≡ cond b (x.kind ∷ kinds_of i steps) (kinds_of i steps) ++ cond (eqb e.who i) (e.kind ∷ []) []
+    by_test : (b : Bool) → kinds_by i (steps ++ e ∷ []) ≡ kinds_by i steps ++ cond (eqb e.who i) (e.kind ∷ []) []
+        → cond b (x.kind ∷ kinds_by i (steps ++ e ∷ [])) (kinds_by i (steps ++ e ∷ []))
+        ≡ cond b (x.kind ∷ kinds_by i steps) (kinds_by i steps) ++ cond (eqb e.who i) (e.kind ∷ []) []
     by_test true is = ap (λ (l : List StepKind). x.kind ∷ l) is
     by_test false is = is
 
-pub kinds_own : (i : ℕ) (steps more : List StepEntry) (e : StepEntry) (k : StepKind) → more ≡ steps ++ e ∷ [] → e.who ≡ i → e.kind ≡ k → kinds_of i more ≡ kinds_of i steps ++ k ∷ []
+pub kinds_own : (i : ℕ) (steps more : List StepEntry) (e : StepEntry) (k : StepKind) → more ≡ steps ++ e ∷ [] → e.who ≡ i → e.kind ≡ k → kinds_by i more ≡ kinds_by i steps ++ k ∷ []
 kinds_own i steps more e k is by kind =
-    ap (kinds_of i) is ∙ (kinds_push i steps e ∙ (ap (λ (b : Bool). kinds_of i steps ++ cond b (e.kind ∷ []) []) (eq-eqb e.who i by)
-    ∙ ap (λ (j : StepKind). kinds_of i steps ++ j ∷ []) kind))
+    ap (kinds_by i) is ∙ (kinds_push i steps e ∙ (ap (λ (b : Bool). kinds_by i steps ++ cond b (e.kind ∷ []) []) (eq-eqb e.who i by)
+    ∙ ap (λ (j : StepKind). kinds_by i steps ++ j ∷ []) kind))
 
-pub kinds_other : (i j : ℕ) (steps more : List StepEntry) (e : StepEntry) → more ≡ steps ++ e ∷ [] → e.who ≡ i → j ≢ i → kinds_of j more ≡ kinds_of j steps
+pub kinds_other : (i j : ℕ) (steps more : List StepEntry) (e : StepEntry) → more ≡ steps ++ e ∷ [] → e.who ≡ i → j ≢ i → kinds_by j more ≡ kinds_by j steps
 kinds_other i j steps more e is by other =
-    ap (kinds_of j) is ∙ (kinds_push j steps e ∙ (ap (λ (b : Bool). kinds_of j steps ++ cond b (e.kind ∷ []) []) (ne_eqb e.who j (λ same. other (sym same ∙ by)))
-    ∙ append-nil (kinds_of j steps)))
+    ap (kinds_by j) is ∙ (kinds_push j steps e ∙ (ap (λ (b : Bool). kinds_by j steps ++ cond b (e.kind ∷ []) []) (ne_eqb e.who j (λ same. other (sym same ∙ by)))
+    ∙ append-nil (kinds_by j steps)))
 
 -- ---- what holds at each moment
 
 -- each CPU's steps, by the CPUs and steps of a state
 abbrev ParsesIn : (trace : Trace) (steps : List StepEntry) (cpus : List Cpu) → Type 0
-ParsesIn trace steps cpus = (i : ℕ) → i < length cpus → Parses trace (get_or cpus i no_cpu).todo (kinds_of i steps)
+ParsesIn trace steps cpus = (i : ℕ) → i < length cpus → Parses trace (get_or cpus i no_cpu).todo (kinds_by i steps)
 
 abbrev AllParse : (trace : Trace) (s : State) → Type 0
 AllParse trace s = ParsesIn trace s.steps s.cpus
 
 module _ (trace : Trace) (s : State) (h : AllParse trace s) where
   -- one CPU moved, and the others made no step
-  moved : (i : ℕ) (todos : List Todo) (u : State) → Todos i todos s u → ((j : ℕ) → j ≢ i → kinds_of j u.steps ≡ kinds_of j s.steps)
-      → Parses trace todos (kinds_of i u.steps) → AllParse trace u
+  moved : (i : ℕ) (todos : List Todo) (u : State) → Todos i todos s u → ((j : ℕ) → j ≢ i → kinds_by j u.steps ≡ kinds_by j s.steps)
+      → Parses trace todos (kinds_by i u.steps) → AllParse trace u
   moved i todos u b others here j less = dite (ℕ_discrete j i)
-      (λ e. subst (λ (n : ℕ). Parses trace (cpu_of n u).todo (kinds_of n u.steps)) (sym e) (subst (λ (l : List Todo). Parses trace l (kinds_of i u.steps)) (sym b.here) here))
-      (λ n. subst (λ (l : List Todo). Parses trace l (kinds_of j u.steps)) (sym (b.others j n))
+      (λ e. subst (λ (n : ℕ). Parses trace (cpu_of n u).todo (kinds_by n u.steps)) (sym e) (subst (λ (l : List Todo). Parses trace l (kinds_by i u.steps)) (sym b.here) here))
+      (λ n. subst (λ (l : List Todo). Parses trace l (kinds_by j u.steps)) (sym (b.others j n))
       (subst (Parses trace (cpu_of j s).todo) (sym (others j n)) (h j (omega (arith, less, b.many)))))
 
   -- a CPU is changed, but not what it has to do, and no step is made
   quietly : (i : ℕ) → i < length s.cpus → (u : State) → Todos i (cpu_of i s).todo s u → u.steps ≡ s.steps → AllParse trace u
   quietly i there u b same =
-      moved i (cpu_of i s).todo u b (λ j n. ap (kinds_of j) same) (subst (Parses trace (cpu_of i s).todo) (ap (kinds_of i) (sym same)) (h i there))
+      moved i (cpu_of i s).todo u b (λ j n. ap (kinds_by j) same) (subst (Parses trace (cpu_of i s).todo) (ap (kinds_by i) (sym same)) (h i there))
 
   -- the timer makes a step, which is none of a CPU
   timely : (u : State) (e : StepEntry) → u.cpus ≡ s.cpus → u.steps ≡ s.steps ++ e ∷ [] → e.who ≡ length s.cpus → AllParse trace u
@@ -133,10 +133,10 @@ module _ (trace : Trace) (i : ℕ) (s : State) (there : i < length s.cpus) (read
           let u : State = make_step trace i item next in
           let left : (cpu_of i next).todo ≡ rest = ap (λ (d : Cpu). d.todo) (get_or-set_same s.cpus i c no_cpu there) in
           let all = subst (λ (l : List Todo). Todos i (items ++ l) next u) left todos in
-          let before = subst (λ (l : List Todo). Parses trace l (kinds_of i s.steps)) is (h i there) in
+          let before = subst (λ (l : List Todo). Parses trace l (kinds_by i s.steps)) is (h i there) in
           let own = kinds_own i s.steps u.steps e k steps by kind in
           moved trace s h i (items ++ rest) u (composed c (items ++ rest) u all) (λ j n. kinds_other i j s.steps u.steps e steps by n)
-          (subst (Parses trace (items ++ rest)) (sym own) (parses_on trace (todo.Step item) items rest (k ∷ []) (kinds_of i s.steps) yields before))
+          (subst (Parses trace (items ++ rest)) (sym own) (parses_on trace (todo.Step item) items rest (k ∷ []) (kinds_by i s.steps) yields before))
 
   by_silent : (item : Silent) (rest : List Todo) → (cpu_of i s).todo ≡ todo.Silent item ∷ rest → AllParse trace (make_move trace i item (with_cpu i (record (cpu_of i s) { todo = rest }) s))
   by_silent item rest is =
@@ -146,11 +146,11 @@ module _ (trace : Trace) (i : ℕ) (s : State) (there : i < length s.cpus) (read
       let l = leaves trace i next (omega (arith, there, length-set s.cpus i c)) item in
       let left : (cpu_of i next).todo ≡ rest = ap (λ (d : Cpu). d.todo) (get_or-set_same s.cpus i c no_cpu there) in
       let all = subst (λ (x : List Todo). Todos i (l.items ++ x) next u) left l.todos in
-      let before = subst (λ (x : List Todo). Parses trace x (kinds_of i s.steps)) is (h i there) in
+      let before = subst (λ (x : List Todo). Parses trace x (kinds_by i s.steps)) is (h i there) in
       let silent : u.steps ≡ s.steps = silent_move trace i item next in
-      moved trace s h i (l.items ++ rest) u (composed c (l.items ++ rest) u all) (λ j n. ap (kinds_of j) silent)
-      (subst (Parses trace (l.items ++ rest)) (append-nil (kinds_of i s.steps) ∙ ap (kinds_of i) (sym silent))
-      (parses_on trace (todo.Silent item) l.items rest [] (kinds_of i s.steps) l.yields before))
+      moved trace s h i (l.items ++ rest) u (composed c (l.items ++ rest) u all) (λ j n. ap (kinds_by j) silent)
+      (subst (Parses trace (l.items ++ rest)) (append-nil (kinds_by i s.steps) ∙ ap (kinds_by i) (sym silent))
+      (parses_on trace (todo.Silent item) l.items rest [] (kinds_by i s.steps) l.yields before))
 
   by_cpu : (todos : List Todo) → (cpu_of i s).todo ≡ todos → Ending trace (cpu_on trace i todos s) → AllParse trace (cpu_on trace i todos s)
   by_cpu [] is = λ ending. h
@@ -206,9 +206,9 @@ begin_cpu : (trace : Trace) (i job place : ℕ) (s : State) → Ready trace s �
 begin_cpu trace i n place s ready h there free =
     let o = opens trace i s there free ready.domains_many n place in
     let silent = begins_silently trace (who.Cpu i) n place s in
-    let before = subst (λ (l : List Todo). Parses trace l (kinds_of i s.steps)) free (h i there) in
-    moved trace s h i o.items (begin trace (who.Cpu i) n place s) o.todos (λ j m. ap (kinds_of j) silent)
-    (subst (Parses trace o.items) (ap (kinds_of i) (sym silent)) (parses_begun trace o.items (kinds_of i s.steps) o.fits before))
+    let before = subst (λ (l : List Todo). Parses trace l (kinds_by i s.steps)) free (h i there) in
+    moved trace s h i o.items (begin trace (who.Cpu i) n place s) o.todos (λ j m. ap (kinds_by j) silent)
+    (subst (Parses trace o.items) (ap (kinds_by i) (sym silent)) (parses_begun trace o.items (kinds_by i s.steps) o.fits before))
 
 -- ---- the run
 
@@ -220,7 +220,7 @@ first_todo : (trace : Trace) (i : ℕ) → i < length (opening trace).cpus → (
 unfolding opening
 first_todo trace i less = All-get_or (λ (c : Cpu). c.todo ≡ []) (first_cpus trace trace.cpus) i no_cpu less (none_first trace trace.cpus)
 
-first_kinds : (trace : Trace) (i : ℕ) → kinds_of i (opening trace).steps ≡ []
+first_kinds : (trace : Trace) (i : ℕ) → kinds_by i (opening trace).steps ≡ []
 unfolding opening
 first_kinds trace i = refl
 
@@ -233,6 +233,6 @@ pub takes_turns : (trace : Trace) → StaysInRange trace → EndsWell trace → 
 takes_turns trace stays h cpu there =
     let s : State = last_state trace in
     let along = always trace (AllParse trace) (λ s now orders rotation k. k) (on_actor trace) (begin_cpu trace) (λ s ready k free. k) stays h (opens_so trace) in
-    let at : Parses trace (cpu_of cpu s).todo (kinds_of cpu s.steps) = along most_moves cpu (omega (arith, there, (stays.sound most_moves).holds.cpus.many)) in
-    parses_cut trace (cpu_of cpu s).todo (kinds_of cpu (journal_of trace).steps)
-    (subst (Parses trace (cpu_of cpu s).todo) (ap (kinds_of cpu) (sym (journal_steps trace))) at)
+    let at : Parses trace (cpu_of cpu s).todo (kinds_by cpu s.steps) = along most_moves cpu (omega (arith, there, (stays.sound most_moves).holds.cpus.many)) in
+    parses_cut trace (cpu_of cpu s).todo (kinds_by cpu (journal_of trace).steps)
+    (subst (Parses trace (cpu_of cpu s).todo) (ap (kinds_by cpu) (sym (journal_steps trace))) at)

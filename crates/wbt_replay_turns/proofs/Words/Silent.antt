@@ -31,7 +31,7 @@ use Rattle.wbt_replay_moves.specs.declared.todo.Todo.{Todo}
 use Rattle.wbt_replay_moves.specs.declared.todo.Todo.TheVariants as todo
 use Rattle.wbt_replay_order.proofs.Facts.Ages.{noticed_kept, aged_kept}
 use Rattle.wbt_replay_order.proofs.Facts.Lists.{either}
-use Rattle.wbt_replay_turns.specs.Words.{MayMark}
+use Rattle.wbt_turns.specs.Words.{MayMark}
 use Rattle.wbt_replay_turns.proofs.Words.Language.{Runs, Yields, one_of, single}
 use Rattle.wbt_replay_turns.proofs.Words.Todos.{Todos, as_before, then_next, then_log, then_quiet}
 

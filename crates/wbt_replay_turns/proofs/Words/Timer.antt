@@ -6,6 +6,7 @@ use Rattle.wbt_flex.specs.Proportions.{after_period}
 use Rattle.wbt_flex.specs.declared.half.Half.{Half}
 use Rattle.wbt_grant.specs.declared.who.StepKind.{StepKind}
 use Rattle.wbt_grant.specs.declared.who.StepKind.TheVariants as kind
+use Rattle.wbt_turns.specs.Words.{publications, repeated}
 use Rattle.wbt_journal.specs.Machine.{domains}
 use Rattle.wbt_journal.specs.declared.step.StepEntry.{StepEntry}
 use Rattle.wbt_trace.specs.declared.trace.Trace.{Trace}
@@ -28,7 +29,7 @@ use Rattle.wbt_replay_order.specs.Definition.Run.{most_moves, last_state}
 use Rattle.wbt_replay_order.specs.Kept.InRange.{StaysInRange}
 use Rattle.wbt_replay_order.proofs.Facts.Lists.{either}
 use Rattle.wbt_replay_turns.specs.Laws.{EndsWell}
-use Rattle.wbt_replay_turns.specs.Words.{kinds_of, publications, repeated, TimerTakesTurns}
+use Rattle.wbt_replay_turns.specs.Words.{kinds_by, TimerTakesTurns}
 use Rattle.wbt_replay_turns.proofs.Kept.Actors.{apart_cpu}
 use Rattle.wbt_replay_turns.proofs.Kept.Items.{Outside}
 use Rattle.wbt_replay_turns.proofs.Kept.Turns.{apart_begin}
@@ -108,7 +109,7 @@ silent_left timer_silent.Rest s = refl
 
 -- by the steps made, and by what is left of the timer's turn
 abbrev TimesIn : (trace : Trace) (steps : List StepEntry) (todos : List TimerTodo) → Type 0
-TimesIn trace steps todos = (turns : ℕ) × (kinds_of trace.cpus steps ++ left_of todos ≡ repeated turns (publications (domains trace)))
+TimesIn trace steps todos = (turns : ℕ) × (kinds_by trace.cpus steps ++ left_of todos ≡ repeated turns (publications (domains trace)))
     × (length (left_of todos) ≤ length (publications (domains trace)))
 
 abbrev TimerParses : (trace : Trace) (s : State) → Type 0
@@ -116,11 +117,11 @@ TimerParses trace s = TimesIn trace s.steps s.timer.todo
 
 module _ (trace : Trace) (s : State) (ready : Ready trace s) (h : TimerParses trace s) where
   -- the timer's steps and its turn stay
-  stays : (u : State) → kinds_of trace.cpus u.steps ≡ kinds_of trace.cpus s.steps → u.timer.todo ≡ s.timer.todo → TimerParses trace u
+  stays : (u : State) → kinds_by trace.cpus u.steps ≡ kinds_by trace.cpus s.steps → u.timer.todo ≡ s.timer.todo → TimerParses trace u
   stays u kinds todos = (
     h.0,
     ap (λ (l : List StepKind). l ++ left_of u.timer.todo) kinds
-        ∙ (ap (λ (l : List TimerTodo). kinds_of trace.cpus s.steps ++ left_of l) todos ∙ h.1),
+        ∙ (ap (λ (l : List TimerTodo). kinds_by trace.cpus s.steps ++ left_of l) todos ∙ h.1),
     omega (arith, h.2, ap (λ (l : List TimerTodo). length (left_of l)) todos),
   )
 
@@ -129,7 +130,7 @@ module _ (trace : Trace) (s : State) (ready : Ready trace s) (h : TimerParses tr
   by_cpu i there =
       let u = cpu_on trace i (cpu_of i s).todo s in
       stays u
-      (⊎_elim (λ same. ap (kinds_of trace.cpus) same)
+      (⊎_elim (λ same. ap (kinds_by trace.cpus) same)
       (λ one. kinds_other i trace.cpus s.steps u.steps one.0 one.1 one.2 (λ e. omega (arith, e, there, ready.many)))
       (grown_cpu trace i (cpu_of i s).todo s))
       (ap (λ (o : Outside). o.timer.todo) (apart_cpu trace i (cpu_of i s).todo s))
@@ -144,20 +145,20 @@ module _ (trace : Trace) (s : State) (ready : Ready trace s) (h : TimerParses tr
       let one = one_kind trace item t in
       let own = kinds_own trace.cpus s.steps u.steps one.entry (timer_kind item) one.is (one.by ∙ ready.many) one.kind in
       let left : left_of u.timer.todo ≡ left_of rest = ap left_of one.left in
-      let before : kinds_of trace.cpus s.steps ++ (timer_kind item ∷ left_of rest) ≡ repeated h.0 (publications (domains trace)) =
-      ap (λ (l : List TimerTodo). kinds_of trace.cpus s.steps ++ left_of l) (sym is) ∙ h.1 in (
+      let before : kinds_by trace.cpus s.steps ++ (timer_kind item ∷ left_of rest) ≡ repeated h.0 (publications (domains trace)) =
+      ap (λ (l : List TimerTodo). kinds_by trace.cpus s.steps ++ left_of l) (sym is) ∙ h.1 in (
         h.0,
-        ap (λ (l : List StepKind). l ++ left_of u.timer.todo) own ∙ (ap (λ (l : List StepKind). kinds_of trace.cpus s.steps ++ timer_kind item ∷ [] ++ l) left
-            ∙ (append_assoc (kinds_of trace.cpus s.steps) (timer_kind item ∷ []) (left_of rest) ∙ before)),
+        ap (λ (l : List StepKind). l ++ left_of u.timer.todo) own ∙ (ap (λ (l : List StepKind). kinds_by trace.cpus s.steps ++ timer_kind item ∷ [] ++ l) left
+            ∙ (append_assoc (kinds_by trace.cpus s.steps) (timer_kind item ∷ []) (left_of rest) ∙ before)),
         omega (arith, h.2, ap (λ (l : List StepKind). length l) left, ap (λ (l : List TimerTodo). length (left_of l)) is),
       ))
   by_timer (timer_todo.Silent item ∷ rest) is =
       let t = with_timer (record s.timer { todo = rest }) s in
       let u = make_timer_move item t in (
         h.0,
-        ap (λ (l : List StepEntry). kinds_of trace.cpus l ++ left_of u.timer.todo) (quiet_timer_move item t)
-            ∙ (ap (λ (l : List TimerTodo). kinds_of trace.cpus s.steps ++ left_of l) (silent_left item t)
-            ∙ (ap (λ (l : List TimerTodo). kinds_of trace.cpus s.steps ++ left_of l) (sym is) ∙ h.1)),
+        ap (λ (l : List StepEntry). kinds_by trace.cpus l ++ left_of u.timer.todo) (quiet_timer_move item t)
+            ∙ (ap (λ (l : List TimerTodo). kinds_by trace.cpus s.steps ++ left_of l) (silent_left item t)
+            ∙ (ap (λ (l : List TimerTodo). kinds_by trace.cpus s.steps ++ left_of l) (sym is) ∙ h.1)),
         omega (arith, h.2, ap (λ (l : List TimerTodo). length (left_of l)) (silent_left item t), ap (λ (l : List TimerTodo). length (left_of l)) is),
       )
 
@@ -169,7 +170,7 @@ module _ (trace : Trace) (s : State) (ready : Ready trace s) (h : TimerParses tr
 
   by_begin : (i job place : ℕ) → TimerParses trace (begin trace (who.Cpu i) job place s)
   by_begin i job place =
-      stays (begin trace (who.Cpu i) job place s) (ap (kinds_of trace.cpus) (begins_silently trace (who.Cpu i) job place s))
+      stays (begin trace (who.Cpu i) job place s) (ap (kinds_by trace.cpus) (begins_silently trace (who.Cpu i) job place s))
       (ap (λ (o : Outside). o.timer.todo) (apart_begin trace (who.Cpu i) job place s))
 
   -- a turn more
@@ -178,10 +179,10 @@ module _ (trace : Trace) (s : State) (ready : Ready trace s) (h : TimerParses tr
       let items : List TimerTodo = turn_items (length s.domains) in
       let more : left_of (s.timer.todo ++ items) ≡ left_of items = ap (λ (l : List TimerTodo). left_of (l ++ items)) none in
       let turn : left_of items ≡ publications (domains trace) = left_turn (length s.domains) ∙ ap publications ready.domains_many in
-      let before : kinds_of trace.cpus s.steps ≡ repeated h.0 (publications (domains trace)) =
-      sym (append-nil (kinds_of trace.cpus s.steps)) ∙ (ap (λ (l : List TimerTodo). kinds_of trace.cpus s.steps ++ left_of l) (sym none) ∙ h.1) in (
+      let before : kinds_by trace.cpus s.steps ≡ repeated h.0 (publications (domains trace)) =
+      sym (append-nil (kinds_by trace.cpus s.steps)) ∙ (ap (λ (l : List TimerTodo). kinds_by trace.cpus s.steps ++ left_of l) (sym none) ∙ h.1) in (
         suc h.0,
-        ap (λ (l : List StepKind). kinds_of trace.cpus s.steps ++ l) (more ∙ turn) ∙ ap (λ (l : List StepKind). l ++ publications (domains trace)) before,
+        ap (λ (l : List StepKind). kinds_by trace.cpus s.steps ++ l) (more ∙ turn) ∙ ap (λ (l : List StepKind). l ++ publications (domains trace)) before,
         omega (arith, ap (λ (l : List StepKind). length l) (more ∙ turn)),
       )
 
@@ -201,5 +202,5 @@ timer_turns trace in_range h =
       turns = at.0;
       left = left_of s.timer.todo;
       last = at.2;
-      steps = ap (λ (l : List StepEntry). kinds_of trace.cpus l ++ left_of s.timer.todo) (journal_steps trace) ∙ at.1;
+      steps = ap (λ (l : List StepEntry). kinds_by trace.cpus l ++ left_of s.timer.todo) (journal_steps trace) ∙ at.1;
     }
