@@ -31,10 +31,12 @@ use Rattle.wbt_kit.specs.declared.kit.Seats.{Seats}
 use Rattle.wbt_run_steps.specs.Backs.{AnswersBack, Came, GivesBack, HaltsBack, Kept, MissesBack, Returned, StopsBack, TellsBack, and_one}
 use Rattle.wbt_run_steps.specs.Backs.HaltsBack.{before_its_look, after_its_look}
 use Rattle.wbt_run_steps.specs.Gate.{AskedBeforeEach}
+use Rattle.wbt_run_steps.specs.Kinds.{StepsToGiveBack}
 use Rattle.wbt_run_steps.specs.Made.{MakesThese}
 use Rattle.wbt_run_steps.specs.Records.{OnlyCpu}
 use Rattle.wbt_run_steps.proofs.Changing.{seats_stay}
 use Rattle.wbt_run_steps.proofs.Gating.{asked_these}
+use Rattle.wbt_run_steps.proofs.Kinds.{cut_back_left, kinds_made, made_as}
 
 -- ---- a look at a page under writeback
 
@@ -199,3 +201,9 @@ module _ (kit : Kit) (cpu flusher page : ℕ) (said : ℕ → ℕ → Bool → T
 
   pub asked_by : (answer : Back) → Answers set' cpu page (said cpu) answer old.cpu new.cpu → AskedBeforeEach cpu said old new
   asked_by answer t = let m = made_by answer t in asked_these cpu said set' m.0 old new (holds.0, holds.1) m.1.0 m.1.2
+
+  pub kinds_by : (answer : Back) → Answers set' cpu page (said cpu) answer old.cpu new.cpu → StepsToGiveBack cpu answer old new
+  kinds_by Redirtied t = made_as cpu set' (back_steps cpu page t.0 t.0) old new t.3.1
+  kinds_by Absorbed t = made_as cpu set' (back_steps cpu page t.0 t.0) old new t.3.1
+  kinds_by (Missed n m) t = made_as cpu set' (back_steps cpu page n m) old new t.2.1
+  kinds_by Stopped t = (kinds_made t.0, cut_back_left cpu page t.0 t.1, made_as cpu set' t.0 old new t.3.1)
