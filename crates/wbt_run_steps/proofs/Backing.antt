@@ -11,14 +11,14 @@ use Rattle.wbt_grant.specs.Setting.{Setting}
 use Rattle.wbt_grant.specs.declared.record.CpuRecord.{CpuRecord}
 use Rattle.wbt_grant.specs.declared.who.StepKind.TheVariants as kind
 use Rattle.wbt_grant.specs.declared.who.Word.TheVariants as word
-use Rattle.wbt_table.specs.Calls.{Asked, CanComplete, GivesBack as Answers, IsCutBack, Made, MakesAll, back_steps, record_of}
+use Rattle.wbt_table.specs.Calls.{CanComplete, GivesBack as Answers, IsCutBack, Made, MakesAll, back_steps, record_of}
 use Rattle.wbt_table.specs.Calls.IsCutBack.{at_once, after_look}
 use Rattle.wbt_table.specs.Layout.{setting}
-use Rattle.wbt_table.specs.Rule.{Has, Holds}
+use Rattle.wbt_table.specs.Rule.{Holds}
 use Rattle.wbt_table.specs.declared.answer.Back.{Back}
 use Rattle.wbt_table.specs.declared.answer.Back.TheVariants.{Redirtied, Absorbed, Missed, Stopped}
 use Rattle.wbt_table.proofs.Seating.{has_changed}
-use Rattle.wbt_journal.specs.Told.{Told, gave_back}
+use Rattle.wbt_journal.specs.Told.{gave_back}
 use Rattle.wbt_journal.specs.declared.entry.CpuJournal.{CpuJournal}
 use Rattle.wbt_journal.specs.declared.entry.Entry.TheVariants as entry
 use Rattle.wbt_run_laws.specs.Grew.{Grew}
@@ -28,7 +28,7 @@ use Rattle.wbt_run_laws.proofs.Stepping.{untold_grows, steps_grow}
 use Rattle.wbt_kit.specs.Kit.{AreSeatsOf}
 use Rattle.wbt_kit.specs.declared.kit.Kit.{Kit}
 use Rattle.wbt_kit.specs.declared.kit.Seats.{Seats}
-use Rattle.wbt_run_steps.specs.Backs.{AnswersBack, Came, GivesBack, HaltsBack, Kept, MissesBack, Returned, StopsBack, TellsBack, and_one}
+use Rattle.wbt_run_steps.specs.Backs.{AnswersBack, Came, GivesBack, HaltsBack, Kept, MissesBack, Returned, TellsBack, and_one}
 use Rattle.wbt_run_steps.specs.Backs.HaltsBack.{before_its_look, after_its_look}
 use Rattle.wbt_run_steps.specs.Gate.{AskedBeforeEach}
 use Rattle.wbt_run_steps.specs.Kinds.{StepsToGiveBack}
@@ -36,7 +36,7 @@ use Rattle.wbt_run_steps.specs.Made.{MakesThese}
 use Rattle.wbt_run_steps.specs.Records.{OnlyCpu}
 use Rattle.wbt_run_steps.proofs.Changing.{seats_stay}
 use Rattle.wbt_run_steps.proofs.Gating.{asked_these}
-use Rattle.wbt_run_steps.proofs.Kinds.{cut_back_left, kinds_made, made_as}
+use Rattle.wbt_run_steps.proofs.Logging.{cut_back_left, kinds_made, made_as}
 
 -- ---- a look at a page under writeback
 

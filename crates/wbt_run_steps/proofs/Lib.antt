@@ -9,6 +9,6 @@ pub mod Asking
 pub mod Held
 pub mod Loading
 pub mod Making
-pub mod Kinds
+pub mod Logging
 pub mod Queues
 pub mod Backing

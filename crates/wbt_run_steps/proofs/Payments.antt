@@ -25,7 +25,7 @@ use Rattle.wbt_run_steps.specs.Debts.{AreOnce}
 use Rattle.wbt_run_steps.specs.Kinds.{ArePayments, PaysFirst, Steps, StepsAs, StepsToPay}
 use Rattle.wbt_run_steps.specs.Records as records
 use Rattle.wbt_run_steps.proofs.Changing.{record_is}
-use Rattle.wbt_run_steps.proofs.Kinds.{kind_in, kinds_made, made_as, steps_so}
+use Rattle.wbt_run_steps.proofs.Logging.{kind_in, kinds_made, made_as, steps_so}
 use Rattle.wbt_run_steps.proofs.Ordering.{by_first, drop_first, owed}
 
 -- ---- one step

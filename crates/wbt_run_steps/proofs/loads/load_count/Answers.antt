@@ -4,7 +4,7 @@ use Rattle.wbt_grant.specs.Seats.{cpu_for, record_after}
 use Rattle.wbt_kit.specs.declared.kit.Seats.{Seats}
 use Rattle.wbt_table.specs.Layout.{setting}
 use Rattle.wbt_run_steps.proofs.Changing.{seats_stay}
-use Rattle.wbt_run_steps.proofs.Kinds.{makes_as}
+use Rattle.wbt_run_steps.proofs.Logging.{makes_as}
 use Rattle.wbt_run_steps.proofs.Loading.{loader_held, made_by}
 use Rattle.wbt_run_steps.proofs.loads.load_count.Goals as goal
 

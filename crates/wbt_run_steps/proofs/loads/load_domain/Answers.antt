@@ -6,7 +6,7 @@ use Rattle.wbt_table.specs.Layout.{setting}
 use Rattle.wbt_turns.specs.Words.{counts}
 use Rattle.wbt_run_steps.specs.Kinds.{StepsAs, loads_of_limits}
 use Rattle.wbt_run_steps.proofs.Gating.{asked_more, asked_once, once_made}
-use Rattle.wbt_run_steps.proofs.Kinds.{as_more, part_first, part_longer}
+use Rattle.wbt_run_steps.proofs.Logging.{as_more, part_first, part_longer}
 use Rattle.wbt_run_steps.proofs.Loading.{held_cpu, holds_after, on_err}
 use Rattle.wbt_run_steps.proofs.loads.load_domain.Goals as goal
 

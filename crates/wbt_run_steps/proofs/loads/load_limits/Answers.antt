@@ -10,7 +10,7 @@ use Rattle.wbt_table.specs.declared.answer.Triple.{Triple}
 use Rattle.wbt_run_steps.specs.Loads.{LoadsLimits, LoadsSome}
 use Rattle.wbt_run_steps.specs.Records.{OnlyCpu}
 use Rattle.wbt_run_steps.specs.Steps.{IsStopped}
-use Rattle.wbt_run_steps.proofs.Kinds.{limits_cut, limits_loaded}
+use Rattle.wbt_run_steps.proofs.Logging.{limits_cut, limits_loaded}
 use Rattle.wbt_run_steps.proofs.Loading.{asked_by, loads_by, may_load, seats_after, some_by}
 use Rattle.wbt_run_steps.proofs.loads.load_limits.Goals as goal
 

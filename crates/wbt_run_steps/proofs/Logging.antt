@@ -1,5 +1,5 @@
 -- The seats' log of a CPU tells of which kinds the steps are that the CPU made.
-use Rattle.std.proofs.Common.{◌≡◌, ◌≢◌, ℕ, List, [], ◌∷◌, ◌++◌, map, Option, Some, None, Result, Ok, Err, refl, sym, ap, ◌∙◌, subst, append_assoc, append-nil}
+use Rattle.std.proofs.Common.{◌≡◌, ◌≢◌, ℕ, List, [], ◌∷◌, ◌++◌, map, Option, Some, None, Result, Ok, Err, inl, refl, sym, ap, ◌∙◌, subst, append_assoc, append-nil}
 use Rattle.std.specs.Prelude.{IfOk, OnErr, OnOk}
 use lib.ListN.{get_elem?}
 use Rattle.wbt_counter.specs.declared.counter.Count.{Count}
@@ -13,9 +13,11 @@ use Rattle.wbt_grant.specs.declared.who.StepKind.TheVariants as kind
 use Rattle.wbt_grant.specs.declared.who.Who.{Who}
 use Rattle.wbt_kit.specs.declared.kit.Kit.{Kit}
 use Rattle.wbt_kit.specs.declared.kit.Seats.{Seats}
+use Rattle.wbt_kit.specs.declared.turn.Turn.{Turn}
+use Rattle.wbt_kit.specs.declared.turn.Turn.TheVariants.{Stepped, Resting, Done, Halted, Faulted, Spent, NoMemory}
 use Rattle.wbt_table.specs.Calls.{IsCutBack, IsCutLoad, Made}
-use Rattle.wbt_table.specs.Calls.IsCutBack as cut_back
-use Rattle.wbt_table.specs.Calls.IsCutLoad as cut_load
+use Rattle.wbt_table.specs.Calls.IsCutBack.{at_once as before_look, after_look}
+use Rattle.wbt_table.specs.Calls.IsCutLoad.{at_once, after_first, after_middle}
 use Rattle.wbt_table.specs.History.{LogsGrant, LogsStep, LogsSteps, Past, log_granted, log_of, step_told}
 use Rattle.wbt_table.specs.Layout.{setting}
 use Rattle.wbt_table.specs.Rule.{HasLog, Logs}
@@ -24,9 +26,10 @@ use Rattle.wbt_table.specs.declared.answer.Triple.{Triple}
 use Rattle.wbt_table.specs.declared.rule.Granted.{Granted}
 use Rattle.wbt_table.specs.declared.rule.Logged.{Logged}
 use Rattle.wbt_table.proofs.Logging.{put_log_else, put_log_here}
-use Rattle.wbt_turns.specs.Words.{IsCut, counts, kind_of}
+use Rattle.wbt_turns.specs.Words.{IsCut, IsCutTurn, IsTurn, counts, kind_of}
+use Rattle.wbt_turns.specs.Words.IsTurn.{rests}
 use Rattle.wbt_run_steps.specs.Inodes.{MarksInode}
-use Rattle.wbt_run_steps.specs.Kinds.{Steps, StepsAs, StepsPart, kinds_in, loads_of_limits, marking}
+use Rattle.wbt_run_steps.specs.Kinds.{CutsTurn, Steps, StepsAs, StepsInTurn, StepsPart, TakesTurn, kinds_in, loads_of_limits, marking}
 use Rattle.wbt_run_steps.specs.Loads.{LoadsCount, LoadsLimits, LoadsSome}
 use Rattle.wbt_run_steps.specs.Made.{MakesEach, MakesSome, MakesThese}
 use Rattle.wbt_run_steps.proofs.Making.{step_in}
@@ -133,6 +136,12 @@ module _ (cpu : ℕ) where
   pub steps_more : (A B C : List StepKind → Type 0) (old mid new : Seats) → ((a b : List StepKind) → A a → B b → C (a ++ b)) → Steps cpu A old mid → Steps cpu B mid new → Steps cpu C old new
   steps_more A B C old mid new both p q = (p.0 ++ q.0, both p.0 q.0 p.1 q.1, as_more p.0 q.0 old mid new p.2 q.2)
 
+  pub steps_behind : (A : List StepKind → Type 0) (old mid new : Seats) → StepsAs cpu [] old mid → Steps cpu A mid new → Steps cpu A old new
+  steps_behind A old mid new p q = (q.0, q.1, as_more [] q.0 old mid new p q.2)
+
+  pub steps_still : (A : List StepKind → Type 0) (old mid new : Seats) → Steps cpu A old mid → StepsAs cpu [] mid new → Steps cpu A old new
+  steps_still A old mid new p q = (p.0, p.1, as_still p.0 old mid new p.2 q)
+
   -- such words are others too
   pub steps_so : (A B : List StepKind → Type 0) (old new : Seats) → ((word : List StepKind) → A word → B word) → Steps cpu A old new → Steps cpu B old new
   steps_so A B old new so p = (p.0, so p.0 p.1, p.2)
@@ -157,13 +166,34 @@ module _ (cpu : ℕ) where
 
   -- of a word that is given
   pub part_first : (a b : List StepKind) (old new : Seats) → StepsAs cpu a old new → StepsPart cpu (a ++ b) old new
-  part_first a b old new as = (a, (b, refl), as)
+  part_first a b old new steps = (a, (b, refl), steps)
 
   pub part_longer : (a b : List StepKind) (old new : Seats) → StepsPart cpu a old new → StepsPart cpu (a ++ b) old new
   part_longer a b old new = cut_so (λ word. word ≡ a) (λ word. word ≡ a ++ b) old new (λ word is. (b, ap (λ (l : List StepKind). l ++ b) is))
 
   pub part_after : (a b : List StepKind) (old mid new : Seats) → StepsAs cpu a old mid → StepsPart cpu b mid new → StepsPart cpu (a ++ b) old new
   part_after a b old mid new p = cut_after (λ word. word ≡ a) (λ word. word ≡ b) (λ word. word ≡ a ++ b) old mid new (λ x y is are. (λ i. is i ++ are i)) (a, refl, p)
+
+-- ---- turns
+
+module _ (domains cpu : ℕ) where
+  -- where nothing was made, a task or a flusher rests
+  pub takes_none : (old new : Seats) → StepsAs cpu [] old new → TakesTurn domains cpu old new
+  takes_none old new steps = ([], rests (inl refl), steps)
+
+  -- or it was cut off before its first step
+  pub cuts_none : (old new : Seats) → StepsAs cpu [] old new → CutsTurn domains cpu old new
+  cuts_none old new steps = cut_whole cpu (IsTurn domains) old new (takes_none old new steps)
+
+  -- a turn before which nothing was made
+  pub turn_behind : (answer : Turn) (old mid new : Seats) → StepsAs cpu [] old mid → StepsInTurn domains cpu answer mid new → StepsInTurn domains cpu answer old new
+  turn_behind Stepped old mid new p q = steps_behind cpu (IsTurn domains) old mid new p q
+  turn_behind (Resting now until) old mid new p q = steps_behind cpu (IsTurn domains) old mid new p q
+  turn_behind Done old mid new p q = steps_behind cpu (IsTurn domains) old mid new p q
+  turn_behind Halted old mid new p q = steps_behind cpu (IsCutTurn domains) old mid new p q
+  turn_behind Faulted old mid new p q = steps_behind cpu (IsTurn domains) old mid new p q
+  turn_behind Spent old mid new p q = steps_behind cpu (IsTurn domains) old mid new p q
+  turn_behind NoMemory old mid new p q = steps_behind cpu (IsTurn domains) old mid new p q
 
 -- ---- steps that are listed
 
@@ -196,9 +226,9 @@ module _ (kit : Kit) (cpu : ℕ) where
 
   -- or a first part of these steps was made
   cut_load_left : (domain : ℕ) (made : List Made) → IsCutLoad cpu domain made → IsCut (λ word. word ≡ loads_of_limits) (kinds_made made)
-  cut_load_left domain made (cut_load.at_once is) = (loads_of_limits, ap (λ (l : List Made). kinds_made l ++ loads_of_limits) is)
-  cut_load_left domain made (cut_load.after_first n is) = (kind.Middle ∷ kind.Limits ∷ [], ap (λ (l : List Made). kinds_made l ++ kind.Middle ∷ kind.Limits ∷ []) is)
-  cut_load_left domain made (cut_load.after_middle n m is) = (kind.Limits ∷ [], ap (λ (l : List Made). kinds_made l ++ kind.Limits ∷ []) is)
+  cut_load_left domain made (at_once is) = (loads_of_limits, ap (λ (l : List Made). kinds_made l ++ loads_of_limits) is)
+  cut_load_left domain made (after_first n is) = (kind.Middle ∷ kind.Limits ∷ [], ap (λ (l : List Made). kinds_made l ++ kind.Middle ∷ kind.Limits ∷ []) is)
+  cut_load_left domain made (after_middle n m is) = (kind.Limits ∷ [], ap (λ (l : List Made). kinds_made l ++ kind.Limits ∷ []) is)
 
   pub some_limits_as : (domain : ℕ) (old new : Seats) → LoadsSome kit cpu domain old new → StepsPart cpu loads_of_limits old new
   some_limits_as domain old new some = (kinds_made some.made, cut_load_left domain some.made some.cut, these_as some.made old new some.makes)
@@ -215,5 +245,5 @@ module _ (kit : Kit) (cpu : ℕ) where
 
 -- a look at a page that is to be given back, or that and the exchange
 pub cut_back_left : (cpu page : ℕ) (made : List Made) → IsCutBack cpu page made → IsCut (λ word. word ≡ kind.Look ∷ kind.Back ∷ []) (kinds_made made)
-cut_back_left cpu page made (cut_back.at_once is) = (kind.Look ∷ kind.Back ∷ [], ap (λ (l : List Made). kinds_made l ++ kind.Look ∷ kind.Back ∷ []) is)
-cut_back_left cpu page made (cut_back.after_look n writeback is) = (kind.Back ∷ [], ap (λ (l : List Made). kinds_made l ++ kind.Back ∷ []) is)
+cut_back_left cpu page made (before_look is) = (kind.Look ∷ kind.Back ∷ [], ap (λ (l : List Made). kinds_made l ++ kind.Look ∷ kind.Back ∷ []) is)
+cut_back_left cpu page made (after_look n writeback is) = (kind.Back ∷ [], ap (λ (l : List Made). kinds_made l ++ kind.Back ∷ []) is)
