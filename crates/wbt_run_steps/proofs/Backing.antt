@@ -11,14 +11,14 @@ use Rattle.wbt_grant.specs.Setting.{Setting}
 use Rattle.wbt_grant.specs.declared.record.CpuRecord.{CpuRecord}
 use Rattle.wbt_grant.specs.declared.who.StepKind.TheVariants as kind
 use Rattle.wbt_grant.specs.declared.who.Word.TheVariants as word
-use Rattle.wbt_table.specs.Calls.{Asked, CanComplete, GivesBack as Answers, IsCutBack, Made, MakesAll, back_steps, record_of}
+use Rattle.wbt_table.specs.Calls.{CanComplete, GivesBack as Answers, IsCutBack, Made, MakesAll, back_steps, record_of}
 use Rattle.wbt_table.specs.Calls.IsCutBack.{at_once, after_look}
 use Rattle.wbt_table.specs.Layout.{setting}
-use Rattle.wbt_table.specs.Rule.{Has, Holds}
+use Rattle.wbt_table.specs.Rule.{Holds}
 use Rattle.wbt_table.specs.declared.answer.Back.{Back}
 use Rattle.wbt_table.specs.declared.answer.Back.TheVariants.{Redirtied, Absorbed, Missed, Stopped}
 use Rattle.wbt_table.proofs.Seating.{has_changed}
-use Rattle.wbt_journal.specs.Told.{Told, gave_back}
+use Rattle.wbt_journal.specs.Told.{gave_back}
 use Rattle.wbt_journal.specs.declared.entry.CpuJournal.{CpuJournal}
 use Rattle.wbt_journal.specs.declared.entry.Entry.TheVariants as entry
 use Rattle.wbt_run_laws.specs.Grew.{Grew}
@@ -28,13 +28,15 @@ use Rattle.wbt_run_laws.proofs.Stepping.{untold_grows, steps_grow}
 use Rattle.wbt_kit.specs.Kit.{AreSeatsOf}
 use Rattle.wbt_kit.specs.declared.kit.Kit.{Kit}
 use Rattle.wbt_kit.specs.declared.kit.Seats.{Seats}
-use Rattle.wbt_run_steps.specs.Backs.{AnswersBack, Came, GivesBack, HaltsBack, Kept, MissesBack, Returned, StopsBack, TellsBack, and_one}
+use Rattle.wbt_run_steps.specs.Backs.{AnswersBack, Came, GivesBack, HaltsBack, Kept, MissesBack, Returned, TellsBack, and_one}
 use Rattle.wbt_run_steps.specs.Backs.HaltsBack.{before_its_look, after_its_look}
 use Rattle.wbt_run_steps.specs.Gate.{AskedBeforeEach}
+use Rattle.wbt_run_steps.specs.Kinds.{StepsToGiveBack}
 use Rattle.wbt_run_steps.specs.Made.{MakesThese}
 use Rattle.wbt_run_steps.specs.Records.{OnlyCpu}
 use Rattle.wbt_run_steps.proofs.Changing.{seats_stay}
 use Rattle.wbt_run_steps.proofs.Gating.{asked_these}
+use Rattle.wbt_run_steps.proofs.Logging.{cut_back_left, kinds_made, made_as}
 
 -- ---- a look at a page under writeback
 
@@ -199,3 +201,9 @@ module _ (kit : Kit) (cpu flusher page : ℕ) (said : ℕ → ℕ → Bool → T
 
   pub asked_by : (answer : Back) → Answers set' cpu page (said cpu) answer old.cpu new.cpu → AskedBeforeEach cpu said old new
   asked_by answer t = let m = made_by answer t in asked_these cpu said set' m.0 old new (holds.0, holds.1) m.1.0 m.1.2
+
+  pub kinds_by : (answer : Back) → Answers set' cpu page (said cpu) answer old.cpu new.cpu → StepsToGiveBack cpu answer old new
+  kinds_by Redirtied t = made_as cpu set' (back_steps cpu page t.0 t.0) old new t.3.1
+  kinds_by Absorbed t = made_as cpu set' (back_steps cpu page t.0 t.0) old new t.3.1
+  kinds_by (Missed n m) t = made_as cpu set' (back_steps cpu page n m) old new t.2.1
+  kinds_by Stopped t = (kinds_made t.0, cut_back_left cpu page t.0 t.1, made_as cpu set' t.0 old new t.3.1)

@@ -2,11 +2,13 @@ pub mod Changing
 pub mod Gating
 pub mod Settling
 pub mod Ordering
+pub mod Payments
 pub mod Telling
 pub mod Paying
 pub mod Asking
 pub mod Held
 pub mod Loading
 pub mod Making
+pub mod Logging
 pub mod Queues
 pub mod Backing

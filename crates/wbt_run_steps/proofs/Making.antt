@@ -31,7 +31,7 @@ record_append set (m ∷ a) b r = record_append set a b (record_after set m.step
 pub only_more : (old mid new : Seats) → OnlyCpu old mid → OnlyCpu mid new → OnlyCpu old new
 only_more old mid new p q = record { share = q.share ∙ p.share; est = q.est ∙ p.est; queue = q.queue ∙ p.queue }
 
-abbrev step_in : (made : Made) → Step
+abbrev pub step_in : (made : Made) → Step
 step_in made = made.step
 
 module _ (kit : Kit) (cpu : ℕ) where

@@ -23,7 +23,7 @@ use Rattle.wbt_run_laws.specs.Steps.{fold_made}
 use Rattle.wbt_run_steps.specs.Debts.{AreOnce, ArePaid, ArePaidInTurn, AreWhole, owed_to}
 use Rattle.wbt_run_steps.proofs.Settling.{in_order, turned_is_told, turned_round}
 
-abbrev owed : (x : Counter) (d : Debt) → Owed
+abbrev pub owed : (x : Counter) (d : Debt) → Owed
 owed x d = record { counter = x; debt = d }
 
 -- ---- the debts of a page
@@ -38,11 +38,11 @@ page_once set k a =
 -- ---- one step
 
 -- without the first debt
-drop_first : (x : Counter) (d : Debt) (more : List Owed) → without_debt x more ≡ more → without_debt x (owed x d ∷ more) ≡ more
+pub drop_first : (x : Counter) (d : Debt) (more : List Owed) → without_debt x more ≡ more → without_debt x (owed x d ∷ more) ≡ more
 drop_first x d more once = ap (λ (b : Bool). cond (not b) (owed x d ∷ without_debt x more) (without_debt x more)) (is_same-itself x) ∙ once
 
 -- the step that pays the debt that stands first
-by_first : (c : ℕ) (P : List Owed → Step → Type 0) → ((x : Counter) (a : ℤ) (more : List Owed) → P (owed x (Event a) ∷ more) (add c x))
+pub by_first : (c : ℕ) (P : List Owed → Step → Type 0) → ((x : Counter) (a : ℤ) (more : List Owed) → P (owed x (Event a) ∷ more) (add c x))
     → ((x : Counter) (more : List Owed) → P (owed x FoldDue ∷ more) (fold c x))
     → ((x : Counter) (d : ℤ) (more : List Owed) → P (owed x (ClearDue d) ∷ more) (clear c x))
     → (debts : List Owed) (step : Step) → Pays c step debts → P debts step

@@ -16,12 +16,14 @@ use Rattle.wbt_kit.specs.declared.kit.Kit.{Kit}
 use Rattle.wbt_kit.specs.declared.kit.Seats.{Seats}
 use Rattle.wbt_run_steps.specs.Debts.{AreOnce}
 use Rattle.wbt_run_steps.specs.Gate.{AskedBeforeEach}
+use Rattle.wbt_run_steps.specs.Kinds.{StepsToPay}
 use Rattle.wbt_run_steps.specs.Pens.{with_fold}
 use Rattle.wbt_run_steps.specs.Records.{OnlyCpu}
 use Rattle.wbt_run_steps.specs.Steps.{AreOwed, Settled, tells_folds}
 use Rattle.wbt_run_steps.proofs.Changing.{record_is, seats_stay}
 use Rattle.wbt_run_steps.proofs.Gating.{asked_each}
 use Rattle.wbt_run_steps.proofs.Ordering.{settled_order}
+use Rattle.wbt_run_steps.proofs.Payments.{steps_paid}
 use Rattle.wbt_run_steps.proofs.Settling.{AreOf, in_order, settled_paid}
 use Rattle.wbt_run_steps.proofs.Telling.{folds_logged}
 
@@ -29,6 +31,7 @@ pub record Settles' (cpu : ℕ) (kit : Kit) (said : ℕ → ℕ → Bool → Typ
   pub seats : AreSeatsOf kit new
   pub settled : Settled cpu kit said all old new before behind
   pub asked : AskedBeforeEach cpu said old new
+  pub kinds : StepsToPay cpu all old new
 
 pub settles : (cpu : ℕ) (kit : Kit) (said : ℕ → ℕ → Bool → Type 0) (answer : Answer) (old new : Seats) (before : CpuJournal) → AreSeatsOf kit old
     → (held : (r : CpuRecord) × Has old.cpu.cpus cpu r) → OnlyCpu old new → AreOwed cpu kit old
@@ -65,4 +68,5 @@ settles cpu kit said answer old new before seats held only owed comes =
         stopped = by.stopped;
       };
       asked = asked_each cpu said (setting kit.throttle.layout) by.made r r' old new has (has_changed cpu (λ (q : CpuRecord). r') old.cpu new.cpu r change has) by.becomes by.asked;
+      kinds = steps_paid (setting kit.throttle.layout) cpu (said cpu) answer old new r r' has once by to.1.1;
     }

@@ -10,7 +10,7 @@ use Rattle.wbt_table.specs.Layout.{setting}
 use Rattle.wbt_table.specs.Rule.{Has}
 use Rattle.wbt_table.specs.declared.answer.Back.{Back}
 use Rattle.wbt_table.specs.declared.answer.Back.TheVariants.{Redirtied, Absorbed, Missed, Stopped}
-use Rattle.wbt_journal.specs.Told.{Told, gave_back}
+use Rattle.wbt_journal.specs.Told.{gave_back}
 use Rattle.wbt_journal.specs.declared.entry.CpuJournal.{CpuJournal}
 use Rattle.wbt_journal.specs.declared.entry.Entry.TheVariants as entry
 use Rattle.wbt_run_laws.specs.Grew.{Grew}

@@ -7,6 +7,7 @@ ghost use Rattle.wbt_table.specs.Rule.{Holds};
 ghost use Rattle.wbt_kit.specs.Kit.{AreSeatsOf};
 ghost use Rattle.wbt_run_steps.specs.Backs.{AnswersBack, TellsBack};
 ghost use Rattle.wbt_run_steps.specs.Gate.{AskedBeforeEach};
+ghost use Rattle.wbt_run_steps.specs.Kinds.{StepsToGiveBack};
 
 use crate::pen::Pen;
 use wbt_io::Gate;
@@ -33,6 +34,7 @@ pub fn give_back<G: Gate>(
     ensures had_a_step { IfOk result (λ _. HasPageSteps (setting kit.now.throttle.layout) cpu seats.old.cpu) }
     ensures spent { IfErr result (λ _. (seats.new ≡ seats.old) × (pen.new.log ≡ pen.old.log) × HasNoPageSteps (setting kit.now.throttle.layout) cpu seats.old.cpu) }
     ensures asked { AskedBeforeEach cpu (G.said gate.now) seats.old seats.new }
+    ensures kinds { IfOk result (λ answer. StepsToGiveBack cpu answer seats.old seats.new) }
     ensures room { pen.old.room ≤ pen.new.room + 1 }
     ensures checks { pen.new.checks ≡ pen.old.checks }
     ensures estimates { pen.new.estimates ≡ pen.old.estimates }

@@ -1,11 +1,13 @@
 //! Loads of limits and of counts, which a CPU makes for itself, as for its flushers, or for a writer of its own.
 
-ghost use Rattle.std.specs.Prelude.{◌≡◌, ◌^◌, ◌<◌, ◌≤◌, IfOk, OnErr, unsigned_abs};
+ghost use Rattle.std.specs.Prelude.{◌≡◌, ◌^◌, ◌<◌, ◌≤◌, IfOk, OnErr, OnOk, unsigned_abs};
 ghost use Rattle.wbt_grant.specs.Seats.{cpu_for};
 ghost use Rattle.wbt_num.specs.Limits.{IsLawful};
 ghost use Rattle.wbt_table.specs.Layout.{HasCounter, domains, setting};
 ghost use Rattle.wbt_kit.specs.Kit.{AreSeatsOf};
+ghost use Rattle.wbt_turns.specs.Words as words;
 ghost use Rattle.wbt_run_steps.specs.Gate.{AskedBeforeEach};
+ghost use Rattle.wbt_run_steps.specs.Kinds.{StepsAs, StepsPart, loads_of_limits};
 ghost use Rattle.wbt_run_steps.specs.Loads.{HoldsLoader, LoadsCount, LoadsDomain, LoadsLimits, LoadsPart, LoadsSome, TellsHeld};
 ghost use Rattle.wbt_run_steps.specs.Steps.{IsStopped};
 
@@ -51,6 +53,8 @@ pub fn load_domain<R, C, G: Gate>(
     ensures part { OnErr result (LoadsPart hands.now.kit.now cpu who domain seats.old seats.new) }
     ensures stopped { OnErr result (IsStopped cpu (G.said hands.now.gate.now) seats.new) }
     ensures asked { AskedBeforeEach cpu (G.said hands.now.gate.now) seats.old seats.new }
+    ensures kinds { OnOk result (StepsAs cpu (words.loads 1) seats.old seats.new) }
+    ensures cut { OnErr result (StepsPart cpu (words.loads 1) seats.old seats.new) }
 {
     let held = load_limits(cpu, who, domain, hands.kit, seats, hands.gate)?;
     if !may_step(cpu, seats, hands.gate) {
@@ -84,6 +88,8 @@ pub fn load_limits<G: Gate>(
     ensures part { OnErr result (LoadsSome kit.now cpu domain seats.old seats.new) }
     ensures stopped { OnErr result (IsStopped cpu (G.said gate.now) seats.new) }
     ensures asked { AskedBeforeEach cpu (G.said gate.now) seats.old seats.new }
+    ensures kinds { OnOk result (StepsAs cpu loads_of_limits seats.old seats.new) }
+    ensures cut { OnErr result (StepsPart cpu loads_of_limits seats.old seats.new) }
 {
     let _cpu = cpu;
     let loaded = kit.throttle.load_limits(&mut seats.cpu, who, domain, gate);
@@ -113,6 +119,7 @@ pub fn load_count(who: Who, counter: Counter, kit: &Kit, seats: &mut Seats) -> C
     ensures seats { AreSeatsOf kit.now seats.new }
     ensures few { unsigned_abs result.value ≤ 2 ^ 31 }
     ensures loads { LoadsCount kit.now who counter result seats.old seats.new }
+    ensures kinds { StepsAs (cpu_for (setting kit.now.throttle.layout) who) (words.counts 1) seats.old seats.new }
 {
     kit.throttle.load_count(&mut seats.cpu, who, counter)
 }

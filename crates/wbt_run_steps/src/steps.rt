@@ -4,6 +4,7 @@ ghost use Rattle.std.specs.Prelude.{◌≡◌, ◌+◌, ◌≤◌};
 ghost use Rattle.wbt_table.specs.Rule.{Has};
 ghost use Rattle.wbt_kit.specs.Kit.{AreSeatsOf};
 ghost use Rattle.wbt_run_steps.specs.Gate.{AskedBeforeEach};
+ghost use Rattle.wbt_run_steps.specs.Kinds.{StepsToPay};
 ghost use Rattle.wbt_run_steps.specs.Pens.{with_fold};
 ghost use Rattle.wbt_run_steps.specs.Steps.{AreOwed, IsAnswered, Settled};
 
@@ -30,6 +31,7 @@ pub fn settle<G: Gate>(cpu: u32, kit: &Kit, seats: &mut Seats, gate: &G, pen: &m
     ensures seats { AreSeatsOf kit.now seats.new }
     ensures settled { Settled cpu kit.now (G.said gate.now) result seats.old seats.new pen.old.log pen.new.log }
     ensures asked { AskedBeforeEach cpu (G.said gate.now) seats.old seats.new }
+    ensures kinds { StepsToPay cpu result seats.old seats.new }
     ensures room { pen.old.room ≤ pen.new.room + 3 }
     ensures checks { pen.new.checks ≡ pen.old.checks }
     ensures estimates { pen.new.estimates ≡ pen.old.estimates }

@@ -30,6 +30,7 @@ use Rattle.wbt_journal.specs.declared.entry.Entry.TheVariants as entry
 use Rattle.wbt_kit.specs.declared.kit.Kit.{Kit}
 use Rattle.wbt_kit.specs.declared.kit.Seats.{Seats}
 use Rattle.wbt_run_steps.specs.Debts.{AreOnce}
+use Rattle.wbt_run_steps.proofs.Logging.{makes_as}
 use Rattle.wbt_run_steps.specs.Records.{OnlyCpu}
 use Rattle.wbt_run_steps.specs.Steps.{AreOwed}
 use Rattle.wbt_run_steps.proofs.Changing.{record_is}
@@ -61,6 +62,7 @@ use Rattle.wbt_writer.specs.Ahead.{HasPage, first_page}
 use Rattle.wbt_writer.specs.Counted.{AreTasksOf, IsJob, KeepsFixed, OthersStay, Passes, cpu_of, no_name, side_of, state_of, task_at, written_of}
 use Rattle.wbt_writer.specs.Desk.{AreAt, HaveLefts, IsGoing, OwesNothing, record_in, sight}
 use Rattle.wbt_writer.specs.Did.{Does, Keeps}
+use Rattle.wbt_writer.specs.Kinds.{OwesEvents, StepsToDirty}
 use Rattle.wbt_writer.specs.Over.{AreOver, IsOver, own_of}
 use Rattle.wbt_writer.specs.Writes.{Dirties, OwesMark, is_fresh}
 use Rattle.wbt_writer.specs.declared.task.TaskPlace.{TaskPlace}
@@ -137,6 +139,11 @@ rescans_same set w p Already r = refl
 steps_same : (set : Setting) (w p : ℕ) (answer : Dirtied) (r : CpuRecord) → (dirtied_by set w p answer r).page_steps ≡ r.page_steps
 steps_same set w p Fresh r = refl
 steps_same set w p Already r = refl
+
+owes_events : (kit : Kit) (w p found : ℕ) (answer : Dirtied) (r : CpuRecord) → r.debts ≡ [] → (cpu : ℕ) (new : Seats)
+    → record_in cpu new ≡ stepped_by (setting kit.throttle.layout) w p found answer r → OwesEvents kit cpu p answer new
+owes_events kit w p found Fresh r none cpu new is = ap (λ (q : CpuRecord). q.debts) is
+owes_events kit w p found Already r none cpu new is = ap (λ (q : CpuRecord). q.debts) is ∙ none
 
 module _ (trace : Trace) (cpu : ℕ) (kit : Kit) (was : WriterWork) (old : Seats) (at : AreAt trace cpu kit was old) (task : ℕ) (going : IsGoing trace was.tasks task) (inode page : ℕ)
     (its_job : IsJob trace was.tasks task (job.Write inode page)) where
@@ -238,6 +245,12 @@ module _ (trace : Trace) (cpu : ℕ) (kit : Kit) (was : WriterWork) (old : Seats
 
       becomes : record_in cpu new ≡ stepped_by set' w p found answer (record_in cpu old)
       becomes = change.becomes ∙ by_answer set' w p found (bits_at found p).dirty answer (record_in cpu old) tells_is
+
+      pub dirtied_as : OwesNothing cpu old → StepsToDirty kit cpu (first_page trace inode + page) answer old new
+      dirtied_as none = record {
+        steps = makes_as cpu set' (dirty w p) found old new seat_own makes;
+        owes = owes_events kit w p found answer (record_in cpu old) none cpu new becomes;
+      }
 
       grew : Grew (wrote task p (is_fresh answer) ∷ []) (record_in cpu old) (record_in cpu new)
       grew = subst (λ (z : Bool × CpuRecord). Grew (wrote task p z.0 ∷ []) (record_in cpu old) z.1) (λ i. (fresh_is (bits_at found p).dirty answer tells_is i, sym change.becomes i))

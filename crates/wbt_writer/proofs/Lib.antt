@@ -34,4 +34,5 @@ pub mod Settling
 pub mod Sharing
 pub mod Standing
 pub mod Taking
+pub mod Turning
 pub mod Writing

@@ -7,6 +7,7 @@ pub mod Counted
 pub mod Desk
 pub mod Did
 pub mod Exact
+pub mod Kinds
 pub mod Lines
 pub mod Loads
 pub mod Opening

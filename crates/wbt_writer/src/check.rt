@@ -1,10 +1,10 @@
 //! A check of a writer.
 
-ghost use Rattle.std.specs.Prelude.{◌≡◌, ◌≢◌, ◌^◌, ◌<◌, ◌≤◌, true, OnOk, OnErr, length};
+ghost use Rattle.std.specs.Prelude.{◌≡◌, ◌≢◌, ◌^◌, ◌<◌, ◌≤◌, true, [], OnOk, OnErr, length};
 ghost use Rattle.wbt_grant.specs.Kinds.{MayGrant};
 ghost use Rattle.wbt_pause.specs.declared.decision.Kind.TheVariants as kind;
 ghost use Rattle.wbt_journal.specs.Machine.{context_domain};
-ghost use Rattle.wbt_table.specs.Layout.{setting};
+ghost use Rattle.wbt_table.specs.Layout.{domains, setting};
 ghost use Rattle.wbt_task.specs.History.{writer_of};
 ghost use Rattle.wbt_writer.specs.Asked.{Asked, Gives};
 ghost use Rattle.wbt_writer.specs.Checks.{Checks, LoadsAlone};
@@ -13,6 +13,7 @@ ghost use Rattle.wbt_writer.specs.Desk.{AreAt, Fits, HaveLefts, HaveRead, IsGoin
 ghost use Rattle.wbt_writer.specs.Exact.{ChecksSome, ChecksTask};
 ghost use Rattle.wbt_writer.specs.Loads.{AreInRange, IsGroup};
 ghost use Rattle.wbt_run_steps.specs.Gate.{AskedBeforeEach};
+ghost use Rattle.wbt_run_steps.specs.Kinds.{CutsTurn, StepsAs, TakesTurn};
 ghost use Rattle.wbt_run_steps.specs.Steps.{IsStopped};
 
 use crate::lines::{fractions_after, read_lines};
@@ -53,6 +54,8 @@ impl WriterWork {
         ensures took_some { OnErr result (ChecksSome place.now.trace.now hands.now.kit.now place.now.cpu task (sight self.old seats.old pen.old.log) (sight self.new seats.new pen.new.log)) }
         ensures stopped { OnErr result (IsStopped place.now.cpu (G.said hands.now.gate.now) seats.new) }
         ensures asked { AskedBeforeEach place.now.cpu (G.said hands.now.gate.now) seats.old seats.new }
+        ensures kinds { OnOk result (TakesTurn (domains hands.now.kit.now.throttle.layout) place.now.cpu seats.old seats.new) }
+        ensures cut { OnErr result (CutsTurn (domains hands.now.kit.now.throttle.layout) place.now.cpu seats.old seats.new) }
     {
         let at = self.tasks.task(task);
         let group = group_of(place.trace, at.context);
@@ -116,6 +119,7 @@ fn give(cpu: u32, writer: u32, decision: Decision, kit: &Kit, seats: &mut Seats)
     requires may { decision.kind ≢ kind.Wait → MayGrant (setting kit.now.throttle.layout) writer decision.left (record_in cpu seats.old) }
     ensures fits { Fits cpu kit.now seats.new }
     ensures gives { Gives cpu writer decision seats.old seats.new }
+    ensures kinds { StepsAs cpu [] seats.old seats.new }
 {
     let _cpu = cpu;
     match decision.kind {

@@ -4,10 +4,11 @@ ghost use Rattle.std.specs.Prelude.{◌≡◌, ◌<◌, ◌≤◌, [], IfOk, OnO
 ghost use Rattle.wbt_rules.specs.Thresholds.{global_at};
 ghost use Rattle.wbt_journal.specs.Side.{first_side};
 ghost use Rattle.wbt_kit.specs.Kit.{AreSeatsOf};
-ghost use Rattle.wbt_table.specs.Layout.{setting};
+ghost use Rattle.wbt_table.specs.Layout.{domains, setting};
 ghost use Rattle.wbt_trace.specs.Lawful.{IsLawful};
 ghost use Rattle.wbt_run_laws.specs.Notes.{no_fraction};
 ghost use Rattle.wbt_run_steps.specs.Gate.{AskedBeforeEach};
+ghost use Rattle.wbt_run_steps.specs.Kinds.{StepsInTurn};
 ghost use Rattle.wbt_writer.specs.Answers.{MayGoOn, ToldAreHeld, Turned};
 ghost use Rattle.wbt_writer.specs.Counted.{IsFor, side_of, written_of};
 ghost use Rattle.wbt_writer.specs.Exact.{WriterTakes};
@@ -92,6 +93,7 @@ impl<'t> WriterCpu<'t> {
         ensures took { WriterTakes (C.told hands.now.clock.now) (G.said hands.now.gate.now) self.old.trace hands.now.kit.now self.old.cpu result (sight self.old.work seats.old log.old) (sight self.new.work seats.new log.new) }
         ensures holds { ToldAreHeld hands.now.kit.now self.old.cpu seats.new log.old log.new }
         ensures asked { AskedBeforeEach self.old.cpu (G.said hands.now.gate.now) seats.old seats.new }
+        ensures kinds { StepsInTurn (domains hands.now.kit.now.throttle.layout) self.old.cpu result seats.old seats.new }
         ensures may_go_on { MayGoOn result hands.now.kit.now self.old self.new seats.old seats.new }
     {
         let mut pen = Pen::open(hands.alloc, log);
@@ -114,6 +116,7 @@ impl<'t> WriterCpu<'t> {
         ensures turned { Turned (C.told hands.now.clock.now) (G.said hands.now.gate.now) self.old.trace self.old.cpu hands.now.kit.now result (sight self.old.work seats.old pen.old.log) (sight self.new.work seats.new pen.new.log) }
         ensures took { WriterTakes (C.told hands.now.clock.now) (G.said hands.now.gate.now) self.old.trace hands.now.kit.now self.old.cpu result (sight self.old.work seats.old pen.old.log) (sight self.new.work seats.new pen.new.log) }
         ensures asked { AskedBeforeEach self.old.cpu (G.said hands.now.gate.now) seats.old seats.new }
+        ensures kinds { StepsInTurn (domains hands.now.kit.now.throttle.layout) self.old.cpu result seats.old seats.new }
         ensures may_go_on { MayGoOn result hands.now.kit.now self.old self.new seats.old seats.new }
     {
         if pen.reserve(MOST_ENTRIES, 1, 0).is_err() {

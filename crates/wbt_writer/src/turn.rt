@@ -2,6 +2,8 @@
 
 ghost use Rattle.std.specs.Prelude.{◌≡◌, ◌^◌, ◌<◌, ◌≤◌, length};
 ghost use Rattle.wbt_run_steps.specs.Gate.{AskedBeforeEach};
+ghost use Rattle.wbt_run_steps.specs.Kinds.{StepsInTurn};
+ghost use Rattle.wbt_table.specs.Layout.{domains};
 ghost use Rattle.wbt_writer.specs.Answers.{Goes, HasMemory, Turned, WorkMayGoOn};
 ghost use Rattle.wbt_writer.specs.Counted.{task_at};
 ghost use Rattle.wbt_writer.specs.Exact.{TookBy, WriterTakes};
@@ -34,6 +36,7 @@ impl WriterWork {
         ensures turned { Turned (C.told hands.now.clock.now) (G.said hands.now.gate.now) place.now.trace.now place.now.cpu hands.now.kit.now result (sight self.old seats.old pen.old.log) (sight self.new seats.new pen.new.log) }
         ensures took { WriterTakes (C.told hands.now.clock.now) (G.said hands.now.gate.now) place.now.trace.now hands.now.kit.now place.now.cpu result (sight self.old seats.old pen.old.log) (sight self.new seats.new pen.new.log) }
         ensures asked { AskedBeforeEach place.now.cpu (G.said hands.now.gate.now) seats.old seats.new }
+        ensures kinds { StepsInTurn (domains hands.now.kit.now.throttle.layout) place.now.cpu result seats.old seats.new }
         ensures may_go_on { WorkMayGoOn result place.now.trace.now place.now.cpu hands.now.kit.now self.new seats.old seats.new }
     {
         self.put_waiting(hands, place, seats);
@@ -68,6 +71,7 @@ impl WriterWork {
         ensures turned { Turned (C.told hands.now.clock.now) (G.said hands.now.gate.now) place.now.trace.now place.now.cpu hands.now.kit.now result (sight self.old seats.old pen.old.log) (sight self.new seats.new pen.new.log) }
         ensures took { TookBy (C.told hands.now.clock.now) (G.said hands.now.gate.now) place.now.trace.now hands.now.kit.now place.now.cpu result (sight self.old seats.old pen.old.log) (sight self.new seats.new pen.new.log) }
         ensures asked { AskedBeforeEach place.now.cpu (G.said hands.now.gate.now) seats.old seats.new }
+        ensures kinds { StepsInTurn (domains hands.now.kit.now.throttle.layout) place.now.cpu result seats.old seats.new }
         ensures may_go_on { WorkMayGoOn result place.now.trace.now place.now.cpu hands.now.kit.now self.new seats.old seats.new }
     {
         self.tasks.begin(task);

@@ -2,13 +2,15 @@
 
 ghost use Rattle.std.specs.Prelude.{◌≡◌, ◌+◌, ◌<◌, ◌≤◌, IfOk, OnErr, IsTrue, length};
 ghost use Rattle.wbt_table.specs.Calls.{HasNoPageSteps};
-ghost use Rattle.wbt_table.specs.Layout.{setting};
+ghost use Rattle.wbt_table.specs.Layout.{domains, setting};
+ghost use Rattle.wbt_writer.specs.Ahead.{first_page};
 ghost use Rattle.wbt_writer.specs.Counted.{IsJob};
 ghost use Rattle.wbt_writer.specs.Desk.{AreAt, HaveLefts, IsGoing, OwesNothing, sight};
 ghost use Rattle.wbt_run_steps.specs.Gate.{AskedBeforeEach, StepsOnce};
 ghost use Rattle.wbt_run_steps.specs.Steps.{IsStopped};
 ghost use Rattle.wbt_run_steps.specs.Steps.{AreOwed};
 ghost use Rattle.wbt_writer.specs.Exact.{DirtiesPage, FinishTook, MarksInode, WriteTook};
+ghost use Rattle.wbt_writer.specs.Kinds.{StepsToDirty, StepsToFinish, StepsToWrite};
 ghost use Rattle.wbt_writer.specs.Writes.{Dirties, Finishes, Marked, Writes};
 ghost use Rattle.wbt_journal.specs.declared.entry.Entry.TheVariants as entry;
 ghost use Rattle.wbt_run_laws.specs.Log.{with_entry};
@@ -58,6 +60,7 @@ impl WriterWork {
         ensures writes { Writes place.now.trace.now hands.now.kit.now place.now.cpu task inode page (G.said hands.now.gate.now) result (sight self.old seats.old pen.old.log) (sight self.new seats.new pen.new.log) }
         ensures took { WriteTook place.now.trace.now hands.now.kit.now place.now.cpu task inode page (G.said hands.now.gate.now) result (sight self.old seats.old pen.old.log) (sight self.new seats.new pen.new.log) }
         ensures asked { AskedBeforeEach place.now.cpu (G.said hands.now.gate.now) seats.old seats.new }
+        ensures kinds { StepsToWrite (domains hands.now.kit.now.throttle.layout) place.now.cpu result seats.old seats.new }
     {
         if !may_step(place.cpu, seats, hands.gate) {
             return Wrote::Stopped;
@@ -91,6 +94,7 @@ impl WriterWork {
         ensures took { IfOk result (λ answer. DirtiesPage place.now.trace.now kit.now task inode page answer (sight self.old seats.old pen.old.log) (sight self.new seats.new pen.new.log)) }
         ensures spent { OnErr result ((sight self.new seats.new pen.new.log ≡ sight self.old seats.old pen.old.log) × HasNoPageSteps (setting kit.now.throttle.layout) place.now.cpu seats.old.cpu) }
         ensures once { StepsOnce place.now.cpu seats.old seats.new }
+        ensures kinds { IfOk result (λ answer. StepsToDirty kit.now place.now.cpu (first_page place.now.trace.now inode + page) answer seats.old seats.new) }
         ensures room { pen.old.room ≤ pen.new.room + 1 }
     {
         let context = context_of(place.trace, inode);
@@ -128,6 +132,7 @@ impl WriterWork {
         ensures finishes { Finishes place.now.trace.now hands.now.kit.now place.now.cpu inode (G.said hands.now.gate.now) result (sight self.old seats.old pen.old.log) (sight self.new seats.new pen.new.log) }
         ensures took { FinishTook place.now.trace.now hands.now.kit.now place.now.cpu inode (G.said hands.now.gate.now) result (sight self.old seats.old pen.old.log) (sight self.new seats.new pen.new.log) }
         ensures asked { AskedBeforeEach place.now.cpu (G.said hands.now.gate.now) seats.old seats.new }
+        ensures kinds { StepsToFinish place.now.cpu result seats.old seats.new }
     {
         if !settle(place.cpu, hands.kit, seats, hands.gate, pen) {
             return Wrote::Stopped;

@@ -4,6 +4,7 @@ use Rattle.wbt_grant.specs.Seats.{cpu_for, record_after}
 use Rattle.wbt_kit.specs.declared.kit.Seats.{Seats}
 use Rattle.wbt_table.specs.Layout.{setting}
 use Rattle.wbt_run_steps.proofs.Changing.{seats_stay}
+use Rattle.wbt_run_steps.proofs.Logging.{makes_as}
 use Rattle.wbt_run_steps.proofs.Loading.{loader_held, made_by}
 use Rattle.wbt_run_steps.proofs.loads.load_count.Goals as goal
 
@@ -33,3 +34,13 @@ returns-clause-loads c =
       makes = made_by (setting c.args.kit.now.throttle.layout) c.args.who (count c.args.who c.args.counter) l.0 old.cpu c.load_count.new.seat c.requires.held.no_timer l.2;
       only = record { share = refl; est = refl; queue = refl };
     }
+
+pub returns-clause-kinds : goal.returns-clause-kinds
+returns-clause-kinds c =
+    let set' = setting c.args.kit.now.throttle.layout in
+    let who = c.args.who in
+    let old = c.args.seats.now in
+    let new : Seats = record { cpu = c.load_count.new.seat; share = old.share; est = old.est; queue = old.queue } in
+    let l = c.load_count.ensures.loads in
+    let step = count who c.args.counter in
+    makes_as (cpu_for set' who) set' step l.0 old new refl (made_by set' who step l.0 old.cpu new.cpu c.requires.held.no_timer l.2)

@@ -1,9 +1,12 @@
 -- One load after the other.
-use Rattle.std.proofs.Common.{inl, inr, refl}
+use Rattle.std.proofs.Common.{ℕ, inl, inr, refl, subst}
 use Rattle.wbt_counter.specs.declared.counter.Counter.TheVariants.{Domain}
 use Rattle.wbt_grant.specs.Kinds as kind
 use Rattle.wbt_table.specs.Layout.{setting}
+use Rattle.wbt_turns.specs.Words.{counts}
+use Rattle.wbt_run_steps.specs.Kinds.{StepsAs, loads_of_limits}
 use Rattle.wbt_run_steps.proofs.Gating.{asked_more, asked_once, once_made}
+use Rattle.wbt_run_steps.proofs.Logging.{as_more, part_first, part_longer}
 use Rattle.wbt_run_steps.proofs.Loading.{held_cpu, holds_after, on_err}
 use Rattle.wbt_run_steps.proofs.loads.load_domain.Goals as goal
 
@@ -47,3 +50,16 @@ returns-clause-asked g c =
     (asked_once c.args.cpu said c.may_step.result s1 n.new.seats c.may_step.ensures c.if-not-may_step.false
     (once_made (setting kit.throttle.layout) (kind.count c.args.who (Domain c.args.domain)) n.ensures.loads.found c.args.cpu s1 n.new.seats c.requires.its
     (held_cpu kit c.args.who c.args.cpu s1 c.requires.its held) n.ensures.loads.makes))
+
+pub returns-in_err-held-clause-cut : goal.returns-in_err-held-clause-cut
+returns-in_err-held-clause-cut g c = on_err _ _ (part_longer c.args.cpu loads_of_limits (counts 1) c.args.seats.now c.load_limits.new.seats c.in_err-held.ensures.cut)
+
+pub returns-then-not-may_step-clause-cut : goal.returns-then-not-may_step-clause-cut
+returns-then-not-may_step-clause-cut g c = part_first c.args.cpu loads_of_limits (counts 1) c.args.seats.now c.load_limits.new.seats c.in_ok-held.ensures.kinds
+
+pub returns-clause-kinds : goal.returns-clause-kinds
+returns-clause-kinds g c =
+    let s1 = c.load_limits.new.seats in
+    let n = c.load_count-count in
+    as_more c.args.cpu loads_of_limits (counts 1) c.args.seats.now s1 n.new.seats c.in_ok-held.ensures.kinds
+    (subst (λ (cpu : ℕ). StepsAs cpu (counts 1) s1 n.new.seats) c.requires.its n.ensures.kinds)

@@ -10,6 +10,7 @@ use Rattle.wbt_table.specs.declared.answer.Triple.{Triple}
 use Rattle.wbt_run_steps.specs.Loads.{LoadsLimits, LoadsSome}
 use Rattle.wbt_run_steps.specs.Records.{OnlyCpu}
 use Rattle.wbt_run_steps.specs.Steps.{IsStopped}
+use Rattle.wbt_run_steps.proofs.Logging.{limits_cut, limits_loaded}
 use Rattle.wbt_run_steps.proofs.Loading.{asked_by, loads_by, may_load, seats_after, some_by}
 use Rattle.wbt_run_steps.proofs.loads.load_limits.Goals as goal
 
@@ -52,4 +53,6 @@ returns g c =
       part = some.0;
       stopped = subst (λ (i : ℕ). OnErr held (IsStopped i said new)) c.requires.its some.1;
       asked = asked_by kit who c.args.cpu c.requires.its c.args.domain tells old new c.requires.held only said loaded refl t;
+      kinds = limits_loaded kit c.args.cpu who c.args.domain held old new loads.1;
+      cut = limits_cut kit c.args.cpu c.args.domain held old new some.0;
     }

@@ -19,6 +19,7 @@ returns g c =
       seats = s.seats;
       settled = subst (λ (l : CpuJournal). Settled c.args.cpu c.args.kit.now (g.G.Gate.said c.args.gate.now) c.settle-settled.result.all c.args.seats.now new c.args.pen.now.log l) (sym log) s.settled;
       asked = s.asked;
+      kinds = s.kinds;
       room = omega arith;
       checks = c.tell_fold-3.ensures.checks ∙ c.tell_fold-2.ensures.checks ∙ c.tell_fold.ensures.checks;
       estimates = c.tell_fold-3.ensures.estimates ∙ c.tell_fold-2.ensures.estimates ∙ c.tell_fold.ensures.estimates;

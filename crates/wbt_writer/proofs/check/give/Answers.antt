@@ -1,5 +1,9 @@
-use Rattle.std.proofs.Common.{refl}
+use Rattle.std.proofs.Common.{ℕ, Option, refl, subst}
 use Rattle.wbt_kit.specs.declared.kit.Seats.{Seats}
+use Rattle.wbt_run_steps.proofs.Logging.{grant_as, none_as}
+use Rattle.wbt_table.specs.History.{LogsGrant}
+use Rattle.wbt_table.specs.Seat.{LogComes}
+use Rattle.wbt_table.specs.declared.rule.Granted.{Granted}
 use Rattle.wbt_writer.proofs.Giving.{given, may_give}
 use Rattle.wbt_writer.proofs.check.give.Goals as goal
 
@@ -14,4 +18,9 @@ pub returns-in_default : goal.returns-in_default
 returns-in_default c =
     let new : Seats = record { cpu = c.grant.new.seat; share = c.args.seats.now.share; est = c.args.seats.now.est; queue = c.args.seats.now.queue } in
     let by = given c.args.cpu c.args.kit.now c.args.writer c.args.decision c.args.seats.now new c.requires.fits c.requires.seat (record { share = refl; est = refl; queue = refl }) c.in_default.not-Wait c.grant.ensures.changes in
-    record { fits = by.fits; gives = by.gives }
+    record {
+      fits = by.fits;
+      gives = by.gives;
+      kinds = grant_as c.args.cpu c.args.seats.now new
+          (subst (λ (cpu : ℕ). LogComes cpu (λ was is. (grants : Option Granted) × LogsGrant grants was is) c.args.seats.now.cpu new.cpu) c.requires.seat c.grant.ensures.logs);
+    }

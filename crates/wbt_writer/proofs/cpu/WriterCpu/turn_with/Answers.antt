@@ -4,6 +4,8 @@ use Rattle.std.proofs.Common.{ap, refl}
 use Rattle.wbt_journal.specs.declared.entry.CpuJournal.{CpuJournal}
 use Rattle.wbt_writer.specs.Desk.{sight}
 use Rattle.wbt_run_steps.proofs.Gating.{asked_none}
+use Rattle.wbt_run_steps.proofs.Logging.{none_as, takes_none}
+use Rattle.wbt_table.specs.Layout.{domains}
 
 pub returns-then-is_err-clause-turned : goal.returns-then-is_err-clause-turned
 returns-then-is_err-clause-turned g c =
@@ -15,3 +17,7 @@ returns-then-is_err-clause-asked g c = asked_none c.args.self.now.cpu (g.G.Gate.
 
 pub returns-then-is_err-clause-took : goal.returns-then-is_err-clause-took
 returns-then-is_err-clause-took g c = ap (λ (l : CpuJournal). sight c.args.self.now.work c.args.seats.now l) c.reserve.ensures.log
+
+pub returns-then-is_err-clause-kinds : goal.returns-then-is_err-clause-kinds
+returns-then-is_err-clause-kinds g c =
+    takes_none (domains c.args.hands.now.kit.now.throttle.layout) c.args.self.now.cpu c.args.seats.now c.args.seats.now (none_as c.args.self.now.cpu c.args.seats.now c.args.seats.now refl)

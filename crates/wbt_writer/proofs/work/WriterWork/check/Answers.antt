@@ -1,11 +1,11 @@
-use Rattle.std.proofs.Common.{◌≡◌, ◌<◌, ℕ, arith, length, refl, set, sym, ap, ◌∙◌, subst}
+use Rattle.std.proofs.Common.{[], ◌≡◌, ◌<◌, ℕ, arith, length, refl, set, sym, ap, ◌∙◌, subst}
 use Rattle.wbt_journal.specs.Machine.{context_domain, contexts}
 use Rattle.wbt_journal.specs.declared.entry.CheckEntry.{CheckEntry}
 use Rattle.wbt_journal.specs.declared.entry.CpuJournal.{CpuJournal}
 use Rattle.wbt_rules.specs.Things.{group_of}
 use Rattle.wbt_run_steps.specs.Made.{MakesEach, MakesSome}
 use Rattle.wbt_run_steps.specs.Records.{record_of}
-use Rattle.wbt_table.specs.Layout.{setting}
+use Rattle.wbt_table.specs.Layout.{domains, setting}
 use Rattle.wbt_table.specs.Seat.{Seated}
 use Rattle.wbt_trace.specs.declared.writers.Writer.{Writer as Name}
 use Rattle.wbt_writer.specs.Asked.{given_by}
@@ -27,6 +27,8 @@ use Rattle.wbt_writer.proofs.Standing.{group_below, in_contexts, seat_is, works_
 use Rattle.wbt_writer.proofs.work.WriterWork.check.Goals as goal
 use Rattle.wbt_run_steps.proofs.Gating.{asked_more, asked_still, same_steps}
 use Rattle.wbt_writer.proofs.Giving.{given_steps}
+use Rattle.wbt_run_steps.proofs.Logging.{as_more, none_as}
+use Rattle.wbt_writer.proofs.Turning.{check_cuts, check_takes}
 
 pub group_of-group-requires : goal.group_of-group-requires
 group_of-group-requires g c = subst (λ (t : TaskPlace). t.context < contexts c.args.place.now.trace.now) (sym c.task-at.ensures) (context_there c.args.place.now.trace.now c.args.place.now.cpu c.args.hands.now.kit.now c.args.self.now c.args.seats.now c.requires.at_kit c.args.task c.requires.task c.requires.due)
@@ -133,3 +135,15 @@ returns-clause-took g c =
       waiting = asked.waiting;
       queue = c.give.ensures.gives.on.queue ∙ asked.queue ∙ c.in_ok-loads.ensures.loaded.loaded.on.queue;
     }
+
+pub returns-in_err-loads-clause-cut : goal.returns-in_err-loads-clause-cut
+returns-in_err-loads-clause-cut g c = on_err _ _
+    (check_cuts (domains c.args.hands.now.kit.now.throttle.layout) c.args.hands.now.kit.now c.args.place.now.cpu c.task-at.result.writer c.task-at.result.context c.group_of-group.result c.args.seats.now c.load_all.new.seats
+    c.in_err-loads.ensures.part)
+
+pub returns-clause-kinds : goal.returns-clause-kinds
+returns-clause-kinds g c =
+    check_takes (domains c.args.hands.now.kit.now.throttle.layout) c.args.hands.now.kit.now c.args.place.now.cpu c.task-at.result.writer c.task-at.result.context c.group_of-group.result c.args.seats.now c.load_all.new.seats
+    c.give.new.seats c.in_ok-loads.ensures.made
+    (as_more c.args.place.now.cpu [] [] c.load_all.new.seats c.ask-check.new.seats c.give.new.seats
+    (none_as c.args.place.now.cpu c.load_all.new.seats c.ask-check.new.seats c.ask-check.ensures.asked.cpu) c.give.ensures.kinds)

@@ -18,7 +18,7 @@ use Rattle.wbt_writer.specs.Desk.{sight}
 use Rattle.wbt_writer.specs.Exact.{MovesAlong}
 use Rattle.wbt_writer.specs.declared.tasks.Tasks.{Tasks}
 use Rattle.wbt_writer.specs.declared.work.WriterWork.{WriterWork}
-use Rattle.wbt_writer.proofs.Dirtying.{already, at_kit, fresh, has_page, inside, may, spent_is}
+use Rattle.wbt_writer.proofs.Dirtying.{already, at_kit, dirtied_as, fresh, has_page, inside, may, spent_is}
 use Rattle.wbt_writer.proofs.Places.{page_few}
 use Rattle.wbt_journal.proofs.Few.{few_writers}
 use Rattle.wbt_grant.specs.Kinds.{dirty}
@@ -193,3 +193,23 @@ returns-in-Ok-Fresh-clause-took c =
       fractions = refl;
       waiting = refl;
     }
+
+pub returns-in-Ok-Already-clause-kinds : goal.returns-in-Ok-Already-clause-kinds
+returns-in-Ok-Already-clause-kinds c =
+    let number = number_is c.args.place.now.trace.now c.args.task c.args.inode c.number-writer.result c.context_of-context.result c.context_of-context.ensures c.number-writer.ensures.value in
+    let first = c.first_of.ensures in
+    let named = named_is c.args.place.now.trace.now c.args.task c.args.inode c.number-writer.result c.context_of-context.result (length c.args.self.now.tasks.writers.items) c.context_of-context.ensures c.number-writer.ensures.value c.number-writer.ensures.named (inside c.args.place.now.trace.now c.args.place.now.cpu c.args.kit.now c.args.self.now c.args.seats.now c.requires.at_kit c.args.task c.requires.task c.args.inode c.args.page c.requires.its_job) in
+    let made : TableDirties (setting c.args.kit.now.throttle.layout) (number_of c.args.place.now.trace.now c.args.task (inode_at c.args.inode c.args.place.now.trace.now.inodes).context) ((inode_at c.args.inode c.args.place.now.trace.now.inodes).first + c.args.page) Already c.args.seats.now.cpu c.dirty.new.seat =
+    subst (λ (z : ℕ × ℕ × Dirtied). TableDirties (setting c.args.kit.now.throttle.layout) z.0 (z.1 + c.args.page) z.2 c.args.seats.now.cpu c.dirty.new.seat) (λ i. (number i, first i, c.in-Ok-Already.field-0-is i)) c.in-Ok-Already.ensures.dirtied in
+    dirtied_as c.args.place.now.trace.now c.args.place.now.cpu c.args.kit.now c.args.self.now c.args.seats.now c.requires.at_kit c.args.task c.requires.task c.args.inode c.args.page c.requires.its_job named Already made.found made.tells (with_cpu c.args.seats.now c.dirty.new.seat) (only c.args.seats.now c.dirty.new.seat) made.makes
+    c.requires.owes
+
+pub returns-in-Ok-Fresh-clause-kinds : goal.returns-in-Ok-Fresh-clause-kinds
+returns-in-Ok-Fresh-clause-kinds c =
+    let number = number_is c.args.place.now.trace.now c.args.task c.args.inode c.number-writer.result c.context_of-context.result c.context_of-context.ensures c.number-writer.ensures.value in
+    let first = c.first_of.ensures in
+    let named = named_is c.args.place.now.trace.now c.args.task c.args.inode c.number-writer.result c.context_of-context.result (length c.args.self.now.tasks.writers.items) c.context_of-context.ensures c.number-writer.ensures.value c.number-writer.ensures.named (inside c.args.place.now.trace.now c.args.place.now.cpu c.args.kit.now c.args.self.now c.args.seats.now c.requires.at_kit c.args.task c.requires.task c.args.inode c.args.page c.requires.its_job) in
+    let made : TableDirties (setting c.args.kit.now.throttle.layout) (number_of c.args.place.now.trace.now c.args.task (inode_at c.args.inode c.args.place.now.trace.now.inodes).context) ((inode_at c.args.inode c.args.place.now.trace.now.inodes).first + c.args.page) Fresh c.args.seats.now.cpu c.dirty.new.seat =
+    subst (λ (z : ℕ × ℕ × Dirtied). TableDirties (setting c.args.kit.now.throttle.layout) z.0 (z.1 + c.args.page) z.2 c.args.seats.now.cpu c.dirty.new.seat) (λ i. (number i, first i, c.in-Ok-Fresh.field-0-is i)) c.in-Ok-Fresh.ensures.dirtied in
+    dirtied_as c.args.place.now.trace.now c.args.place.now.cpu c.args.kit.now c.args.self.now c.args.seats.now c.requires.at_kit c.args.task c.requires.task c.args.inode c.args.page c.requires.its_job named Fresh made.found made.tells (with_cpu c.args.seats.now c.dirty.new.seat) (only c.args.seats.now c.dirty.new.seat) made.makes
+    c.requires.owes

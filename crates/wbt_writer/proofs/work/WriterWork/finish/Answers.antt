@@ -2,11 +2,13 @@
 use Rattle.wbt_run_steps.proofs.Asking.{stopped_by}
 use Rattle.wbt_writer.proofs.work.WriterWork.finish.Goals as goal
 use Rattle.wbt_writer.proofs.Finishing.{cut_off, finished}
+use Rattle.wbt_writer.proofs.Turning.{finish_cut, finish_marked, finish_paid}
 use Rattle.wbt_writer.proofs.Paid.{at_paid, fits_paid, paid_all, pays, stopped}
 use Rattle.std.proofs.Common.{Bool, refl, subst}
 use Rattle.wbt_run_steps.specs.Steps.{Settled}
 use Rattle.wbt_grant.specs.Kinds.{mark}
 use Rattle.wbt_run_steps.proofs.Gating.{asked_more, asked_once, once_made}
+use Rattle.wbt_run_steps.proofs.Logging.{makes_as}
 use Rattle.wbt_table.specs.Layout.{setting}
 
 pub settle-requires : goal.settle-requires
@@ -67,3 +69,15 @@ returns-clause-took g c = record {
   tasks = c.mark.ensures.marked.tasks;
   fractions = c.mark.ensures.marked.fractions;
 }
+
+pub returns-then-not-settle-clause-kinds : goal.returns-then-not-settle-clause-kinds
+returns-then-not-settle-clause-kinds g c = finish_cut c.args.place.now.cpu c.args.seats.now c.settle.new.seats c.settle.result c.if-not-settle.true c.settle.ensures.kinds
+
+pub returns-then-not-may_step-clause-kinds : goal.returns-then-not-may_step-clause-kinds
+returns-then-not-may_step-clause-kinds g c = finish_paid c.args.place.now.cpu c.args.seats.now c.settle.new.seats c.settle.result c.if-not-settle.false c.settle.ensures.kinds
+
+pub returns-clause-kinds : goal.returns-clause-kinds
+returns-clause-kinds g c =
+    let marks = c.mark.ensures.marks in
+    finish_marked c.args.place.now.cpu c.args.seats.now c.settle.new.seats c.settle.result c.mark.new.seats c.if-not-settle.false c.settle.ensures.kinds
+    (makes_as c.args.place.now.cpu (setting c.args.hands.now.kit.now.throttle.layout) (mark c.args.place.now.cpu c.args.inode) marks.found c.settle.new.seats c.mark.new.seats refl marks.makes)

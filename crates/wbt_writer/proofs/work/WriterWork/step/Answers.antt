@@ -9,6 +9,8 @@ use Rattle.wbt_writer.proofs.Exacting.{takes, takes_none, takes_some}
 use Rattle.wbt_writer.proofs.Going.{at_rested, with_tasks, goes_on_by_check, goes_on_by_rest, goes_on_by_write, halted_by_check, halted_by_write, spent_by_write, turned_by_already, turned_by_check, turned_by_fresh, turned_by_rest}
 use Rattle.std.proofs.Common.{refl}
 use Rattle.wbt_run_steps.proofs.Gating.{asked_none}
+use Rattle.wbt_run_steps.proofs.Logging.{none_as, takes_none}
+use Rattle.wbt_table.specs.Layout.{domains}
 
 pub returns-in-Ok-clause-turned : goal.returns-in-Ok-clause-turned
 returns-in-Ok-clause-turned g c = turned_by_check (g.C.Clock.told c.args.hands.now.clock.now) (g.G.Gate.said c.args.hands.now.gate.now) c.args.place.now.trace.now c.args.hands.now.kit.now c.args.place.now.cpu c.args.task c.args.now c.args.self.now c.args.seats.now c.args.pen.now.log c.begin.new.self c.begin.ensures.only c.requires.goes (sight c.check.new.self c.check.new.seats c.check.new.pen.log) c.in-Ok.ensures.checks
@@ -79,3 +81,7 @@ returns-in-Stopped-clause-took g c = takes_some (g.C.Clock.told c.args.hands.now
 
 pub returns-in-Spent-clause-took : goal.returns-in-Spent-clause-took
 returns-in-Spent-clause-took g c = takes_none (g.C.Clock.told c.args.hands.now.clock.now) (g.G.Gate.said c.args.hands.now.gate.now) c.args.place.now.trace.now c.args.hands.now.kit.now c.args.place.now.cpu c.args.task c.args.now c.args.self.now c.args.seats.now c.args.pen.now.log c.begin.new.self c.begin.ensures.only c.requires.goes (sight c.write.new.self c.write.new.seats c.write.new.pen.log) (record { inode = c.in-Write.inode; page = c.in-Write.page; its_job = c.in-Write.ensures; same = c.in-Spent.ensures.took })
+
+pub returns-in-Rest-clause-kinds : goal.returns-in-Rest-clause-kinds
+returns-in-Rest-clause-kinds g c =
+    takes_none (domains c.args.hands.now.kit.now.throttle.layout) c.args.place.now.cpu c.args.seats.now c.args.seats.now (none_as c.args.place.now.cpu c.args.seats.now c.args.seats.now refl)

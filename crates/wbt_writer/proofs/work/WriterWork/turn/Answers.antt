@@ -5,6 +5,8 @@ use Rattle.wbt_kit.specs.declared.turn.Turn.TheVariants.{Done, Resting}
 use Rattle.wbt_writer.proofs.Exacting.{puts_waiting, took_after}
 use Rattle.wbt_writer.proofs.Taking.{turned_done, turned_from, turned_resting}
 use Rattle.wbt_run_steps.proofs.Gating.{asked_more, asked_none}
+use Rattle.wbt_run_steps.proofs.Logging.{none_as, takes_none, turn_behind}
+use Rattle.wbt_table.specs.Layout.{domains}
 
 pub returns-in-Done-clause-turned : goal.returns-in-Done-clause-turned
 returns-in-Done-clause-turned g c = turned_done (g.C.Clock.told c.args.hands.now.clock.now) (g.G.Gate.said c.args.hands.now.gate.now) c.args.place.now.trace.now c.args.hands.now.kit.now c.args.place.now.cpu c.args.self.now c.put_waiting.new.self c.args.seats.now c.put_waiting.new.seats c.args.pen.now.log c.put_waiting.ensures.only c.put_waiting.ensures.at_kit c.told_moment-now.result c.in-Done.ensures
@@ -37,3 +39,15 @@ returns-in-Resting-clause-took g c = took_after (g.C.Clock.told c.args.hands.now
 pub returns-in-Task-clause-took : goal.returns-in-Task-clause-took
 returns-in-Task-clause-took g c = took_after (g.C.Clock.told c.args.hands.now.clock.now) (g.G.Gate.said c.args.hands.now.gate.now) c.args.place.now.trace.now c.args.hands.now.kit.now c.args.place.now.cpu c.step.result (sight c.args.self.now c.args.seats.now c.args.pen.now.log) (sight c.put_waiting.new.self c.put_waiting.new.seats c.args.pen.now.log) (sight c.step.new.self c.step.new.seats c.step.new.pen.log)
     (puts_waiting c.args.place.now.trace.now c.args.hands.now.kit.now c.args.self.now c.put_waiting.new.self c.args.seats.now c.put_waiting.new.seats c.args.pen.now.log c.put_waiting.ensures.only c.put_waiting.ensures.puts) c.step.ensures.took
+
+pub returns-in-Done-clause-kinds : goal.returns-in-Done-clause-kinds
+returns-in-Done-clause-kinds g c = takes_none (domains c.args.hands.now.kit.now.throttle.layout) c.args.place.now.cpu c.args.seats.now c.put_waiting.new.seats
+    (none_as c.args.place.now.cpu c.args.seats.now c.put_waiting.new.seats c.put_waiting.ensures.only.cpu)
+
+pub returns-in-Resting-clause-kinds : goal.returns-in-Resting-clause-kinds
+returns-in-Resting-clause-kinds g c = takes_none (domains c.args.hands.now.kit.now.throttle.layout) c.args.place.now.cpu c.args.seats.now c.put_waiting.new.seats
+    (none_as c.args.place.now.cpu c.args.seats.now c.put_waiting.new.seats c.put_waiting.ensures.only.cpu)
+
+pub returns-in-Task-clause-kinds : goal.returns-in-Task-clause-kinds
+returns-in-Task-clause-kinds g c = turn_behind (domains c.args.hands.now.kit.now.throttle.layout) c.args.place.now.cpu c.step.result c.args.seats.now c.put_waiting.new.seats c.step.new.seats
+    (none_as c.args.place.now.cpu c.args.seats.now c.put_waiting.new.seats c.put_waiting.ensures.only.cpu) c.step.ensures.kinds

@@ -1,14 +1,19 @@
 use Rattle.wbt_run_steps.proofs.Asking.{stopped_by}
 use Rattle.wbt_writer.proofs.work.WriterWork.write.Goals as goal
-use Rattle.std.proofs.Common.{subst}
+use Rattle.std.proofs.Common.{◌+◌, ap, subst}
+use Rattle.wbt_table.specs.Layout.{domains}
 use Rattle.wbt_table.specs.declared.answer.Dirtied.{Dirtied}
-use Rattle.wbt_writer.specs.Desk.{sight}
+use Rattle.wbt_writer.specs.Ahead.{first_page}
+use Rattle.wbt_writer.specs.Desk.{Sight, sight}
 use Rattle.wbt_writer.specs.Exact.{DirtiesPage, before_its_page, was_dirty}
 use Rattle.wbt_writer.specs.Writes.{Dirties}
+use Rattle.wbt_writer.specs.Kinds.{StepsToDirty}
 use Rattle.wbt_writer.proofs.Exacting.{write_took}
+use Rattle.wbt_writer.proofs.Turning.{write_again, write_fresh, write_none}
 use Rattle.wbt_writer.proofs.Writing.{stopped_first, writes_fresh, written_already}
 use Rattle.std.proofs.Common.{refl}
 use Rattle.wbt_run_steps.proofs.Gating.{asked_more, asked_none, asked_once}
+use Rattle.wbt_run_steps.proofs.Logging.{none_as, takes_none}
 
 pub returns-then-not-may_step-clause-writes : goal.returns-then-not-may_step-clause-writes
 returns-then-not-may_step-clause-writes g c =
@@ -62,3 +67,21 @@ returns-in-Ok-Fresh-clause-took g c =
     (subst (λ (a : Dirtied). DirtiesPage c.args.place.now.trace.now c.args.hands.now.kit.now c.args.task c.args.inode c.args.page a (sight c.args.self.now c.args.seats.now c.args.pen.now.log)
     (sight c.dirty.new.self c.dirty.new.seats c.dirty.new.pen.log)) c.in-Ok-Fresh.field-0-is c.in-Ok-Fresh.ensures.took)
     c.finish.ensures.took
+
+pub returns-then-not-may_step-clause-kinds : goal.returns-then-not-may_step-clause-kinds
+returns-then-not-may_step-clause-kinds g c = write_none (domains c.args.hands.now.kit.now.throttle.layout) c.args.place.now.cpu c.args.seats.now
+
+pub returns-in-Err-clause-kinds : goal.returns-in-Err-clause-kinds
+returns-in-Err-clause-kinds g c = takes_none (domains c.args.hands.now.kit.now.throttle.layout) c.args.place.now.cpu c.args.seats.now c.dirty.new.seats
+    (none_as c.args.place.now.cpu c.args.seats.now c.dirty.new.seats (ap (λ (s : Sight). s.seats.cpu) c.in-Err.ensures.spent.0))
+
+pub returns-in-Ok-Already-clause-kinds : goal.returns-in-Ok-Already-clause-kinds
+returns-in-Ok-Already-clause-kinds g c = write_again (domains c.args.hands.now.kit.now.throttle.layout) c.args.hands.now.kit.now c.args.place.now.cpu (first_page c.args.place.now.trace.now c.args.inode + c.args.page) _
+    c.args.seats.now c.dirty.new.seats c.in-Ok-Already.ensures.kinds
+
+pub returns-in-Ok-Fresh-clause-kinds : goal.returns-in-Ok-Fresh-clause-kinds
+returns-in-Ok-Fresh-clause-kinds g c =
+    let page = first_page c.args.place.now.trace.now c.args.inode + c.args.page in
+    write_fresh (domains c.args.hands.now.kit.now.throttle.layout) c.args.hands.now.kit.now c.args.place.now.cpu page c.args.seats.now c.dirty.new.seats c.finish.new.seats
+    (subst (λ (a : Dirtied). StepsToDirty c.args.hands.now.kit.now c.args.place.now.cpu page a c.args.seats.now c.dirty.new.seats) c.in-Ok-Fresh.field-0-is c.in-Ok-Fresh.ensures.kinds)
+    c.finish.result c.finish.ensures.kinds
