@@ -19,6 +19,8 @@ ghost use Rattle.wbt_flusher.specs.Plans.{Suits, IsPlan, context_at};
 ghost use Rattle.wbt_flusher.specs.Reads.{Measures, MeasuresAll, sample_of};
 ghost use Rattle.wbt_flusher.specs.Sights.{sight};
 ghost use Rattle.wbt_flusher.specs.Turns.{HasLists, IsProper, OnlyEst, OnlyTallies};
+ghost use Rattle.wbt_run_steps.specs.Kinds.{Steps};
+ghost use Rattle.wbt_flusher.specs.Kinds.{AreCounts};
 
 use crate::background::Read;
 use crate::plan::FlusherPlan;
@@ -68,6 +70,7 @@ impl FlusherPlan {
         requires room { length self.now.contexts ≤ pen.old.room }
         requires estimates { length self.now.contexts ≤ pen.old.estimates }
         ensures asked { AskedBeforeEach self.now.cpu (G.said hands.now.gate.now) seats.old seats.new }
+        ensures kinds { Steps self.now.cpu AreCounts seats.old seats.new }
         ensures goes { GoesAt now self.now hands.now.kit.now seats.old seats.new pen.old.log pen.new.log work.old work.new }
         ensures fits { Fits self.now hands.now.kit.now seats.new }
         ensures lists { HasLists self.now work.new }
@@ -110,6 +113,7 @@ impl FlusherPlan {
         requires room { 1 ≤ pen.old.room }
         requires estimates { 1 ≤ pen.old.estimates }
         ensures asked { AskedBeforeEach self.now.cpu (G.said hands.now.gate.now) seats.old seats.new }
+        ensures kinds { Steps self.now.cpu AreCounts seats.old seats.new }
         ensures goes { GoesAt now self.now hands.now.kit.now seats.old seats.new pen.old.log pen.new.log work.old work.new }
         ensures fits { Fits self.now hands.now.kit.now seats.new }
         ensures lists { HasLists self.now work.new }

@@ -14,6 +14,9 @@ ghost use Rattle.wbt_flusher.specs.Turns.{IsFlight, HoldsPages};
 ghost use Rattle.wbt_flusher.specs.declared.work.Phase.TheVariants.{Flying};
 ghost use Rattle.wbt_kit.specs.declared.turn.Turn.TheVariants.{Halted, Spent as SpentTurn, Stepped};
 ghost use Rattle.wbt_run_steps.specs.Steps.{Settled};
+ghost use Rattle.wbt_flusher.specs.Kinds.{OwesEvent, StepsBy};
+ghost use Rattle.wbt_run_steps.specs.Kinds.{StepsInTurn};
+ghost use Rattle.wbt_turns.specs.Words.{IsSettled};
 
 use crate::plan::FlusherPlan;
 use crate::work::{Flight, FlusherWork, Phase};
@@ -38,6 +41,7 @@ impl FlusherPlan {
         requires phase { work.old.phase ≡ Flying flight }
         requires room { 6 ≤ pen.old.room }
         ensures asked { AskedBeforeEach self.now.cpu (G.said hands.now.gate.now) seats.old seats.new }
+        ensures kinds { StepsInTurn self.now.domains self.now.cpu result seats.old seats.new }
         ensures ends { (drain : _) (moments : _) (written : Option _) → Ends self.now hands.now.kit.now drain moments (G.said hands.now.gate.now) ⊥ result (sight work.old seats.old pen.old.log written) (sight work.new seats.new pen.new.log written) }
         ensures lands { result ≡ Stepped → (written : Option _) → CompletesPage self.now hands.now.kit.now (G.said hands.now.gate.now) flight (sight work.old seats.old pen.old.log written) (sight work.new seats.new pen.new.log written) }
         ensures halts { result ≡ Halted → (written : Option _) → CompletesSome self.now hands.now.kit.now (G.said hands.now.gate.now) flight (sight work.old seats.old pen.old.log written) (sight work.new seats.new pen.new.log written) }
@@ -73,8 +77,10 @@ impl FlusherPlan {
     ) -> Turn
         requires suits { Suits self.now hands.now.kit.now }
         requires down { IsDown self.now hands.now.kit.now flight work.old seats.old }
+        requires event { OwesEvent self.now hands.now.kit.now seats.old }
         requires room { 5 ≤ pen.old.room }
         ensures asked { AskedBeforeEach self.now.cpu (G.said hands.now.gate.now) seats.old seats.new }
+        ensures kinds { StepsBy self.now.cpu IsSettled result seats.old seats.new }
         ensures ends { (drain : _) (moments : _) (written : Option _) → Ends self.now hands.now.kit.now drain moments (G.said hands.now.gate.now) ⊥ result (sight work.old seats.old pen.old.log written) (sight work.new seats.new pen.new.log written) }
         ensures lands { result ≡ Stepped → (written : Option _) → Lands self.now hands.now.kit.now (G.said hands.now.gate.now) flight (sight work.old seats.old pen.old.log written) (sight work.new seats.new pen.new.log written) }
         ensures halts { result ≡ Halted → Settled self.now.cpu hands.now.kit.now (G.said hands.now.gate.now) false seats.old seats.new pen.old.log pen.new.log × (work.new ≡ work.old) }

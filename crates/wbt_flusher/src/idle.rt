@@ -15,6 +15,8 @@ ghost use Rattle.wbt_flusher.specs.Plans.{Suits, IsInode, context_of};
 ghost use Rattle.wbt_run_steps.specs.Reads.{ReadsEstimate};
 ghost use Rattle.wbt_flusher.specs.Sights.{sight};
 ghost use Rattle.wbt_flusher.specs.Turns.{HasLists, IsSteady, IsIdle, OnlyEst, begun_scan};
+ghost use Rattle.wbt_run_steps.specs.Kinds.{Steps};
+ghost use Rattle.wbt_turns.specs.Words.{MayTake};
 
 use crate::plan::FlusherPlan;
 use crate::work::{FlusherWork, Phase};
@@ -40,6 +42,7 @@ impl FlusherPlan {
         requires inode { IsInode self.now inode }
         requires few_faults { work.old.faults < MOST_FAULTS }
         ensures asked { AskedBeforeEach self.now.cpu (G.said hands.now.gate.now) seats.old seats.new }
+        ensures kinds { Steps self.now.cpu MayTake seats.old seats.new }
         ensures goes { GoesKept self.now hands.now.kit.now seats.old seats.new work.old work.new }
         ensures fits { Fits self.now hands.now.kit.now seats.new }
         ensures debts { KeepsDebts self.now seats.old seats.new }

@@ -14,6 +14,8 @@ ghost use Rattle.wbt_flusher.specs.Turns.{FaultsRise, IsWithinQuota};
 ghost use Rattle.wbt_rules.specs.declared.moments.TheConstants.{MOST_FAULTS};
 ghost use Rattle.wbt_flusher.specs.declared.work.Phase.TheVariants.{Idle, Flying};
 ghost use Rattle.wbt_kit.specs.declared.turn.Turn.TheVariants.{Done, Faulted, Halted, Resting, Spent, Stepped};
+ghost use Rattle.wbt_run_steps.specs.Kinds.{StepsInTurn};
+ghost use Rattle.wbt_table.specs.Layout.{domains};
 
 use crate::flusher::Flusher;
 use crate::plan::FlusherPlan;
@@ -46,6 +48,7 @@ impl<D: Disk> Flusher<D> {
         requires suits { Suits self.old.plan hands.now.kit.now }
         requires ready { IsReady self.old.plan hands.now.kit.now self.old.work seats.old }
         ensures asked { AskedBeforeEach self.old.plan.cpu (G.said hands.now.gate.now) seats.old seats.new }
+        ensures kinds { StepsInTurn (domains hands.now.kit.now.throttle.layout) self.old.plan.cpu result seats.old seats.new }
         ensures plan { self.new.plan ≡ self.old.plan }
         ensures later { D.faults self.old.disk ≤ D.faults self.new.disk }
         ensures answers { FlusherAnswers self.old.plan hands.now.kit.now drain (C.told hands.now.clock.now) (G.said hands.now.gate.now) (HasRisen (D.faults self.old.disk) (D.faults self.new.disk)) result (sight self.old.work seats.old log.old (D.written self.old.disk)) (sight self.new.work seats.new log.new (D.written self.new.disk)) }
@@ -100,6 +103,7 @@ impl<D: Disk> Flusher<D> {
         requires ready { IsReady self.old.plan hands.now.kit.now self.old.work seats.old }
         requires room { HasSpace self.old.plan self.old.work pen.old }
         ensures asked { AskedBeforeEach self.old.plan.cpu (G.said hands.now.gate.now) seats.old seats.new }
+        ensures kinds { StepsInTurn self.old.plan.domains self.old.plan.cpu result seats.old seats.new }
         ensures plan { self.new.plan ≡ self.old.plan }
         ensures later { D.faults self.old.disk ≤ D.faults self.new.disk }
         ensures answers { TurnAnswers self.old.plan hands.now.kit.now drain (C.told hands.now.clock.now) (G.said hands.now.gate.now) (HasRisen (D.faults self.old.disk) (D.faults self.new.disk)) result (sight self.old.work seats.old pen.old.log (D.written self.old.disk)) (sight self.new.work seats.new pen.new.log (D.written self.new.disk)) }
@@ -156,6 +160,7 @@ impl FlusherPlan {
         requires phase { work.old.phase ≡ Idle until kept }
         requires room { HasSpace self.now work.old pen.old }
         ensures asked { AskedBeforeEach self.now.cpu (G.said hands.now.gate.now) seats.old seats.new }
+        ensures kinds { StepsInTurn self.now.domains self.now.cpu result seats.old seats.new }
         ensures answers { (written : Option _) → TurnAnswers self.now hands.now.kit.now drain (C.told hands.now.clock.now) (G.said hands.now.gate.now) ⊥ result (sight work.old seats.old pen.old.log written) (sight work.new seats.new pen.new.log written) }
         ensures took { result ≡ Stepped → (written : Option _) → Took self.now hands.now.kit.now drain (C.told hands.now.clock.now) (G.said hands.now.gate.now) (sight work.old seats.old pen.old.log written) (sight work.new seats.new pen.new.log written) }
         ensures halts { result ≡ Halted → (written : Option _) → StopsTook self.now hands.now.kit.now drain (C.told hands.now.clock.now) (G.said hands.now.gate.now) (sight work.old seats.old pen.old.log written) (sight work.new seats.new pen.new.log written) }
@@ -192,6 +197,7 @@ impl FlusherPlan {
         requires phase { work.old.phase ≡ Flying flight }
         requires room { HasSpace self.now work.old pen.old }
         ensures asked { AskedBeforeEach self.now.cpu (G.said hands.now.gate.now) seats.old seats.new }
+        ensures kinds { StepsInTurn self.now.domains self.now.cpu result seats.old seats.new }
         ensures answers { (drain : Bool) (written : Option _) → TurnAnswers self.now hands.now.kit.now drain (C.told hands.now.clock.now) (G.said hands.now.gate.now) ⊥ result (sight work.old seats.old pen.old.log written) (sight work.new seats.new pen.new.log written) }
         ensures took { result ≡ Stepped → (drain : Bool) (written : Option _) → Took self.now hands.now.kit.now drain (C.told hands.now.clock.now) (G.said hands.now.gate.now) (sight work.old seats.old pen.old.log written) (sight work.new seats.new pen.new.log written) }
         ensures halts { result ≡ Halted → (drain : Bool) (written : Option _) → StopsTook self.now hands.now.kit.now drain (C.told hands.now.clock.now) (G.said hands.now.gate.now) (sight work.old seats.old pen.old.log written) (sight work.new seats.new pen.new.log written) }
