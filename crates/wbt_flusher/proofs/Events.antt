@@ -17,7 +17,7 @@ use Rattle.wbt_run_steps.specs.Backs.{Came, Returned}
 use Rattle.wbt_run_steps.specs.Kinds.{ArePayments, Steps, StepsToPay}
 use Rattle.wbt_run_steps.specs.Records.{record_of}
 use Rattle.wbt_run_steps.proofs.Changing.{record_is}
-use Rattle.wbt_run_steps.proofs.Kinds.{steps_so}
+use Rattle.wbt_run_steps.proofs.Logging.{steps_so}
 use Rattle.wbt_run_steps.proofs.Payments.{page_settled, page_settled_part}
 use Rattle.wbt_flusher.specs.Did.{OwesNothing}
 use Rattle.wbt_flusher.specs.Kinds.{MayOweEvent, OwesEvent}
@@ -37,12 +37,10 @@ owes_completed plan kit page found old new held makes =
 pub owes_given : (plan : FlusherPlan) (kit : Kit) (page : ℕ) (absorbed : Bool) (old new : Seats) → OwesNothing plan old
     → Came plan.cpu (Returned (setting kit.throttle.layout) plan.flusher page absorbed) old new → MayOweEvent plan kit new
 owes_given plan kit page true old new none came = inl (page, ap (λ (r : CpuRecord). r.debts) (record_is new.cpu.cpus plan.cpu came.is came.has) ∙ came.came.debts)
-owes_given plan kit page false old new none came = inr (
-  ap (λ (r : CpuRecord). r.debts) (record_is new.cpu.cpus plan.cpu came.is came.has)
-  ∙ came.came.debts
-  ∙ sym (ap (λ (r : CpuRecord). r.debts) (record_is old.cpu.cpus plan.cpu came.was came.had))
-  ∙ none,
-)
+owes_given plan kit page false old new none came =
+    let is = ap (λ (r : CpuRecord). r.debts) (record_is new.cpu.cpus plan.cpu came.is came.has) in
+    let was = ap (λ (r : CpuRecord). r.debts) (record_is old.cpu.cpus plan.cpu came.was came.had) in
+    inr (is ∙ came.came.debts ∙ sym was ∙ none)
 
 -- ---- how it is settled
 

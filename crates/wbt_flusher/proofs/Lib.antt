@@ -40,5 +40,5 @@ pub mod Giving
 pub mod Ageing
 pub mod Deciding
 pub mod Aged
-pub mod Kinds
+pub mod Turning
 pub mod Events

@@ -19,7 +19,7 @@ use Rattle.wbt_flusher.proofs.Keeping.{kept_by}
 use Rattle.wbt_flusher.proofs.Quotas.{steady_within}
 use Rattle.wbt_run_steps.specs.Kinds.{StepsInTurn}
 use Rattle.wbt_table.specs.Layout.{domains}
-use Rattle.wbt_flusher.proofs.Kinds.{turn_later, turn_rests}
+use Rattle.wbt_flusher.proofs.Turning.{turn_later, turn_rests}
 use Rattle.wbt_flusher.proofs.flusher.Flusher.turn.Goals as goal
 
 pub returns-in-Err-clause-answers : goal.returns-in-Err-clause-answers

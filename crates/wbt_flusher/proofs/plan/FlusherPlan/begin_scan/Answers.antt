@@ -12,8 +12,8 @@ use Rattle.wbt_run_steps.specs.Reads.{ReadsEstimate}
 use Rattle.wbt_flusher.specs.Turns.{begun_scan}
 use Rattle.wbt_flusher.specs.declared.work.FlusherWork.{FlusherWork}
 use Rattle.wbt_turns.specs.Words.{MayTake}
-use Rattle.wbt_run_steps.proofs.Kinds.{makes_as}
-use Rattle.wbt_flusher.proofs.Kinds.{no_take, one_take, steps_still}
+use Rattle.wbt_run_steps.proofs.Logging.{makes_as}
+use Rattle.wbt_flusher.proofs.Turning.{no_take, one_take, steps_still}
 use Rattle.wbt_flusher.proofs.plan.FlusherPlan.begin_scan.Goals as goal
 
 pub returns-then-not-may_step-clause-goes : goal.returns-then-not-may_step-clause-goes

@@ -6,7 +6,7 @@ use Rattle.wbt_flusher.specs.Sights.{sight}
 use Rattle.wbt_flusher.proofs.Ending.{idle_stands, idles, steps_by}
 use Rattle.wbt_flusher.proofs.Going.{owes_still}
 use Rattle.wbt_flusher.proofs.Marks.{idle_bare}
-use Rattle.wbt_flusher.proofs.Kinds.{no_take}
+use Rattle.wbt_flusher.proofs.Turning.{no_take}
 use Rattle.wbt_flusher.proofs.plan.FlusherPlan.begin_taken.Goals as goal
 
 pub returns-then-not-has-clause-ends : goal.returns-then-not-has-clause-ends

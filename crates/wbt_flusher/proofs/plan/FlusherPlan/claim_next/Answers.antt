@@ -8,7 +8,7 @@ use Rattle.wbt_flusher.specs.declared.work.Phase.TheVariants.{Scanning}
 use Rattle.wbt_rules.specs.declared.scan.Scan.{Scan}
 use Rattle.wbt_flusher.specs.declared.work.FlusherWork.{FlusherWork}
 use Rattle.wbt_flusher.proofs.Looking.{claims_page, passes_page, misses, halted, stops_at, claimed_stands, passed_stands, both_of}
-use Rattle.wbt_flusher.proofs.Kinds.{claimed_as, halted_as, looked_as}
+use Rattle.wbt_flusher.proofs.Turning.{claimed_as, halted_as, looked_as}
 use Rattle.wbt_flusher.proofs.plan.FlusherPlan.claim_next.Goals as goal
 
 or_left : (a b : Bool) → a ≡ true → (a || b) ≡ true

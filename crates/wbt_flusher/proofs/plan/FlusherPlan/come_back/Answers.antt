@@ -15,9 +15,9 @@ use Rattle.wbt_flusher.proofs.Going.{went_more, owes_still}
 use Rattle.wbt_flusher.proofs.Paying.{settles}
 use Rattle.wbt_turns.specs.Words.{IsCut, MaySettle}
 use Rattle.wbt_flusher.specs.Kinds.{ComesAfter}
-use Rattle.wbt_run_steps.proofs.Kinds.{cut_whole, makes_as}
+use Rattle.wbt_run_steps.proofs.Logging.{cut_whole, makes_as}
 use Rattle.wbt_flusher.proofs.Events.{may_settle, may_settle_part}
-use Rattle.wbt_flusher.proofs.Kinds.{comes_back, comes_back_cut, comes_back_last, one_mark}
+use Rattle.wbt_flusher.proofs.Turning.{comes_back, comes_back_cut, comes_back_last, one_mark}
 use Rattle.wbt_flusher.proofs.plan.FlusherPlan.come_back.Goals as goal
 
 pub settle-requires : goal.settle-requires

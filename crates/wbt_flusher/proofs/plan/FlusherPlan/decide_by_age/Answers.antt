@@ -14,7 +14,7 @@ use Rattle.wbt_flusher.proofs.Deciding.{at_inode}
 use Rattle.wbt_flusher.proofs.Ending.{ends_after, idles}
 use Rattle.wbt_flusher.proofs.Marks.{idle_bare}
 use Rattle.wbt_turns.specs.Words.{MayTake}
-use Rattle.wbt_flusher.proofs.Kinds.{no_take, steps_later}
+use Rattle.wbt_flusher.proofs.Turning.{no_take, steps_later}
 use Rattle.wbt_flusher.proofs.plan.FlusherPlan.decide_by_age.Goals as goal
 
 pub notice_all-requires-clause-lists : goal.notice_all-requires-clause-lists

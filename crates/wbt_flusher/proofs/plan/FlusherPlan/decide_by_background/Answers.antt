@@ -2,7 +2,7 @@ use Rattle.wbt_run_steps.proofs.Gating.{asked_none}
 use Rattle.std.proofs.Common.{false, refl}
 use Rattle.wbt_flusher.proofs.Ending.{idles}
 use Rattle.wbt_flusher.proofs.Marks.{idle_bare}
-use Rattle.wbt_flusher.proofs.Kinds.{no_take}
+use Rattle.wbt_flusher.proofs.Turning.{no_take}
 use Rattle.wbt_flusher.proofs.plan.FlusherPlan.decide_by_background.Goals as goal
 
 pub returns-then-not-over-clause-asked : goal.returns-then-not-over-clause-asked

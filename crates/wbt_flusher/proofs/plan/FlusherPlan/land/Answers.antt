@@ -12,7 +12,7 @@ use Rattle.wbt_run_steps.specs.Steps.{Settled}
 use Rattle.wbt_flusher.specs.Took.{is_last}
 use Rattle.wbt_turns.specs.Words.{IsSettled}
 use Rattle.wbt_flusher.proofs.Events.{event_settled, event_settled_part}
-use Rattle.wbt_flusher.proofs.Kinds.{steps_still}
+use Rattle.wbt_flusher.proofs.Turning.{steps_still}
 use Rattle.wbt_flusher.proofs.plan.FlusherPlan.land.Goals as goal
 
 pub settle-requires : goal.settle-requires

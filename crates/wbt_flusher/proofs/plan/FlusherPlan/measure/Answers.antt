@@ -19,7 +19,7 @@ use Rattle.wbt_flusher.specs.Reads.{ReadsShare, is_updated, sample_of}
 use Rattle.wbt_flusher.proofs.Fitting.{loaded_count, may_load}
 use Rattle.wbt_flusher.proofs.Keeping.{debts_same}
 use Rattle.wbt_flusher.proofs.Loading.{count_loaded}
-use Rattle.wbt_flusher.proofs.Kinds.{no_counts, one_count, steps_later, steps_still}
+use Rattle.wbt_flusher.proofs.Turning.{no_counts, one_count, steps_later, steps_still}
 use Rattle.wbt_flusher.specs.Kinds.{AreCounts}
 use Rattle.wbt_flusher.proofs.plan.FlusherPlan.measure.Goals as goal
 

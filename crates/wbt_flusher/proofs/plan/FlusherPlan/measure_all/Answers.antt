@@ -4,7 +4,7 @@ use Rattle.wbt_flusher.proofs.Going.{goes_nowhere, at_more}
 use Rattle.wbt_flusher.specs.Reads.{MeasuresBefore, is_first}
 use Rattle.wbt_flusher.specs.Sights.{sight}
 use Rattle.wbt_flusher.proofs.Held.{measures_more}
-use Rattle.wbt_flusher.proofs.Kinds.{counts_after, no_counts}
+use Rattle.wbt_flusher.proofs.Turning.{counts_after, no_counts}
 use Rattle.wbt_flusher.proofs.plan.FlusherPlan.measure_all.Goals as goal
 
 pub returns-then-not-self-clause-goes : goal.returns-then-not-self-clause-goes

@@ -11,7 +11,7 @@ use Rattle.wbt_flusher.proofs.Keeping.{queue_quiet}
 use Rattle.wbt_flusher.proofs.Marks.{idle_bare}
 use Rattle.wbt_flusher.proofs.Cutting.{loses}
 use Rattle.wbt_turns.specs.Words.{MayTake}
-use Rattle.wbt_flusher.proofs.Kinds.{no_take, steps_later}
+use Rattle.wbt_flusher.proofs.Turning.{no_take, steps_later}
 use Rattle.wbt_flusher.proofs.plan.FlusherPlan.take_queued.Goals as goal
 
 pub begin_taken-requires-clause-ready : goal.begin_taken-requires-clause-ready

@@ -2,7 +2,7 @@ use Rattle.wbt_run_steps.proofs.Gating.{asked_more}
 use Rattle.wbt_flusher.proofs.Going.{quiet_more}
 use Rattle.wbt_flusher.proofs.Loading.{tests_some}
 use Rattle.wbt_flusher.proofs.Cutting.{some_after, some_first}
-use Rattle.wbt_flusher.proofs.Kinds.{global_cut, later_cut, loads_each, none_so, some_so}
+use Rattle.wbt_flusher.proofs.Turning.{global_cut, later_cut, loads_each, none_so, some_so}
 use Rattle.wbt_flusher.proofs.plan.FlusherPlan.test.Goals as goal
 
 pub returns-in-Some-clause-goes : goal.returns-in-Some-clause-goes

@@ -11,8 +11,8 @@ use Rattle.wbt_flusher.proofs.Going.{goes_nowhere}
 use Rattle.std.proofs.Common.{refl}
 use Rattle.wbt_flusher.specs.Cut.{among_its_folds, before_its_page}
 use Rattle.wbt_kit.specs.declared.turn.Turn.TheVariants.{Halted, Spent}
-use Rattle.wbt_run_steps.proofs.Kinds.{makes_as}
-use Rattle.wbt_flusher.proofs.Kinds.{turn_completes, turn_rests}
+use Rattle.wbt_run_steps.proofs.Logging.{makes_as}
+use Rattle.wbt_flusher.proofs.Turning.{turn_completes, turn_rests}
 use Rattle.wbt_flusher.proofs.Events.{owes_completed}
 use Rattle.wbt_flusher.proofs.plan.FlusherPlan.turn_flight.Goals as goal
 

@@ -7,7 +7,7 @@ use Rattle.wbt_flusher.proofs.Ending.{ends_at_once, ends_undone, answers_by, tol
 use Rattle.wbt_flusher.specs.Took.{flies}
 use Rattle.wbt_flusher.specs.Cut as cut
 use Rattle.wbt_kit.specs.declared.turn.Turn.TheVariants.{Resting}
-use Rattle.wbt_flusher.proofs.Kinds.{turn_rests}
+use Rattle.wbt_flusher.proofs.Turning.{turn_rests}
 use Rattle.wbt_flusher.proofs.plan.FlusherPlan.turn_fly.Goals as goal
 
 pub returns-then-not-has_landed-clause-answers : goal.returns-then-not-has_landed-clause-answers

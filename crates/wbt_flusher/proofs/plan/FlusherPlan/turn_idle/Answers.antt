@@ -8,7 +8,7 @@ use Rattle.wbt_flusher.proofs.Measured.{measured, ready_measured, idle_measured}
 use Rattle.wbt_flusher.proofs.Weighing.{only_more, over_both, weighed}
 use Rattle.wbt_flusher.specs.Cut.{at_a_context, at_a_count, at_a_domain, at_its_inode}
 use Rattle.wbt_kit.specs.declared.turn.Turn.TheVariants.{Halted}
-use Rattle.wbt_flusher.proofs.Kinds.{counts_after, no_take, test_cut, turn_tests}
+use Rattle.wbt_flusher.proofs.Turning.{counts_after, no_take, test_cut, turn_tests}
 use Rattle.wbt_flusher.proofs.plan.FlusherPlan.turn_idle.Goals as goal
 
 pub returns-in-None-clause-ends : goal.returns-in-None-clause-ends

@@ -8,7 +8,7 @@ use Rattle.wbt_flusher.proofs.Ending.{ends_at_once, ends_undone, answers_by, tol
 use Rattle.wbt_flusher.specs.Took.{drains}
 use Rattle.wbt_flusher.specs.Cut as cut
 use Rattle.wbt_kit.specs.declared.turn.Turn.TheVariants.{Resting}
-use Rattle.wbt_flusher.proofs.Kinds.{turn_rests, turn_takes}
+use Rattle.wbt_flusher.proofs.Turning.{turn_rests, turn_takes}
 use Rattle.wbt_flusher.proofs.plan.FlusherPlan.turn_rest.Goals as goal
 
 pub returns-then-dropped-clause-answers : goal.returns-then-dropped-clause-answers

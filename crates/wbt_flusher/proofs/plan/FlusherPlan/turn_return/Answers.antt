@@ -11,7 +11,7 @@ use Rattle.wbt_kit.specs.declared.kit.Seats.{Seats}
 use Rattle.wbt_kit.specs.declared.turn.Turn.TheVariants.{Spent, Stepped}
 use Rattle.wbt_flusher.specs.Kinds.{StepsToGive}
 use Rattle.wbt_flusher.proofs.Events.{owes_given}
-use Rattle.wbt_flusher.proofs.Kinds.{back_cut, turn_gives, turn_misses, turn_rests}
+use Rattle.wbt_flusher.proofs.Turning.{back_cut, turn_gives, turn_misses, turn_rests}
 use Rattle.wbt_flusher.proofs.plan.FlusherPlan.turn_return.Goals as goal
 
 pub returns-in-Ok-Stopped-clause-ends : goal.returns-in-Ok-Stopped-clause-ends

@@ -16,7 +16,7 @@ use Rattle.wbt_flusher.specs.Cut.{at_a_page, at_its_mark}
 use Rattle.wbt_kit.specs.declared.turn.Turn.TheVariants.{Stepped}
 use Rattle.wbt_flusher.specs.Kinds.{StepsToLook}
 use Rattle.wbt_flusher.specs.declared.scan.Looked.{Looked}
-use Rattle.wbt_flusher.proofs.Kinds.{look_cut, turn_looks, turn_scans}
+use Rattle.wbt_flusher.proofs.Turning.{look_cut, turn_looks, turn_scans}
 use Rattle.wbt_flusher.proofs.plan.FlusherPlan.turn_scan.Goals as goal
 
 pub returns-in-Missed-clause-ends : goal.returns-in-Missed-clause-ends

@@ -11,7 +11,7 @@ use Rattle.wbt_flusher.proofs.Fitting.{loaded_count, may_load}
 use Rattle.wbt_flusher.proofs.Going.{goes_nowhere, kept_more}
 use Rattle.wbt_flusher.proofs.Keeping.{debts_same}
 use Rattle.wbt_flusher.proofs.Loading.{count_loaded}
-use Rattle.wbt_flusher.proofs.Kinds.{no_counts, one_count, steps_still}
+use Rattle.wbt_flusher.proofs.Turning.{no_counts, one_count, steps_still}
 use Rattle.wbt_flusher.specs.Kinds.{AreCounts}
 use Rattle.wbt_flusher.proofs.plan.FlusherPlan.weigh.Goals as goal
 

@@ -6,7 +6,7 @@ use Rattle.wbt_flusher.proofs.Going.{goes_nowhere, kept_more}
 use Rattle.wbt_flusher.proofs.Weighing.{only_more, weighs_more}
 use Rattle.wbt_flusher.specs.Sights.{sight}
 use Rattle.wbt_flusher.specs.Weighs.{WeighsBefore, weighs_each, weighs_none}
-use Rattle.wbt_flusher.proofs.Kinds.{counts_after, no_counts}
+use Rattle.wbt_flusher.proofs.Turning.{counts_after, no_counts}
 use Rattle.wbt_flusher.proofs.plan.FlusherPlan.weigh_all.Goals as goal
 
 pub returns-then-not-is_strict-clause-goes : goal.returns-then-not-is_strict-clause-goes

@@ -11,7 +11,7 @@ use Rattle.wbt_kit.specs.declared.turn.Turn.TheVariants.{Stepped, Resting, Done,
 use Rattle.wbt_table.specs.Calls.{Halts, LogsLook, LogsTry}
 use Rattle.wbt_table.specs.Calls.Halts.{after_its_look, before_its_look}
 use Rattle.wbt_run_steps.specs.Kinds.{Steps, StepsAs, StepsInTurn, StepsPart, marking}
-use Rattle.wbt_run_steps.proofs.Kinds.{as_more, cut_after, cut_whole, made_as, none_as, one_as, part_after, part_longer, steps_more, steps_so}
+use Rattle.wbt_run_steps.proofs.Logging.{as_more, cut_after, cut_whole, made_as, none_as, one_as, part_after, part_longer, steps_more, steps_so}
 use Rattle.wbt_turns.specs.Words as turn
 use Rattle.wbt_turns.specs.Words.{IsCut, IsSettled, IsTurn, MayMark, MaySettle, MayTake, counts, loads}
 use Rattle.wbt_flusher.specs.Kinds.{AreCounts, ComesAfter, IsLook, StepsBy}
@@ -66,10 +66,11 @@ counts_more a b p q = (p.0 + q.0, (λ i. p.1 i ++ q.1 i) ∙ sym (counts_append 
 -- ---- words of turns
 
 is_test : (domains : ℕ) (a b : List StepKind) → AreCounts a → MayTake b → IsTurn domains (loads domains ++ (a ++ b))
-is_test domains a b all takes = turn.tests all.0 b takes (ap (λ (l : List StepKind). loads domains ++ (l ++ b)) all.1)
+is_test domains a b all takes = 
+    turn.tests all.0 b takes (sym (append_assoc (loads domains) a b) ∙ ap (λ (l : List StepKind). loads domains ++ l ++ b) all.1)
 
 cut_test : (domains : ℕ) (word : List StepKind) → IsCut (Is (loads domains)) word → IsCut (IsTurn domains) word
-cut_test domains word cut = (cut.0, turn.tests 0 [] (inl refl) (cut.1 ∙ sym (append-nil (loads domains))))
+cut_test domains word cut = (cut.0, turn.tests 0 [] (inl refl) (cut.1 ∙ sym (append-nil (loads domains)) ∙ sym (append-nil (loads domains ++ []))))
 
 is_scan : (domains : ℕ) (a b : List StepKind) → IsLook a → MayMark b → IsTurn domains (a ++ b)
 is_scan domains a b (inl is) marks = turn.looks b (inl marks) (ap (λ (l : List StepKind). l ++ b) is)
