@@ -5,7 +5,6 @@ use Rattle.wbt_counter.specs.declared.record.Owed.{Owed}
 use Rattle.wbt_grant.specs.Kinds.{complete}
 use Rattle.wbt_grant.specs.Seats.{record_after}
 use Rattle.wbt_grant.specs.declared.record.CpuRecord.{CpuRecord}
-use Rattle.wbt_grant.specs.declared.who.StepKind.{StepKind}
 use Rattle.wbt_kit.specs.declared.kit.Kit.{Kit}
 use Rattle.wbt_kit.specs.declared.kit.Seats.{Seats}
 use Rattle.wbt_table.specs.Layout.{setting}
@@ -28,8 +27,7 @@ use Rattle.wbt_flusher.specs.declared.plan.FlusherPlan.{FlusherPlan}
 pub owes_completed : (plan : FlusherPlan) (kit : Kit) (page found : ℕ) (old new : Seats) → (held : (r : CpuRecord) × Has old.cpu.cpus plan.cpu r)
     → Makes (setting kit.throttle.layout) (complete plan.cpu page) found old.cpu new.cpu → OwesEvent plan kit new
 owes_completed plan kit page found old new held makes =
-    let f = record_after (setting kit.throttle.layout) (complete plan.cpu page) found in
-    (
+    let f = record_after (setting kit.throttle.layout) (complete plan.cpu page) found in (
       page,
       ap (λ (r : CpuRecord). r.debts) (record_is new.cpu.cpus plan.cpu (f held.0) (has_changed plan.cpu f old.cpu new.cpu held.0 makes.changes held.1)),
     )

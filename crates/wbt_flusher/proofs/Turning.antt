@@ -11,7 +11,7 @@ use Rattle.wbt_kit.specs.declared.turn.Turn.TheVariants.{Stepped, Resting, Done,
 use Rattle.wbt_table.specs.Calls.{Halts, LogsLook, LogsTry}
 use Rattle.wbt_table.specs.Calls.Halts.{after_its_look, before_its_look}
 use Rattle.wbt_run_steps.specs.Kinds.{Steps, StepsAs, StepsInTurn, StepsPart, marking}
-use Rattle.wbt_run_steps.proofs.Logging.{as_more, cut_after, cut_whole, made_as, none_as, one_as, part_after, part_longer, steps_more, steps_so}
+use Rattle.wbt_run_steps.proofs.Logging.{as_more, cut_after, cut_whole, made_as, none_as, one_as, part_after, part_longer, steps_behind, steps_more, steps_so, steps_still, takes_none}
 use Rattle.wbt_turns.specs.Words as turn
 use Rattle.wbt_turns.specs.Words.{IsCut, IsSettled, IsTurn, MayMark, MaySettle, MayTake, counts, loads}
 use Rattle.wbt_flusher.specs.Kinds.{AreCounts, ComesAfter, IsLook, StepsBy}
@@ -66,7 +66,7 @@ counts_more a b p q = (p.0 + q.0, (λ i. p.1 i ++ q.1 i) ∙ sym (counts_append 
 -- ---- words of turns
 
 is_test : (domains : ℕ) (a b : List StepKind) → AreCounts a → MayTake b → IsTurn domains (loads domains ++ (a ++ b))
-is_test domains a b all takes = 
+is_test domains a b all takes =
     turn.tests all.0 b takes (sym (append_assoc (loads domains) a b) ∙ ap (λ (l : List StepKind). loads domains ++ l ++ b) all.1)
 
 cut_test : (domains : ℕ) (word : List StepKind) → IsCut (Is (loads domains)) word → IsCut (IsTurn domains) word
@@ -105,15 +105,12 @@ module _ (cpu : ℕ) where
   no_steps P old new empty same = ([], empty, none_as cpu old new same)
 
   -- after one
-  pub steps_still : (P : Words) (old mid new : Seats) → Steps cpu P old mid → new.cpu ≡ mid.cpu → Steps cpu P old new
-  steps_still P old mid new steps same =
-      steps_more cpu P (Is []) P old mid new (λ a b p is. subst P (sym (append-nil a) ∙ ap (λ (l : List StepKind). a ++ l) (sym is)) p) steps
-      (no_steps (Is []) mid new refl same)
+  pub still_after : (P : Words) (old mid new : Seats) → Steps cpu P old mid → new.cpu ≡ mid.cpu → Steps cpu P old new
+  still_after P old mid new steps same = steps_still cpu P old mid new steps (none_as cpu mid new same)
 
   -- before one
-  pub steps_later : (P : Words) (old mid new : Seats) → mid.cpu ≡ old.cpu → Steps cpu P mid new → Steps cpu P old new
-  steps_later P old mid new same steps =
-      steps_more cpu (Is []) P P old mid new (λ a b is p. subst P (ap (λ (l : List StepKind). l ++ b) (sym is)) p) (no_steps (Is []) old mid refl same) steps
+  pub still_before : (P : Words) (old mid new : Seats) → mid.cpu ≡ old.cpu → Steps cpu P mid new → Steps cpu P old new
+  still_before P old mid new same steps = steps_behind cpu P old mid new (none_as cpu old mid same) steps
 
   -- ---- by an answer
 
@@ -226,28 +223,12 @@ module _ (cpu : ℕ) where
     in_turn (Resting now until) old new steps = steps
     in_turn NoMemory old new steps = steps
 
-    by_turn : (answer : Turn) (old new : Seats) → StepsInTurn domains cpu answer old new → StepsBy cpu (IsTurn domains) answer old new
-    by_turn Stepped old new steps = steps
-    by_turn Done old new steps = steps
-    by_turn Halted old new steps = steps
-    by_turn Faulted old new steps = steps
-    by_turn Spent old new steps = steps
-    by_turn (Resting now until) old new steps = steps
-    by_turn NoMemory old new steps = steps
-
     whole_turn : (answer : Turn) (old new : Seats) → Steps cpu (IsTurn domains) old new → StepsInTurn domains cpu answer old new
     whole_turn answer old new steps = in_turn answer old new (by_whole (IsTurn domains) answer old new steps)
 
     -- no step was made
     pub turn_rests : (answer : Turn) (old new : Seats) → new.cpu ≡ old.cpu → StepsInTurn domains cpu answer old new
-    turn_rests answer old new same = whole_turn answer old new (no_steps (IsTurn domains) old new (turn.rests (inl refl)) same)
-
-    -- none was made before
-    pub turn_later : (answer : Turn) (old mid new : Seats) → mid.cpu ≡ old.cpu → StepsInTurn domains cpu answer mid new → StepsInTurn domains cpu answer old new
-    turn_later answer old mid new same steps =
-        in_turn answer old new
-        (by_after (Is []) (IsTurn domains) (IsTurn domains) old mid new (λ a b is p. subst (IsTurn domains) (ap (λ (l : List StepKind). l ++ b) (sym is)) p)
-        (no_steps (Is []) old mid refl same) answer (by_turn answer mid new steps))
+    turn_rests answer old new same = whole_turn answer old new (takes_none domains cpu old new (none_as cpu old new same))
 
     pub turn_takes : (answer : Turn) (old new : Seats) → Steps cpu MayTake old new → StepsInTurn domains cpu answer old new
     turn_takes answer old new steps = whole_turn answer old new (steps_so cpu MayTake (IsTurn domains) old new (λ word may. turn.rests may) steps)

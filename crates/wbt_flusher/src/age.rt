@@ -11,7 +11,9 @@ ghost use Rattle.wbt_kit.specs.declared.kit.Seats.{Seats};
 ghost use Rattle.wbt_kit.specs.declared.turn.Turn.TheVariants.{Halted, Spent, Stepped};
 ghost use Rattle.wbt_rules.specs.declared.age.TheConstants.{MOST_NOTICED};
 ghost use Rattle.wbt_rules.specs.declared.moments.TheConstants.{MOST_FAULTS};
+ghost use Rattle.wbt_turns.specs.Words.{MayTake};
 ghost use Rattle.wbt_run_steps.specs.Gate.{AskedBeforeEach};
+ghost use Rattle.wbt_run_steps.specs.Kinds.{Steps};
 ghost use Rattle.wbt_run_steps.specs.Inodes.{OnlyQueue};
 ghost use Rattle.wbt_run_steps.specs.Queues.{OnlyDevice};
 ghost use Rattle.wbt_flusher.specs.Ageing.{DecidesByAge, NoticesAll, NoticesNumber, TakesAny, TakesByAge, TakesDue};
@@ -23,8 +25,6 @@ ghost use Rattle.wbt_flusher.specs.Did.{Fits};
 ghost use Rattle.wbt_flusher.specs.Plans.{IsInode, IsPlan, Suits};
 ghost use Rattle.wbt_flusher.specs.Sights.{list_by, sight};
 ghost use Rattle.wbt_flusher.specs.Turns.{HasLists, IsIdle};
-ghost use Rattle.wbt_run_steps.specs.Kinds.{Steps};
-ghost use Rattle.wbt_turns.specs.Words.{MayTake};
 
 use crate::plan::FlusherPlan;
 use crate::work::FlusherWork;

@@ -4,10 +4,12 @@ ghost use Rattle.std.specs.Prelude.{◌≡◌, ◌+◌, ◌<◌, ◌≤◌, fals
 ghost use Rattle.wbt_table.specs.Calls.{HasNoPageSteps};
 ghost use Rattle.wbt_table.specs.Layout.{setting};
 ghost use Rattle.wbt_run_steps.specs.Gate.{AskedBeforeEach};
+ghost use Rattle.wbt_run_steps.specs.Kinds.{StepsInTurn};
 ghost use Rattle.wbt_flusher.specs.Answers.{Ends, Goes, GoesKept, IsBack, IsReady};
 ghost use Rattle.wbt_flusher.specs.Cut.{DoesNothing, ReturnsSome, StopsComingBack};
 ghost use Rattle.wbt_flusher.specs.Did.{Fits, KeepsDebts};
 ghost use Rattle.wbt_flusher.specs.Gives.{Gives, StandsAfter};
+ghost use Rattle.wbt_flusher.specs.Kinds.{ComesAfter, MayOweEvent, StepsBy, StepsToGive};
 ghost use Rattle.wbt_flusher.specs.Plans.{Suits, IsInode};
 ghost use Rattle.wbt_flusher.specs.Sights.{sight};
 ghost use Rattle.wbt_flusher.specs.Took.{ComesBack, EndsReturn, ReturnsPage};
@@ -16,8 +18,6 @@ ghost use Rattle.wbt_flusher.specs.declared.work.Phase.TheVariants.{Idle, Return
 ghost use Rattle.wbt_kit.specs.declared.kit.Kit.{Kit};
 ghost use Rattle.wbt_kit.specs.declared.kit.Seats.{Seats};
 ghost use Rattle.wbt_kit.specs.declared.turn.Turn.TheVariants.{Halted, Spent as SpentTurn, Stepped};
-ghost use Rattle.wbt_run_steps.specs.Kinds.{StepsInTurn};
-ghost use Rattle.wbt_flusher.specs.Kinds.{ComesAfter, MayOweEvent, StepsBy, StepsToGive};
 
 use crate::plan::FlusherPlan;
 use crate::work::{FlusherWork, Phase, Return};

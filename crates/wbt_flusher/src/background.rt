@@ -2,14 +2,14 @@
 
 ghost use Rattle.std.specs.Prelude.{◌≡◌, ◌<◌, ◌-◌, ◌≤◌, ◌^◌, IfSome, IfNone};
 ghost use Rattle.wbt_num.specs.Limits.{IsLawful};
+ghost use Rattle.wbt_turns.specs.Words.{loads};
 ghost use Rattle.wbt_run_steps.specs.Gate.{AskedBeforeEach};
+ghost use Rattle.wbt_run_steps.specs.Kinds.{StepsAs, StepsPart};
 ghost use Rattle.wbt_flusher.specs.Answers.{GoesQuiet};
 ghost use Rattle.wbt_flusher.specs.Cut.{ReadsPart, ReadsSome};
 ghost use Rattle.wbt_flusher.specs.Did.{Fits, KeepsDebts, IsStopped};
 ghost use Rattle.wbt_flusher.specs.Loads.{ReadDomain, ReadOthers, Tested};
 ghost use Rattle.wbt_flusher.specs.Plans.{Suits};
-ghost use Rattle.wbt_run_steps.specs.Kinds.{StepsAs, StepsPart};
-ghost use Rattle.wbt_turns.specs.Words.{loads};
 
 use crate::plan::FlusherPlan;
 use wbt_io::Gate;

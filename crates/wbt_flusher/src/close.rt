@@ -2,7 +2,9 @@
 
 ghost use Rattle.std.specs.Prelude.{◌↔◌, ◌≡◌, ◌≤◌, ◌==◌, [], false, IsTrue, IsFalse, Option};
 ghost use Rattle.wbt_io.specs.Faults.{HasRisen};
+ghost use Rattle.wbt_turns.specs.Words.{MayMark};
 ghost use Rattle.wbt_run_steps.specs.Gate.{AskedBeforeEach};
+ghost use Rattle.wbt_run_steps.specs.Kinds as kinds;
 ghost use Rattle.wbt_flusher.specs.Answers.{Ends, EndsBy, GoesKept, IsOpen, Steps};
 ghost use Rattle.wbt_flusher.specs.Cut.{DoesNothing, FailsToClose};
 ghost use Rattle.wbt_flusher.specs.Did.{Fits, KeepsDebts, IsStopped};
@@ -15,8 +17,6 @@ ghost use Rattle.wbt_kit.specs.declared.kit.Kit.{Kit};
 ghost use Rattle.wbt_kit.specs.declared.kit.Seats.{Seats};
 ghost use Rattle.wbt_kit.specs.declared.turn.Turn.TheVariants.{Faulted, Halted, Spent, Stepped};
 ghost use Rattle.wbt_rules.specs.declared.moments.TheConstants.{MOST_FAULTS};
-ghost use Rattle.wbt_run_steps.specs.Kinds as kinds;
-ghost use Rattle.wbt_turns.specs.Words.{MayMark};
 
 use crate::hand::Handed;
 use crate::plan::FlusherPlan;

@@ -12,15 +12,15 @@ ghost use Rattle.wbt_published.specs.Publishing.{IsComplete, IsNewest};
 ghost use Rattle.wbt_run_laws.specs.Notes.{IsNewest as IsNewestKnown};
 ghost use Rattle.wbt_run_steps.specs.Reads.{ReadsEstimate};
 ghost use Rattle.wbt_run_steps.specs.Gate.{AskedBeforeEach};
+ghost use Rattle.wbt_run_steps.specs.Kinds.{Steps};
 ghost use Rattle.wbt_flusher.specs.Answers.{GoesAt, GoesQuiet};
 ghost use Rattle.wbt_flusher.specs.Cut.{MeasuresSome, StopsAtContext};
 ghost use Rattle.wbt_flusher.specs.Did.{Fits, KeepsDebts, IsMeasured, IsStopped};
+ghost use Rattle.wbt_flusher.specs.Kinds.{AreCounts};
 ghost use Rattle.wbt_flusher.specs.Plans.{Suits, IsPlan, context_at};
 ghost use Rattle.wbt_flusher.specs.Reads.{Measures, MeasuresAll, sample_of};
 ghost use Rattle.wbt_flusher.specs.Sights.{sight};
 ghost use Rattle.wbt_flusher.specs.Turns.{HasLists, IsProper, OnlyEst, OnlyTallies};
-ghost use Rattle.wbt_run_steps.specs.Kinds.{Steps};
-ghost use Rattle.wbt_flusher.specs.Kinds.{AreCounts};
 
 use crate::background::Read;
 use crate::plan::FlusherPlan;

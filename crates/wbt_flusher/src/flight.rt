@@ -3,10 +3,13 @@
 ghost use Rattle.std.specs.Prelude.{◌≡◌, ◌+◌, ◌≤◌, OnOk, OnErr, Option, false};
 ghost use Rattle.wbt_table.specs.Calls.{HasNoPageSteps};
 ghost use Rattle.wbt_table.specs.Layout.{setting};
+ghost use Rattle.wbt_turns.specs.Words.{IsSettled};
 ghost use Rattle.wbt_run_steps.specs.Gate.{AskedBeforeEach};
+ghost use Rattle.wbt_run_steps.specs.Kinds.{StepsInTurn};
 ghost use Rattle.wbt_flusher.specs.Answers.{Ends, Goes, IsDown, IsReady};
 ghost use Rattle.wbt_flusher.specs.Cut.{CompletesSome, DoesNothing};
 ghost use Rattle.wbt_flusher.specs.Did.{Fits, OwesNothing, AreOwed};
+ghost use Rattle.wbt_flusher.specs.Kinds.{OwesEvent, StepsBy};
 ghost use Rattle.wbt_flusher.specs.Plans.{Suits};
 ghost use Rattle.wbt_flusher.specs.Sights.{sight};
 ghost use Rattle.wbt_flusher.specs.Took.{CompletesPage, DonePage, Lands};
@@ -14,9 +17,6 @@ ghost use Rattle.wbt_flusher.specs.Turns.{IsFlight, HoldsPages};
 ghost use Rattle.wbt_flusher.specs.declared.work.Phase.TheVariants.{Flying};
 ghost use Rattle.wbt_kit.specs.declared.turn.Turn.TheVariants.{Halted, Spent as SpentTurn, Stepped};
 ghost use Rattle.wbt_run_steps.specs.Steps.{Settled};
-ghost use Rattle.wbt_flusher.specs.Kinds.{OwesEvent, StepsBy};
-ghost use Rattle.wbt_run_steps.specs.Kinds.{StepsInTurn};
-ghost use Rattle.wbt_turns.specs.Words.{IsSettled};
 
 use crate::plan::FlusherPlan;
 use crate::work::{Flight, FlusherWork, Phase};

@@ -3,11 +3,13 @@
 ghost use Rattle.std.specs.Prelude.{◌≡◌, ◌<◌, [], IsTrue, IsFalse, Option};
 ghost use Rattle.wbt_grant.specs.Kinds.{unmark};
 ghost use Rattle.wbt_limits.specs.Flusher.{chunk_of as chunk_value};
+ghost use Rattle.wbt_turns.specs.Words.{MayTake};
 ghost use Rattle.wbt_run_steps.specs.Records.{OnlyCpu};
 ghost use Rattle.wbt_rules.specs.declared.moments.TheConstants.{MOST_FAULTS};
 ghost use Rattle.wbt_table.specs.Layout.{setting};
 ghost use Rattle.wbt_table.specs.Seat.{Makes};
 ghost use Rattle.wbt_run_steps.specs.Gate.{AskedBeforeEach};
+ghost use Rattle.wbt_run_steps.specs.Kinds.{Steps};
 ghost use Rattle.wbt_flusher.specs.Answers.{GoesKept};
 ghost use Rattle.wbt_flusher.specs.Begins.{BeginsScan};
 ghost use Rattle.wbt_flusher.specs.Did.{Fits, KeepsDebts, IsStopped};
@@ -15,8 +17,6 @@ ghost use Rattle.wbt_flusher.specs.Plans.{Suits, IsInode, context_of};
 ghost use Rattle.wbt_run_steps.specs.Reads.{ReadsEstimate};
 ghost use Rattle.wbt_flusher.specs.Sights.{sight};
 ghost use Rattle.wbt_flusher.specs.Turns.{HasLists, IsSteady, IsIdle, OnlyEst, begun_scan};
-ghost use Rattle.wbt_run_steps.specs.Kinds.{Steps};
-ghost use Rattle.wbt_turns.specs.Words.{MayTake};
 
 use crate::plan::FlusherPlan;
 use crate::work::{FlusherWork, Phase};

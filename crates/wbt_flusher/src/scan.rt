@@ -4,9 +4,11 @@ ghost use Rattle.std.specs.Prelude.{◌||◌, ◌==◌, ◌≡◌, ◌+◌, ◌<
 ghost use Rattle.std.specs.Vec.{vec_capacity, vec_len};
 ghost use Rattle.wbt_io.specs.Faults.{HasRisen};
 ghost use Rattle.wbt_run_steps.specs.Gate.{AskedBeforeEach};
+ghost use Rattle.wbt_run_steps.specs.Kinds.{StepsInTurn};
 ghost use Rattle.wbt_flusher.specs.Answers.{Ends, EndsBy, Goes, IsReady};
 ghost use Rattle.wbt_flusher.specs.Cut.{ScanFails, ScansSome};
 ghost use Rattle.wbt_flusher.specs.Did.{Fits, KeepsDebts};
+ghost use Rattle.wbt_flusher.specs.Kinds.{StepsToLook};
 ghost use Rattle.wbt_flusher.specs.Looks.{Looks};
 ghost use Rattle.wbt_flusher.specs.Plans.{Suits, IsPlan, end_of};
 ghost use Rattle.wbt_flusher.specs.Sights.{sight};
@@ -15,8 +17,6 @@ ghost use Rattle.wbt_flusher.specs.Turns.{FaultsRise, HasLists, IsScan};
 ghost use Rattle.wbt_flusher.specs.declared.work.Phase.TheVariants.{Scanning};
 ghost use Rattle.wbt_kit.specs.declared.turn.Turn.TheVariants.{Faulted, Halted, Spent, Stepped};
 ghost use Rattle.wbt_rules.specs.declared.moments.TheConstants.{MOST_FAULTS};
-ghost use Rattle.wbt_run_steps.specs.Kinds.{StepsInTurn};
-ghost use Rattle.wbt_flusher.specs.Kinds.{StepsToLook};
 
 use crate::plan::FlusherPlan;
 use crate::work::{FlusherWork, Phase};

@@ -3,7 +3,9 @@
 ghost use Rattle.std.specs.Prelude.{◌≡◌, ◌⊎◌, ◌↔◌, ◌+◌, ◌<◌, ◌≤◌, ◌^◌, IsTrue, IsFalse, Bool, true, false, Contains, IfNone, IfSome, [], length, Option};
 ghost use Rattle.wbt_queue.specs.Order.{HasTaken};
 ghost use Rattle.wbt_queue.specs.Passes as queue;
+ghost use Rattle.wbt_turns.specs.Words.{MayTake};
 ghost use Rattle.wbt_run_steps.specs.Gate.{AskedBeforeEach};
+ghost use Rattle.wbt_run_steps.specs.Kinds.{Steps, StepsInTurn};
 ghost use Rattle.wbt_run_steps.specs.Inodes.{OnlyQueue};
 ghost use Rattle.wbt_run_steps.specs.Queues.{OnlyDevice};
 ghost use Rattle.wbt_flusher.specs.Answers.{Ends, IsReady};
@@ -17,8 +19,6 @@ ghost use Rattle.wbt_flusher.specs.Turns.{IsIdle};
 ghost use Rattle.wbt_flusher.specs.declared.work.Phase.TheVariants.{Idle};
 ghost use Rattle.wbt_kit.specs.declared.turn.Turn.TheVariants.{Done, Halted, Spent, Stepped};
 ghost use Rattle.wbt_rules.specs.declared.age.TheConstants.{MOST_NOTICED};
-ghost use Rattle.wbt_run_steps.specs.Kinds.{Steps, StepsInTurn};
-ghost use Rattle.wbt_turns.specs.Words.{MayTake};
 
 use crate::plan::FlusherPlan;
 use crate::weigh::is_or_was;

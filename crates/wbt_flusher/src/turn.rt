@@ -3,7 +3,9 @@
 ghost use Rattle.std.specs.Prelude.{◌&&◌, not, ◌↔◌, ◌≡◌, ◌≤◌, length, Bool, OnOk, Option};
 ghost use Rattle.wbt_io.specs.Faults.{HasRisen};
 ghost use Rattle.wbt_num.specs.declared.most.TheConstants.{MOST_CONTEXTS};
+ghost use Rattle.wbt_table.specs.Layout.{domains};
 ghost use Rattle.wbt_run_steps.specs.Gate.{AskedBeforeEach};
+ghost use Rattle.wbt_run_steps.specs.Kinds.{StepsInTurn};
 ghost use Rattle.wbt_flusher.specs.Aged.{IsIdleTurn, WritesInTime, WritesWhatIsDue};
 ghost use Rattle.wbt_flusher.specs.Answers.{FlusherAnswers, TurnAnswers, HasSpace, IsReady, IsSameWork};
 ghost use Rattle.wbt_flusher.specs.Cut.{DoesNothing, FailsTook, FindsNothing, FlusherEnds, FlusherFails, FlusherSpends, FlusherStops, FlusherWaits, StopsTook};
@@ -14,8 +16,6 @@ ghost use Rattle.wbt_flusher.specs.Turns.{FaultsRise, IsWithinQuota};
 ghost use Rattle.wbt_rules.specs.declared.moments.TheConstants.{MOST_FAULTS};
 ghost use Rattle.wbt_flusher.specs.declared.work.Phase.TheVariants.{Idle, Flying};
 ghost use Rattle.wbt_kit.specs.declared.turn.Turn.TheVariants.{Done, Faulted, Halted, Resting, Spent, Stepped};
-ghost use Rattle.wbt_run_steps.specs.Kinds.{StepsInTurn};
-ghost use Rattle.wbt_table.specs.Layout.{domains};
 
 use crate::flusher::Flusher;
 use crate::plan::FlusherPlan;
@@ -48,7 +48,6 @@ impl<D: Disk> Flusher<D> {
         requires suits { Suits self.old.plan hands.now.kit.now }
         requires ready { IsReady self.old.plan hands.now.kit.now self.old.work seats.old }
         ensures asked { AskedBeforeEach self.old.plan.cpu (G.said hands.now.gate.now) seats.old seats.new }
-        ensures kinds { StepsInTurn (domains hands.now.kit.now.throttle.layout) self.old.plan.cpu result seats.old seats.new }
         ensures plan { self.new.plan ≡ self.old.plan }
         ensures later { D.faults self.old.disk ≤ D.faults self.new.disk }
         ensures answers { FlusherAnswers self.old.plan hands.now.kit.now drain (C.told hands.now.clock.now) (G.said hands.now.gate.now) (HasRisen (D.faults self.old.disk) (D.faults self.new.disk)) result (sight self.old.work seats.old log.old (D.written self.old.disk)) (sight self.new.work seats.new log.new (D.written self.new.disk)) }
@@ -66,6 +65,9 @@ impl<D: Disk> Flusher<D> {
         // Its batches that the disk failed to write are counted, and it faults exactly with the last that it may have.
         ensures counted { FaultsRise self.old.work.faults self.new.work.faults (D.faults self.old.disk) (D.faults self.new.disk) }
         ensures eighth { result ≡ Faulted ↔ self.new.work.faults ≡ MOST_FAULTS }
+
+        // The steps of its CPU are those of one turn, or a first part of them where the gate stopped it.
+        ensures kinds { StepsInTurn (domains hands.now.kit.now.throttle.layout) self.old.plan.cpu result seats.old seats.new }
 
         // Where it was cut off it did a first part of such a turn.
         ensures halts { result ≡ Halted → FlusherStops self.old.plan hands.now.kit.now drain (C.told hands.now.clock.now) (G.said hands.now.gate.now) (sight self.old.work seats.old log.old (D.written self.old.disk)) (sight self.new.work seats.new log.new (D.written self.new.disk)) }

@@ -2,15 +2,15 @@
 
 ghost use Rattle.std.specs.Prelude.{◌≡◌, ◌<◌, ◌≤◌, ◌^◌, ◌||◌, true, false, IfNone, IfSome, length, Option};
 ghost use Rattle.wbt_run_steps.specs.Gate.{AskedBeforeEach};
+ghost use Rattle.wbt_run_steps.specs.Kinds.{Steps};
 ghost use Rattle.wbt_flusher.specs.Answers.{GoesKept};
 ghost use Rattle.wbt_flusher.specs.Cut.{WeighsSome};
 ghost use Rattle.wbt_flusher.specs.Did.{Fits, KeepsDebts, IsStopped};
+ghost use Rattle.wbt_flusher.specs.Kinds.{AreCounts};
 ghost use Rattle.wbt_flusher.specs.Plans.{Suits, context_at};
 ghost use Rattle.wbt_flusher.specs.Sights.{sight};
 ghost use Rattle.wbt_flusher.specs.Turns.{HasLists, IsPart, OnlyShare, OnlyTallies};
 ghost use Rattle.wbt_flusher.specs.Weighs.{WeighsAll, WeighsIn, WeighsInBoth, WeighsNext};
-ghost use Rattle.wbt_run_steps.specs.Kinds.{Steps};
-ghost use Rattle.wbt_flusher.specs.Kinds.{AreCounts};
 
 use crate::plan::FlusherPlan;
 use crate::work::FlusherWork;

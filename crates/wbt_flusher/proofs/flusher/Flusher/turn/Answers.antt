@@ -19,7 +19,8 @@ use Rattle.wbt_flusher.proofs.Keeping.{kept_by}
 use Rattle.wbt_flusher.proofs.Quotas.{steady_within}
 use Rattle.wbt_run_steps.specs.Kinds.{StepsInTurn}
 use Rattle.wbt_table.specs.Layout.{domains}
-use Rattle.wbt_flusher.proofs.Turning.{turn_later, turn_rests}
+use Rattle.wbt_run_steps.proofs.Logging.{none_as, turn_behind}
+use Rattle.wbt_flusher.proofs.Turning.{turn_rests}
 use Rattle.wbt_flusher.proofs.flusher.Flusher.turn.Goals as goal
 
 pub returns-in-Err-clause-answers : goal.returns-in-Err-clause-answers
@@ -206,4 +207,5 @@ returns-in-Ok-clause-kinds g c =
     let plan = c.args.self.now.plan in
     let t = c.turn_on-answer in
     subst (λ (n : ℕ). StepsInTurn n plan.cpu t.result c.args.seats.now t.new.seats) c.requires.suits.domains_are
-    (turn_later plan.cpu plan.domains t.result c.args.seats.now c.put_waiting.new.seats t.new.seats c.put_waiting.ensures.only_queue.cpu t.ensures.kinds)
+    (turn_behind plan.domains plan.cpu t.result c.args.seats.now c.put_waiting.new.seats t.new.seats
+    (none_as plan.cpu c.args.seats.now c.put_waiting.new.seats c.put_waiting.ensures.only_queue.cpu) t.ensures.kinds)

@@ -13,7 +13,7 @@ use Rattle.wbt_flusher.specs.Turns.{begun_scan}
 use Rattle.wbt_flusher.specs.declared.work.FlusherWork.{FlusherWork}
 use Rattle.wbt_turns.specs.Words.{MayTake}
 use Rattle.wbt_run_steps.proofs.Logging.{makes_as}
-use Rattle.wbt_flusher.proofs.Turning.{no_take, one_take, steps_still}
+use Rattle.wbt_flusher.proofs.Turning.{no_take, one_take, still_after}
 use Rattle.wbt_flusher.proofs.plan.FlusherPlan.begin_scan.Goals as goal
 
 pub returns-then-not-may_step-clause-goes : goal.returns-then-not-may_step-clause-goes
@@ -60,6 +60,6 @@ pub returns-clause-kinds : goal.returns-clause-kinds
 returns-clause-kinds g c =
     let cpu = c.args.self.now.cpu in
     let u = c.unmark.ensures.unmarks in
-    steps_still cpu MayTake c.args.seats.now c.unmark.new.seats c.set_quota.new.seats
+    still_after cpu MayTake c.args.seats.now c.unmark.new.seats c.set_quota.new.seats
     (one_take cpu c.args.seats.now c.unmark.new.seats (makes_as cpu (setting c.args.hands.now.kit.now.throttle.layout) (unmark cpu c.args.inode) u.0 c.args.seats.now c.unmark.new.seats refl u.1))
     c.set_quota.ensures.only_est.cpu

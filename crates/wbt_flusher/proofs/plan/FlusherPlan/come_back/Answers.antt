@@ -13,7 +13,6 @@ use Rattle.wbt_flusher.proofs.Flown.{none_there}
 use Rattle.wbt_flusher.proofs.Giving.{still_returns}
 use Rattle.wbt_flusher.proofs.Going.{went_more, owes_still}
 use Rattle.wbt_flusher.proofs.Paying.{settles}
-use Rattle.wbt_turns.specs.Words.{IsCut, MaySettle}
 use Rattle.wbt_flusher.specs.Kinds.{ComesAfter}
 use Rattle.wbt_run_steps.proofs.Logging.{cut_whole, makes_as}
 use Rattle.wbt_flusher.proofs.Events.{may_settle, may_settle_part}

@@ -14,7 +14,7 @@ use Rattle.wbt_flusher.proofs.Deciding.{at_inode}
 use Rattle.wbt_flusher.proofs.Ending.{ends_after, idles}
 use Rattle.wbt_flusher.proofs.Marks.{idle_bare}
 use Rattle.wbt_turns.specs.Words.{MayTake}
-use Rattle.wbt_flusher.proofs.Turning.{no_take, steps_later}
+use Rattle.wbt_flusher.proofs.Turning.{no_take, still_before}
 use Rattle.wbt_flusher.proofs.plan.FlusherPlan.decide_by_age.Goals as goal
 
 pub notice_all-requires-clause-lists : goal.notice_all-requires-clause-lists
@@ -171,4 +171,4 @@ pub returns-in-None-clause-kinds : goal.returns-in-None-clause-kinds
 returns-in-None-clause-kinds g c = no_take c.args.self.now.cpu c.args.seats.now c.notice_all.new.seats c.notice_all.ensures.only_queue.cpu
 
 pub returns-in-Some-clause-kinds : goal.returns-in-Some-clause-kinds
-returns-in-Some-clause-kinds g c = steps_later c.args.self.now.cpu MayTake c.args.seats.now c.notice_all.new.seats c.begin_waiting.new.seats c.notice_all.ensures.only_queue.cpu c.begin_waiting.ensures.kinds
+returns-in-Some-clause-kinds g c = still_before c.args.self.now.cpu MayTake c.args.seats.now c.notice_all.new.seats c.begin_waiting.new.seats c.notice_all.ensures.only_queue.cpu c.begin_waiting.ensures.kinds

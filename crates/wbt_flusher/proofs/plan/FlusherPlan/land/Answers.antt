@@ -12,7 +12,7 @@ use Rattle.wbt_run_steps.specs.Steps.{Settled}
 use Rattle.wbt_flusher.specs.Took.{is_last}
 use Rattle.wbt_turns.specs.Words.{IsSettled}
 use Rattle.wbt_flusher.proofs.Events.{event_settled, event_settled_part}
-use Rattle.wbt_flusher.proofs.Turning.{steps_still}
+use Rattle.wbt_flusher.proofs.Turning.{still_after}
 use Rattle.wbt_flusher.proofs.plan.FlusherPlan.land.Goals as goal
 
 pub settle-requires : goal.settle-requires
@@ -107,6 +107,6 @@ returns-then-flight-as_slice-clause-kinds g c =
 
 pub returns-clause-kinds : goal.returns-clause-kinds
 returns-clause-kinds g c =
-    steps_still c.args.self.now.cpu IsSettled c.args.seats.now c.settle.new.seats c.end_flight.new.seats
+    still_after c.args.self.now.cpu IsSettled c.args.seats.now c.settle.new.seats c.end_flight.new.seats
     (event_settled c.args.self.now c.args.hands.now.kit.now c.settle.result c.args.seats.now c.settle.new.seats c.requires.event c.if-not-settle.false c.settle.ensures.kinds)
     c.end_flight.ensures.only_share.cpu

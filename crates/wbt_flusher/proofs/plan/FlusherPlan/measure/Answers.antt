@@ -19,7 +19,7 @@ use Rattle.wbt_flusher.specs.Reads.{ReadsShare, is_updated, sample_of}
 use Rattle.wbt_flusher.proofs.Fitting.{loaded_count, may_load}
 use Rattle.wbt_flusher.proofs.Keeping.{debts_same}
 use Rattle.wbt_flusher.proofs.Loading.{count_loaded}
-use Rattle.wbt_flusher.proofs.Turning.{no_counts, one_count, steps_later, steps_still}
+use Rattle.wbt_flusher.proofs.Turning.{no_counts, one_count, still_before, still_after}
 use Rattle.wbt_flusher.specs.Kinds.{AreCounts}
 use Rattle.wbt_flusher.proofs.plan.FlusherPlan.measure.Goals as goal
 
@@ -154,6 +154,6 @@ returns-clause-kinds g c =
     let n = c.newest-old in
     let l = c.load_count-count in
     let p = c.publish in
-    steps_later cpu AreCounts c.args.seats.now n.new.seats p.new.seats n.ensures.only_est.cpu
-    (steps_still cpu AreCounts n.new.seats l.new.seats p.new.seats (one_count cpu n.new.seats l.new.seats l.ensures.kinds)
+    still_before cpu AreCounts c.args.seats.now n.new.seats p.new.seats n.ensures.only_est.cpu
+    (still_after cpu AreCounts n.new.seats l.new.seats p.new.seats (one_count cpu n.new.seats l.new.seats l.ensures.kinds)
     (p.ensures.only_est.cpu ∙ c.written-written.ensures.cpu ∙ c.read_share-share.ensures.only_share.cpu))

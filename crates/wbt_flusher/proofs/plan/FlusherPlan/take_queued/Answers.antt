@@ -11,7 +11,7 @@ use Rattle.wbt_flusher.proofs.Keeping.{queue_quiet}
 use Rattle.wbt_flusher.proofs.Marks.{idle_bare}
 use Rattle.wbt_flusher.proofs.Cutting.{loses}
 use Rattle.wbt_turns.specs.Words.{MayTake}
-use Rattle.wbt_flusher.proofs.Turning.{no_take, steps_later}
+use Rattle.wbt_flusher.proofs.Turning.{no_take, still_before}
 use Rattle.wbt_flusher.proofs.plan.FlusherPlan.take_queued.Goals as goal
 
 pub begin_taken-requires-clause-ready : goal.begin_taken-requires-clause-ready
@@ -144,4 +144,4 @@ pub returns-else-work-clause-kinds : goal.returns-else-work-clause-kinds
 returns-else-work-clause-kinds g c = no_take c.args.self.now.cpu c.args.seats.now c.take.new.seats c.take.ensures.only_queue.cpu
 
 pub returns-in-Some-clause-kinds : goal.returns-in-Some-clause-kinds
-returns-in-Some-clause-kinds g c = steps_later c.args.self.now.cpu MayTake c.args.seats.now c.take.new.seats c.begin_taken.new.seats c.take.ensures.only_queue.cpu c.begin_taken.ensures.kinds
+returns-in-Some-clause-kinds g c = still_before c.args.self.now.cpu MayTake c.args.seats.now c.take.new.seats c.begin_taken.new.seats c.take.ensures.only_queue.cpu c.begin_taken.ensures.kinds

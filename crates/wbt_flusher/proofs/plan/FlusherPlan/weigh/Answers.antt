@@ -11,7 +11,7 @@ use Rattle.wbt_flusher.proofs.Fitting.{loaded_count, may_load}
 use Rattle.wbt_flusher.proofs.Going.{goes_nowhere, kept_more}
 use Rattle.wbt_flusher.proofs.Keeping.{debts_same}
 use Rattle.wbt_flusher.proofs.Loading.{count_loaded}
-use Rattle.wbt_flusher.proofs.Turning.{no_counts, one_count, steps_still}
+use Rattle.wbt_flusher.proofs.Turning.{no_counts, one_count, still_after}
 use Rattle.wbt_flusher.specs.Kinds.{AreCounts}
 use Rattle.wbt_flusher.proofs.plan.FlusherPlan.weigh.Goals as goal
 
@@ -95,4 +95,4 @@ returns-clause-kinds g c =
     let cpu = c.args.self.now.cpu in
     let l = c.load_count-count in
     let b = c.weigh_in_both in
-    steps_still cpu AreCounts c.args.seats.now l.new.seats b.new.seats (one_count cpu c.args.seats.now l.new.seats l.ensures.kinds) b.ensures.only_share.cpu
+    still_after cpu AreCounts c.args.seats.now l.new.seats b.new.seats (one_count cpu c.args.seats.now l.new.seats l.ensures.kinds) b.ensures.only_share.cpu
