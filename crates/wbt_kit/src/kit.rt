@@ -1,10 +1,16 @@
 //! A kit and the seats at it: how they are made, split and joined.
 
-ghost use Rattle.std.specs.Prelude.{◌≡◌, ◌<◌, ◌^◌, length, IfOk, IfErr};
+ghost use Rattle.std.specs.Prelude.{◌≡◌, ◌<◌, ◌^◌, [], length, map, IfOk, IfErr};
 ghost use Rattle.wbt_trace.specs.Lawful.{IsLawful};
-ghost use Rattle.wbt_fraction.specs.Several.{IsSeatOf, HasRoom, HasTotalRoom};
+ghost use Rattle.wbt_fraction.specs.Several.{AllFirst, CanSplit, HasRoom, HasTotalRoom, IsSeatOf};
+ghost use Rattle.wbt_fraction.specs.Totals.{room_of};
+ghost use Rattle.wbt_journal.specs.Machine.{domains};
 ghost use Rattle.wbt_published.specs.Passes.{IsPassOf};
+ghost use Rattle.wbt_queue.specs.Known.{opening as empty};
 ghost use Rattle.wbt_queue.specs.Passes.{IsPassOf as IsPassOfQueues};
+ghost use Rattle.wbt_table.specs.Calls.{IsFirst};
+ghost use Rattle.wbt_table.specs.Seat.{IsAt};
+ghost use Rattle.wbt_kit.specs.Opening as spec;
 ghost use Rattle.wbt_kit.specs.Kit.{IsKitOf, AreSeatsOf, AreFirst, HasOwners, IsHeldBy, CpusSplit, SharesSplit, PassesSplit, AreJoined};
 
 use crate::devices::{homes_of, owners_of, queue_sizes};
@@ -60,14 +66,10 @@ impl Kit {
         ensures first { IfOk result (λ made. AreFirst made.0 made.1) }
     {
         let owners = owners_of(alloc, trace)?;
-        let homes = homes_of(alloc, trace)?;
-        let sizes = queue_sizes(alloc, trace)?;
-        let layout = layout_of(alloc, trace, now)?;
-        let contexts = trace.contexts.as_slice().len() as u32;
-        let (throttle, cpu) = Throttle::make(alloc, layout)?;
-        let (shares, share) = Shares::make(alloc, domains_of(trace), homes.as_slice())?;
-        let (published, est) = Published::make(alloc, contexts, now)?;
-        let (queues, queue) = Queues::make(alloc, sizes.as_slice())?;
+        let (throttle, cpu) = make_throttle(alloc, trace, now)?;
+        let (shares, share) = make_shares(alloc, trace)?;
+        let (published, est) = Published::make(alloc, trace.contexts.as_slice().len() as u32, now)?;
+        let (queues, queue) = make_queues(alloc, trace)?;
         Ok((
             Kit {
                 throttle,
@@ -198,4 +200,39 @@ impl Kit {
             }
         }
     }
+}
+
+// The words of a trace's pages, marks, counters, limits and peaks, and the seat that holds every CPU and the timer.
+fn make_throttle(alloc: Global, trace: &Trace, now: u64) -> Result<(Throttle, CpuSeat), NoMemory>
+    requires lawful { IsLawful trace.now }
+    ensures layout { IfOk result (λ made. made.0.layout ≡ spec.layout_of trace.now now) }
+    ensures seat { IfOk result (λ made. IsAt made.0 made.1 × IsFirst made.1) }
+{
+    let layout = layout_of(alloc, trace, now)?;
+    Throttle::make(alloc, layout)
+}
+
+// The proportions of a trace's contexts in their domains, and the seat that has all stakes and rooms.
+fn make_shares(alloc: Global, trace: &Trace) -> Result<(Shares, ShareSeat), NoMemory>
+    requires lawful { IsLawful trace.now }
+    ensures domains { IfOk result (λ made. length made.0.domains ≡ domains trace.now) }
+    ensures homes { IfOk result (λ made. made.0.homes ≡ spec.homes_of trace.now) }
+    ensures seat { IfOk result (λ made. IsSeatOf made.0 made.1) }
+    ensures first { IfOk result (λ made. AllFirst made.1.domains × (made.1.totals.notes ≡ []) × (made.1.totals.stakes ≡ 2 ^ 32)) }
+    ensures rooms { IfOk result (λ made. (context : _) → context < length made.0.homes → room_of context made.1.totals.rooms ≡ 2 ^ 39) }
+    ensures shares_room { IfOk result (λ made. HasRoom made.1.domains × HasTotalRoom made.0.totals made.1.totals) }
+    ensures splits { IfOk result (λ made. CanSplit 64 made.0 made.1) }
+{
+    let homes = homes_of(alloc, trace)?;
+    Shares::make(alloc, domains_of(trace), homes.as_slice())
+}
+
+// A queue for each device of a trace, and the pass that has put nothing.
+fn make_queues(alloc: Global, trace: &Trace) -> Result<(Queues, QueuePass), NoMemory>
+    requires lawful { IsLawful trace.now }
+    ensures sizes { IfOk result (λ made. made.0.sizes ≡ spec.queue_sizes trace.now) }
+    ensures pass { IfOk result (λ made. made.1 ≡ record { names = made.0.names; known = map (λ _. empty) made.0.sizes }) }
+{
+    let sizes = queue_sizes(alloc, trace)?;
+    Queues::make(alloc, sizes.as_slice())
 }
