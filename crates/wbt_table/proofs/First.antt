@@ -8,7 +8,7 @@ use Rattle.wbt_grant.specs.State.{no_record, writer_in, held_of, opening}
 use Rattle.wbt_table.specs.declared.answer.Triple.{Triple}
 use Rattle.wbt_table.specs.declared.held.HeldLimits.{HeldLimits}
 use Rattle.wbt_table.specs.declared.layout.Layout.{Layout}
-use Rattle.wbt_table.specs.Held.{KeepsTriples, KeepsSequences, IsKept, first_triple, no_triple, triple_of}
+use Rattle.wbt_table.specs.Held.{KeepsSequences, IsKept, first_triple, no_triple, triple_of}
 use Rattle.wbt_table.specs.Layout.{setting, domains, no_limits}
 use Rattle.wbt_table.specs.Rule.{Cpus, Has, first_view}
 use Rattle.wbt_table.specs.Seat.{Keeps, Agrees, with_grants, IsSeat}

@@ -21,7 +21,6 @@ use Rattle.wbt_grant.specs.declared.record.CpuRecord.{CpuRecord}
 use Rattle.wbt_grant.specs.declared.record.TimerRecord.{TimerRecord}
 use Rattle.wbt_grant.specs.State.{State, held_of, found_of, version_of, is_sealed, sequence_of}
 use Rattle.wbt_grant.specs.Kinds.{Step, limits, sequence_now, last_found}
-use Rattle.wbt_grant.specs.SeatLaws.{LimitsAreWhole}
 use Rattle.wbt_grant.proofs.Reading.{limits_are_whole}
 use Rattle.wbt_grant.specs.Record.{one_more as one_step_more, is_whole, read_triple, claimed, page_stepped, absorbed, redirtied, given_back, found_already, dirtied}
 use Rattle.wbt_grant.specs.Setting.{Setting}

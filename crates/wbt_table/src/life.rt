@@ -1,10 +1,10 @@
 //! How a throttle begins, and how seats are split and joined.
 
-ghost use Rattle.std.specs.Prelude.{◌≡◌, ◌++◌, ◌*◌, ◌/◌, ◌<◌, ◌≤◌, Some, None, IfOk, IfErr, [], All, map, get_or, replicate, length};
+ghost use Rattle.std.specs.Prelude.{◌≡◌, ◌++◌, ◌*◌, ◌/◌, ◌%◌, ◌<◌, ◌≤◌, Some, None, IfOk, IfErr, [], All, map, get_or, min, replicate, length};
 ghost use Rattle.wbt_num.specs.Limits.{IsLawful};
 ghost use Rattle.wbt_num.specs.declared.most.TheConstants.{MOST_PAGES};
 ghost use Rattle.wbt_limits.specs.Words.{thresh_word_of};
-ghost use Rattle.wbt_table.specs.Held.{no_triple};
+ghost use Rattle.wbt_table.specs.Held.{first_triple, no_triple};
 ghost use Rattle.wbt_table.specs.Layout as spec;
 ghost use Rattle.wbt_table.specs.Layout.{IsLayout, setting};
 ghost use Rattle.wbt_table.specs.Rule.{Has, merged, without, alone};
@@ -44,14 +44,7 @@ impl Throttle {
             context: context_batch(layout.cpus),
         };
         let words = first_words(alloc, &layout, offsets)?;
-        let cpus = filled(alloc, Some(first_state()), layout.cpus as usize)?;
-        let left = 32u32.min(layout.cap);
-        let lefts = same_numbers(alloc, left as u64, layout.writers.as_slice().len())?;
-        let firsts = layout.firsts.as_slice();
-        let held = HeldLimits {
-            triples: first_triples(alloc, firsts, layout.cpus as usize * firsts.len())?,
-            sequences: same_numbers(alloc, 0, firsts.len())?,
-        };
+        let kept = first_kept(alloc, &layout)?;
         let (table, place) = Table::of_words(alloc, words.as_slice(), &layout)?;
         Ok((
             Throttle {
@@ -64,9 +57,9 @@ impl Throttle {
             },
             CpuSeat {
                 place,
-                cpus,
-                lefts,
-                held,
+                cpus: kept.cpus,
+                lefts: kept.lefts,
+                held: kept.held,
                 timer: Some(0),
             },
         ))
@@ -203,6 +196,38 @@ fn take_over(into: &mut Vec<Option<CpuState>>, from: &[Option<CpuState>])
             into[i] = Some(state);
         }
     }
+}
+
+// What the first seat of a throttle keeps beside its place.
+#[derive(Drop)]
+struct FirstKept {
+    // By CPU.
+    cpus: Vec<Option<CpuState>>,
+    // By writer.
+    lefts: Vec<u64>,
+    held: HeldLimits,
+}
+
+// Each CPU has done nothing and holds the first limits of each domain, each writer has its first pages left, and no sequence has begun.
+fn first_kept(alloc: Global, layout: &Layout) -> Result<FirstKept, AllocError>
+    requires layout { IsLayout layout.now }
+    ensures cpus { IfOk result (λ kept. kept.cpus.items ≡ replicate layout.now.cpus (Some no_state)) }
+    ensures lefts { IfOk result (λ kept. kept.lefts.items ≡ replicate (length layout.now.writers) (min 32 layout.now.cap)) }
+    ensures long { IfOk result (λ kept. length kept.held.triples.items ≡ layout.now.cpus * spec.domains layout.now) }
+    ensures first { IfOk result (λ kept. (k : _) → k < layout.now.cpus * spec.domains layout.now → get_or kept.held.triples.items k no_triple ≡ first_triple (get_or layout.now.firsts (k % spec.domains layout.now) spec.no_limits)) }
+    ensures sequences { IfOk result (λ kept. kept.held.sequences.items ≡ replicate (spec.domains layout.now) 0) }
+{
+    let cpus = filled(alloc, Some(first_state()), layout.cpus as usize)?;
+    let left = 32u32.min(layout.cap);
+    let lefts = same_numbers(alloc, left as u64, layout.writers.as_slice().len())?;
+    let firsts = layout.firsts.as_slice();
+    let triples = first_triples(alloc, firsts, layout.cpus as usize * firsts.len())?;
+    let sequences = same_numbers(alloc, 0, firsts.len())?;
+    Ok(FirstKept {
+        cpus,
+        lefts,
+        held: HeldLimits { triples, sequences },
+    })
 }
 
 // A CPU that has done nothing.
