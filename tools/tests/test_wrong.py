@@ -182,4 +182,5 @@ class Program(WithDirectory):
         self.assertRegex(lines[-1], r"^\d+ passed, 0 failed, 1 skipped$")
 
     def test_words_of_no_rule(self) -> None:
-        self.assertEqual(self.run_with("no such rule")[0], 1)
+        self.assertEqual(self.run_with("no such rule"), (1, [
+            "failed: no rule has one of these words in its name", "0 passed, 1 failed, 0 skipped"]))
