@@ -165,7 +165,7 @@ class Sums(WithDirectory):
             "tools: with --jobs 1", "runs:one: skipped: --unproved ../out/wbsim_unproved one: x",
             "runs:two: skipped: --unproved ../out/wbsim_unproved two: x",
             "wrong-rules: with --first --quick --jobs 1", "29 passed, 0 failed, 2 skipped"]))
-        self.assertRegex(said, r"check: runs:two: 1 passed, 0 failed, 1 skipped \(\d+ s\)\n")
+        self.assertRegex(said, r"check: runs:two: 1 passed, 0 failed, 1 skipped \(\d+ s, and \d+ s of processors\)\n")
         self.assertRegex(said, r"check: \d+ s, and \d+ s of processors\n$")
 
     def test_with_the_proved_program_nothing_is_too_slow(self) -> None:
