@@ -225,7 +225,7 @@ class Recordings(WithDirectory):
         self.assertIn("tracefs isn't there", err)
 
     def test_a_command_runs_to_its_end_or_to_the_time(self) -> None:
-        for words, seconds, status in (("exit 3", None, 3), ("exit 0", 9, 0), ("sleep 60", 1, 0)):
+        for words, seconds, status in (("exit 3", None, 3), ("exit 0", 9, 0), ("exec sleep 60", 1, 0)):
             it = recording.Recording(Wish("text", seconds, ("sh", "-c", words)))
             it.run_command()
             it.end_command()

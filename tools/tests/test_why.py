@@ -14,6 +14,7 @@ from journals.whole_text import MOST_BYTES, WholeText, read_whole
 from program.errors import Cause, Fault, ReadFault
 
 from .given import EXAMPLES, ROOT, TOOLS, WithDirectory
+from .test_kernel import printed
 
 MACHINE = "cpus 1\navail 0 100000\ndevice 0 25600 0 100\ncontext 0 0 0\ninode 0 0 2\ntask 0 0\nflusher 0 0 0\n"
 LAW = "cpus 4\ncap 1024\nnow 5000\ntask 250 250 4999\nestimate 25600 25600\ncontext 17492\ndomain 19995 9985 19995 17492 19995\n"
@@ -185,7 +186,7 @@ class Why(WithDirectory):
             0, "standard input: a lawful trace: 1 CPU, 1 device, 0 cgroups, 1 context, 1 inode, 2 pages, 1 task, 1 flusher\n", ""))
         for name in sorted(os.listdir(EXAMPLES)):
             if name.endswith((".trace", ".law")):
-                status, said, _ = why(os.path.join(EXAMPLES, name))
+                status, said, _ = printed("why", os.path.join(EXAMPLES, name))
                 self.assertEqual((status, "lawful " + ("law" if name.endswith(".law") else "trace") in said), (0, True), name)
 
     def test_what_the_text_is_to_be(self) -> None:

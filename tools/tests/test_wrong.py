@@ -6,7 +6,9 @@ import re
 import subprocess
 import sys
 from collections import Counter
+from unittest import mock
 
+from wrong import trying
 from wrong.inputs import FULL, LOOP, Input, examples, inputs, law_rows, small_replays, sum_of, trace_text, worked_runs
 from wrong.loops import OF_LOOPS
 from wrong.order import WITHOUT_EFFECT, changed
@@ -79,6 +81,7 @@ class OfRules(WithDirectory):
     def setUp(self) -> None:
         super().setUp()
         self.copy = Copy(TOOLS, self.directory)
+        self.addCleanup(self.copy.close)
 
     def test_each_has_a_name_and_a_place(self) -> None:
         rules = (*RULES, *WITHOUT_EFFECT)
@@ -124,10 +127,27 @@ class OfRules(WithDirectory):
         self.assertEqual(self.copy.noticing(rounded, [[empty], [decision]]), [decision])
         self.assertEqual(self.copy.noticing(same, [[decision, empty], [decision]]), [])
 
+    def test_each_file_is_loaded_anew(self) -> None:
+        decision, row = (next(it for it in inputs(ROOT) if it.command == command) for command in ("law", "strict"))
+        for name in sorted({rule.file for rule in (*RULES, *WITHOUT_EFFECT)}):
+            with open(os.path.join(TOOLS, name), encoding="utf-8") as file:
+                first = next(line for line in file if not line.startswith("#!"))
+            for new, noticing in (("raise SystemExit\n", [decision, row]), ("", [])):
+                with self.subTest(name, new=new):
+                    self.assertEqual(self.copy.noticing(Rule("x", name, first, new + first + "\n"), [[decision, row]]), noticing)
+
     def test_a_rule_that_ends_the_program(self) -> None:
         two = Input("two", "replay", "cpus 1\navail 0 1\n", sum_of("x"), 1)
         ends = Rule("x", "replay.py", "        self.stopped, self.spent = 0, False\n", "        os._exit(9)\n")
         self.assertEqual(self.copy.noticing(ends, [[two, two]]), [two, two])
+        self.assertEqual(self.copy.noticing(ends, [[two, two]], 1), [two])
+
+    def test_a_rule_that_takes_too_long(self) -> None:
+        law = next(it for it in inputs(ROOT) if it.name == "decision.law")
+        lasts = Rule("x", "laws/decision.py", "ratelimit * terms.ratio >> 10", "[0 for _ in iter(int, 1)]")
+        with mock.patch.object(trying, "MOST_SECONDS", 1):
+            self.assertEqual(self.copy.noticing(lasts, [[law, law]]), [law, law])
+        self.assertEqual(self.copy.differing([law]), [], "the next one is answered")
 
 
 class Program(WithDirectory):
@@ -141,6 +161,11 @@ class Program(WithDirectory):
         self.assertEqual((status, lines[0]), (0, "noticed: a rate is rounded up: by the row 'a wait below the limit'"))
         self.assertRegex(lines[1], r"^1 rules noticed, 0 unnoticed, by \d+ inputs$")
         self.assertRegex(lines[2], r"^\d+ passed, 0 failed, 0 skipped$")
+
+    def test_the_first_input_alone(self) -> None:
+        status, lines = self.run_with("--first", "an average falls by a quarter")
+        self.assertRegex(lines[0], r"^noticed: an average falls by a quarter: by [^,]*$")
+        self.assertEqual(status, 0)
 
     def test_a_rule_that_no_short_input_notices(self) -> None:
         name = "a replay of all its steps is spent by a CPU that its halt line stops"
@@ -157,4 +182,5 @@ class Program(WithDirectory):
         self.assertRegex(lines[-1], r"^\d+ passed, 0 failed, 1 skipped$")
 
     def test_words_of_no_rule(self) -> None:
-        self.assertEqual(self.run_with("no such rule")[0], 1)
+        self.assertEqual(self.run_with("no such rule"), (1, [
+            "failed: no rule has one of these words in its name", "0 passed, 1 failed, 0 skipped"]))

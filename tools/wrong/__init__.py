@@ -7,6 +7,7 @@
     loops    the wrong rules of the lines of a closed loop
     rules    all wrong rules
     outputs  what the program prints of inputs; it runs in the changed copy
+    serving  the program there that loads the copy for each change, and answers
     trying   the copy, the change, and which inputs notice it
 
 `tools/wrong-rules` is their program.

@@ -7,6 +7,7 @@ import json
 import os
 import re
 from dataclasses import dataclass
+from functools import cached_property
 from typing import Any
 
 from .values import Values
@@ -42,6 +43,11 @@ class Input:
     wanted: str
     length: int
     steps: bool = True
+
+    @cached_property
+    def request(self) -> str:
+        """The line that asks what is printed of it."""
+        return json.dumps([self.command, self.steps, self.text])
 
 
 def sum_of(text: str) -> str:

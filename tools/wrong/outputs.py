@@ -1,24 +1,17 @@
-"""What the program prints of inputs: the changed copy runs this. It reads a line of JSON with a list of `[command, steps, text]`, and
-prints for each the sum of its output, or how it ended otherwise. Its word is the most seconds of processor time that it may take."""
+"""What the programs of a copy print of inputs, as the copy stands when this is loaded."""
 from __future__ import annotations
 
 import hashlib
-import json
-import os
-import resource
-import sys
+from collections.abc import Callable
 
-sys.dont_write_bytecode = True
-sys.path.insert(0, os.path.dirname(os.path.dirname(os.path.realpath(__file__))))
-
-from journals.law_reader import law_of  # noqa: E402
-from journals.whole_text import WholeText  # noqa: E402
-from laws.counters import error_of  # noqa: E402
-from laws.decision import DomainRead, Task, decide  # noqa: E402
-from laws.limits import Limits  # noqa: E402
-from laws.position import position  # noqa: E402
-from laws.strict import strict_position  # noqa: E402
-from replay import Machine  # noqa: E402
+from journals.law_reader import law_of
+from journals.whole_text import WholeText
+from laws.counters import error_of
+from laws.decision import DomainRead, Task, decide
+from laws.limits import Limits
+from laws.position import position
+from laws.strict import strict_position
+from replay import Machine
 
 
 def replayed(text: str, steps: bool) -> str:
@@ -30,7 +23,7 @@ def replayed(text: str, steps: bool) -> str:
     return "".join(line + "\n" for line in machine.journal())
 
 
-def decided(text: str) -> str:
+def decided(text: str, _: bool) -> str:
     """What `law` writes."""
     law = law_of(WholeText("a law text", text.encode("latin-1")))
     reads = [DomainRead(Limits(it.thresh, it.background, it.hard), it.pages, it.context_thresh) for it in law.domains]
@@ -41,23 +34,18 @@ def decided(text: str) -> str:
     return f"ratio {' '.join(map(str, ratios))}\ndecision {it.kind.value} {it.pause} {it.left}\ntask {numbers}\n"
 
 
-def strict_ratio(text: str) -> str:
+def strict_ratio(text: str, _: bool) -> str:
     """The strict ratio of a domain's read and a context's pages."""
     *limits, dirty, context_limit, pages = map(int, text.split(" "))
     return f"{strict_position(DomainRead(Limits(*limits), dirty, context_limit), pages).ratio}\n"
 
 
-def main() -> None:
-    """A line for each input."""
-    seconds = int(sys.argv[1])
-    resource.setrlimit(resource.RLIMIT_CPU, (seconds, seconds))
-    for command, steps, text in json.loads(sys.stdin.readline()):
-        try:
-            printed = replayed(text, steps) if command == "replay" else {"law": decided, "strict": strict_ratio}[command](text)
-            print(hashlib.sha256(printed.encode("latin-1")).hexdigest(), flush=True)
-        except Exception as error:  # pylint: disable=broad-except
-            print(f"{type(error).__name__} {error}".replace("\n", " "), flush=True)
+COMMANDS: dict[str, Callable[[str, bool], str]] = {"replay": replayed, "law": decided, "strict": strict_ratio}
 
 
-if __name__ == "__main__":
-    main()
+def answer(command: str, steps: bool, text: str) -> str:
+    """The sum of what is printed of an input, or how it ended otherwise; one line."""
+    try:
+        return hashlib.sha256(COMMANDS[command](text, steps).encode("latin-1")).hexdigest()
+    except Exception as error:  # pylint: disable=broad-except
+        return f"{type(error).__name__} {error}".replace("\n", " ")

@@ -16,11 +16,13 @@ class Workers:
     """So many copies of tools/, in folders of one folder. Leaving it drops what hasn't begun."""
 
     def __init__(self, tools: str, folder: str, number: int) -> None:
+        self.all: list[Copy] = []
         self.copies: queue.SimpleQueue[Copy] = queue.SimpleQueue()
         for at in range(number):
             own = os.path.join(folder, str(at))
             os.mkdir(own)
-            self.copies.put(Copy(tools, own))
+            self.all.append(Copy(tools, own))
+            self.copies.put(self.all[-1])
         self.pool = ThreadPoolExecutor(number)
 
     def __enter__(self) -> Workers:
@@ -28,6 +30,8 @@ class Workers:
 
     def __exit__(self, kind: type[BaseException] | None, error: BaseException | None, trace: TracebackType | None) -> None:
         self.pool.shutdown(cancel_futures=True)
+        for copy in self.all:
+            copy.close()
 
     def differing(self, parts: Iterable[Sequence[Input]]) -> Iterator[list[Input]]:
         """For each part the inputs of which the unchanged programs print something else; they begin at once."""
