@@ -1,5 +1,5 @@
 //! Single steps that every turn of a CPU takes over the words that all threads share, each with what it adds to the CPU's record and to
-//! its log.
+//! its log, and with the word of its steps' kinds, of which `wbt_turns` makes whole turns.
 //!
 //! ```text
 //! Pen          the lists of a CPU's log in a turn: room is made before the turn's first step

@@ -8,7 +8,7 @@ use Rattle.std.proofs.lemmas.Option.{slice_get_within, get_or_from_slice_get, sl
 use Rattle.wbt_journal.specs.Machine.{pages_of_action, pages_of_task, rests_after, rests_last, cpu_of_task}
 use Rattle.wbt_journal.specs.Side.{TaskState, all_writers, first_side, first_state, first_states, is_empty, is_on, is_own_task}
 use Rattle.wbt_journal.proofs.Few.{few_writers}
-use Rattle.wbt_num.specs.declared.most.TheConstants.{MOST_ACTIONS, MOST_PAGES, MOST_WRITERS}
+use Rattle.wbt_num.specs.declared.most.TheConstants.{MOST_ACTIONS, MOST_PAGES}
 use Rattle.wbt_task.specs.Allowance.{first}
 use Rattle.wbt_task.specs.Counts.{AllHavePagesLeft, HasPagesLeft, counted, dirtied_by}
 use Rattle.wbt_task.specs.History.{new_cpu, new_writer, writer_of}

@@ -1,6 +1,6 @@
 use Rattle.std.proofs.Common.{ℕ, Option, refl, subst}
 use Rattle.wbt_kit.specs.declared.kit.Seats.{Seats}
-use Rattle.wbt_run_steps.proofs.Logging.{grant_as, none_as}
+use Rattle.wbt_run_steps.proofs.Logging.{grant_as}
 use Rattle.wbt_table.specs.History.{LogsGrant}
 use Rattle.wbt_table.specs.Seat.{LogComes}
 use Rattle.wbt_table.specs.declared.rule.Granted.{Granted}

@@ -9,7 +9,7 @@ use Rattle.wbt_writer.proofs.Exacting.{takes, takes_none, takes_some}
 use Rattle.wbt_writer.proofs.Going.{at_rested, with_tasks, goes_on_by_check, goes_on_by_rest, goes_on_by_write, halted_by_check, halted_by_write, spent_by_write, turned_by_already, turned_by_check, turned_by_fresh, turned_by_rest}
 use Rattle.std.proofs.Common.{refl}
 use Rattle.wbt_run_steps.proofs.Gating.{asked_none}
-use Rattle.wbt_run_steps.proofs.Logging.{none_as, takes_none}
+use Rattle.wbt_run_steps.proofs.Logging.{none_as, takes_none as rests_none}
 use Rattle.wbt_table.specs.Layout.{domains}
 
 pub returns-in-Ok-clause-turned : goal.returns-in-Ok-clause-turned
@@ -84,4 +84,4 @@ returns-in-Spent-clause-took g c = takes_none (g.C.Clock.told c.args.hands.now.c
 
 pub returns-in-Rest-clause-kinds : goal.returns-in-Rest-clause-kinds
 returns-in-Rest-clause-kinds g c =
-    takes_none (domains c.args.hands.now.kit.now.throttle.layout) c.args.place.now.cpu c.args.seats.now c.args.seats.now (none_as c.args.place.now.cpu c.args.seats.now c.args.seats.now refl)
+    rests_none (domains c.args.hands.now.kit.now.throttle.layout) c.args.place.now.cpu c.args.seats.now c.args.seats.now (none_as c.args.place.now.cpu c.args.seats.now c.args.seats.now refl)
