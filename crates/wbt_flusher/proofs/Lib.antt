@@ -40,3 +40,5 @@ pub mod Giving
 pub mod Ageing
 pub mod Deciding
 pub mod Aged
+pub mod Turning
+pub mod Events

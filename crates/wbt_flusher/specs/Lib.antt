@@ -14,3 +14,4 @@ pub mod Took
 pub mod Aged
 pub mod Cut
 pub mod Gives
+pub mod Kinds

@@ -11,7 +11,9 @@ ghost use Rattle.wbt_kit.specs.declared.kit.Seats.{Seats};
 ghost use Rattle.wbt_kit.specs.declared.turn.Turn.TheVariants.{Halted, Spent, Stepped};
 ghost use Rattle.wbt_rules.specs.declared.age.TheConstants.{MOST_NOTICED};
 ghost use Rattle.wbt_rules.specs.declared.moments.TheConstants.{MOST_FAULTS};
+ghost use Rattle.wbt_turns.specs.Words.{MayTake};
 ghost use Rattle.wbt_run_steps.specs.Gate.{AskedBeforeEach};
+ghost use Rattle.wbt_run_steps.specs.Kinds.{Steps};
 ghost use Rattle.wbt_run_steps.specs.Inodes.{OnlyQueue};
 ghost use Rattle.wbt_run_steps.specs.Queues.{OnlyDevice};
 ghost use Rattle.wbt_flusher.specs.Ageing.{DecidesByAge, NoticesAll, NoticesNumber, TakesAny, TakesByAge, TakesDue};
@@ -53,6 +55,7 @@ impl FlusherPlan {
         requires moment { now < 2 ^ 62 }
         requires room { MOST_NOTICED + 1 ≤ pen.old.room }
         ensures asked { AskedBeforeEach self.now.cpu (G.said hands.now.gate.now) seats.old seats.new }
+        ensures kinds { Steps self.now.cpu MayTake seats.old seats.new }
         ensures ends { (moments : _) (written : Option _) → Contains moments.estimates now → Ends self.now hands.now.kit.now false moments (G.said hands.now.gate.now) ⊥ result (sight work.old seats.old pen.old.log written) (sight work.new seats.new pen.new.log written) }
         ensures decides { result ≡ Stepped → (written : Option _) → DecidesByAge self.now hands.now.kit.now now over (sight work.old seats.old pen.old.log written) (sight work.new seats.new pen.new.log written) }
         ensures halts { result ≡ Halted → (written : Option _) → LosesByAge self.now now over (sight work.old seats.old pen.old.log written) (sight work.new seats.new pen.new.log written) }
@@ -231,6 +234,7 @@ impl FlusherPlan {
         requires idle { IsIdle work.old }
         requires inode { IsInode self.now inode }
         ensures asked { AskedBeforeEach self.now.cpu (G.said hands.now.gate.now) seats.old seats.new }
+        ensures kinds { Steps self.now.cpu MayTake seats.old seats.new }
         ensures ends { (drain : _) (moments : _) (log : _) (written : Option _) → Ends self.now hands.now.kit.now drain moments (G.said hands.now.gate.now) ⊥ result (sight work.old seats.old log written) (sight work.new seats.new log written) }
         ensures begins { result ≡ Stepped → (log : _) (written : Option _) → BeginsScan self.now hands.now.kit.now inode (sight work.old seats.old log written) (sight work.new seats.new log written) }
         ensures halts { result ≡ Halted → (work.new ≡ work.old) × (seats.new ≡ seats.old) }

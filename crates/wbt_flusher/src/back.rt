@@ -4,10 +4,12 @@ ghost use Rattle.std.specs.Prelude.{◌≡◌, ◌+◌, ◌<◌, ◌≤◌, fals
 ghost use Rattle.wbt_table.specs.Calls.{HasNoPageSteps};
 ghost use Rattle.wbt_table.specs.Layout.{setting};
 ghost use Rattle.wbt_run_steps.specs.Gate.{AskedBeforeEach};
+ghost use Rattle.wbt_run_steps.specs.Kinds.{StepsInTurn};
 ghost use Rattle.wbt_flusher.specs.Answers.{Ends, Goes, GoesKept, IsBack, IsReady};
 ghost use Rattle.wbt_flusher.specs.Cut.{DoesNothing, ReturnsSome, StopsComingBack};
 ghost use Rattle.wbt_flusher.specs.Did.{Fits, KeepsDebts};
 ghost use Rattle.wbt_flusher.specs.Gives.{Gives, StandsAfter};
+ghost use Rattle.wbt_flusher.specs.Kinds.{ComesAfter, MayOweEvent, StepsBy, StepsToGive};
 ghost use Rattle.wbt_flusher.specs.Plans.{Suits, IsInode};
 ghost use Rattle.wbt_flusher.specs.Sights.{sight};
 ghost use Rattle.wbt_flusher.specs.Took.{ComesBack, EndsReturn, ReturnsPage};
@@ -52,6 +54,7 @@ impl FlusherPlan {
         requires phase { work.old.phase ≡ Returning giving }
         requires room { 4 ≤ pen.old.room }
         ensures asked { AskedBeforeEach self.now.cpu (G.said hands.now.gate.now) seats.old seats.new }
+        ensures kinds { StepsInTurn self.now.domains self.now.cpu result seats.old seats.new }
         ensures ends { (drain : _) (moments : _) (written : Option _) → Ends self.now hands.now.kit.now drain moments (G.said hands.now.gate.now) ⊥ result (sight work.old seats.old pen.old.log written) (sight work.new seats.new pen.new.log written) }
         ensures returns { result ≡ Stepped → (written : Option _) → ReturnsPage self.now hands.now.kit.now (C.told hands.now.clock.now) (G.said hands.now.gate.now) giving (sight work.old seats.old pen.old.log written) (sight work.new seats.new pen.new.log written) }
         ensures halts { result ≡ Halted → (written : Option _) → ReturnsSome self.now hands.now.kit.now (G.said hands.now.gate.now) giving (sight work.old seats.old pen.old.log written) (sight work.new seats.new pen.new.log written) }
@@ -89,6 +92,7 @@ impl FlusherPlan {
         requires phase { work.old.phase ≡ Returning giving }
         requires room { 1 ≤ pen.old.room }
         ensures asked { AskedBeforeEach self.now.cpu (G.said hands.now.gate.now) seats.old seats.new }
+        ensures kinds { IfOk result (λ given. StepsToGive self.now.cpu given seats.old seats.new) }
         ensures goes { Goes self.now hands.now.kit.now seats.old seats.new pen.old.log pen.new.log work.old work.new }
         ensures gives { IfOk result (λ given. (written : Option _) → Gives self.now hands.now.kit.now (G.said hands.now.gate.now) giving given (sight work.old seats.old pen.old.log written) (sight work.new seats.new pen.new.log written)) }
         ensures stands { IfOk result (λ given. StandsAfter self.now hands.now.kit.now giving given work.new seats.new) }
@@ -142,8 +146,10 @@ impl FlusherPlan {
     ) -> Turn
         requires suits { Suits self.now hands.now.kit.now }
         requires back { IsBack self.now hands.now.kit.now giving work.old seats.old }
+        requires event { MayOweEvent self.now hands.now.kit.now seats.old }
         requires room { 3 ≤ pen.old.room }
         ensures asked { AskedBeforeEach self.now.cpu (G.said hands.now.gate.now) seats.old seats.new }
+        ensures kinds { StepsBy self.now.cpu ComesAfter result seats.old seats.new }
         ensures ends { (drain : _) (moments : _) (written : Option _) → Ends self.now hands.now.kit.now drain moments (G.said hands.now.gate.now) ⊥ result (sight work.old seats.old pen.old.log written) (sight work.new seats.new pen.new.log written) }
         ensures comes { result ≡ Stepped → (written : Option _) → ComesBack self.now hands.now.kit.now (C.told hands.now.clock.now) (G.said hands.now.gate.now) giving (sight work.old seats.old pen.old.log written) (sight work.new seats.new pen.new.log written) }
         ensures halts { result ≡ Halted → (written : Option _) → StopsComingBack self.now hands.now.kit.now (G.said hands.now.gate.now) giving (sight work.old seats.old pen.old.log written) (sight work.new seats.new pen.new.log written) }

@@ -1,8 +1,10 @@
 //! The test of an idle flusher: whether a domain is over background.
 
-ghost use Rattle.std.specs.Prelude.{◌≡◌, ◌<◌, ◌≤◌, ◌^◌, IfSome, IfNone};
+ghost use Rattle.std.specs.Prelude.{◌≡◌, ◌<◌, ◌-◌, ◌≤◌, ◌^◌, IfSome, IfNone};
 ghost use Rattle.wbt_num.specs.Limits.{IsLawful};
+ghost use Rattle.wbt_turns.specs.Words.{loads};
 ghost use Rattle.wbt_run_steps.specs.Gate.{AskedBeforeEach};
+ghost use Rattle.wbt_run_steps.specs.Kinds.{StepsAs, StepsPart};
 ghost use Rattle.wbt_flusher.specs.Answers.{GoesQuiet};
 ghost use Rattle.wbt_flusher.specs.Cut.{ReadsPart, ReadsSome};
 ghost use Rattle.wbt_flusher.specs.Did.{Fits, KeepsDebts, IsStopped};
@@ -42,6 +44,8 @@ impl FlusherPlan {
         requires suits { Suits self.now hands.now.kit.now }
         requires fits { Fits self.now hands.now.kit.now seats.old }
         ensures asked { AskedBeforeEach self.now.cpu (G.said hands.now.gate.now) seats.old seats.new }
+        ensures kinds { IfSome result (λ _. StepsAs self.now.cpu (loads self.now.domains) seats.old seats.new) }
+        ensures cut { IfNone result (StepsPart self.now.cpu (loads self.now.domains) seats.old seats.new) }
         ensures goes { GoesQuiet self.now hands.now.kit.now seats.old seats.new }
         ensures fits { Fits self.now hands.now.kit.now seats.new }
         ensures debts { KeepsDebts self.now seats.old seats.new }
@@ -66,6 +70,8 @@ impl FlusherPlan {
         requires suits { Suits self.now hands.now.kit.now }
         requires fits { Fits self.now hands.now.kit.now seats.old }
         ensures asked { AskedBeforeEach self.now.cpu (G.said hands.now.gate.now) seats.old seats.new }
+        ensures kinds { IfSome result (λ _. StepsAs self.now.cpu (loads (self.now.domains - 1)) seats.old seats.new) }
+        ensures cut { IfNone result (StepsPart self.now.cpu (loads (self.now.domains - 1)) seats.old seats.new) }
         ensures goes { GoesQuiet self.now hands.now.kit.now seats.old seats.new }
         ensures fits { Fits self.now hands.now.kit.now seats.new }
         ensures debts { KeepsDebts self.now seats.old seats.new }
@@ -95,6 +101,8 @@ impl FlusherPlan {
         requires fits { Fits self.now hands.now.kit.now seats.old }
         requires domain { domain < self.now.domains }
         ensures asked { AskedBeforeEach self.now.cpu (G.said hands.now.gate.now) seats.old seats.new }
+        ensures kinds { IfSome result (λ _. StepsAs self.now.cpu (loads 1) seats.old seats.new) }
+        ensures cut { IfNone result (StepsPart self.now.cpu (loads 1) seats.old seats.new) }
         ensures goes { GoesQuiet self.now hands.now.kit.now seats.old seats.new }
         ensures fits { Fits self.now hands.now.kit.now seats.new }
         ensures debts { KeepsDebts self.now seats.old seats.new }

@@ -2,7 +2,9 @@
 
 ghost use Rattle.std.specs.Prelude.{◌↔◌, ◌≡◌, ◌≤◌, ◌==◌, [], false, IsTrue, IsFalse, Option};
 ghost use Rattle.wbt_io.specs.Faults.{HasRisen};
+ghost use Rattle.wbt_turns.specs.Words.{MayMark};
 ghost use Rattle.wbt_run_steps.specs.Gate.{AskedBeforeEach};
+ghost use Rattle.wbt_run_steps.specs.Kinds as kinds;
 ghost use Rattle.wbt_flusher.specs.Answers.{Ends, EndsBy, GoesKept, IsOpen, Steps};
 ghost use Rattle.wbt_flusher.specs.Cut.{DoesNothing, FailsToClose};
 ghost use Rattle.wbt_flusher.specs.Did.{Fits, KeepsDebts, IsStopped};
@@ -40,6 +42,7 @@ impl FlusherPlan {
         requires open { IsOpen self.now hands.now.kit.now scan work.old seats.old }
         requires room { 1 ≤ pen.old.room }
         ensures asked { AskedBeforeEach self.now.cpu (G.said hands.now.gate.now) seats.old seats.new }
+        ensures kinds { kinds.Steps self.now.cpu MayMark seats.old seats.new }
         ensures later { D.faults disk.old ≤ D.faults disk.new }
         ensures ends { EndsBy (C.told hands.now.clock.now) (λ moments. Ends self.now hands.now.kit.now false moments (G.said hands.now.gate.now) (HasRisen (D.faults disk.old) (D.faults disk.new)) result (sight work.old seats.old pen.old.log (D.written disk.old)) (sight work.new seats.new pen.new.log (D.written disk.new))) }
         ensures closes { result ≡ Stepped → Closes self.now hands.now.kit.now (C.told hands.now.clock.now) scan (sight work.old seats.old pen.old.log (D.written disk.old)) (sight work.new seats.new pen.new.log (D.written disk.new)) }
@@ -96,6 +99,7 @@ impl FlusherPlan {
         requires phase { work.old.phase ≡ Scanning scan }
         requires scan { IsScan self.now work.old.batch.items scan }
         ensures asked { AskedBeforeEach self.now.cpu (G.said hands.now.gate.now) seats.old seats.new }
+        ensures kinds { kinds.Steps self.now.cpu MayMark seats.old seats.new }
         ensures goes { GoesKept self.now hands.now.kit.now seats.old seats.new work.old work.new }
         ensures fits { Fits self.now hands.now.kit.now seats.new }
         ensures lists { HasLists self.now work.new }

@@ -12,9 +12,11 @@ ghost use Rattle.wbt_published.specs.Publishing.{IsComplete, IsNewest};
 ghost use Rattle.wbt_run_laws.specs.Notes.{IsNewest as IsNewestKnown};
 ghost use Rattle.wbt_run_steps.specs.Reads.{ReadsEstimate};
 ghost use Rattle.wbt_run_steps.specs.Gate.{AskedBeforeEach};
+ghost use Rattle.wbt_run_steps.specs.Kinds.{Steps};
 ghost use Rattle.wbt_flusher.specs.Answers.{GoesAt, GoesQuiet};
 ghost use Rattle.wbt_flusher.specs.Cut.{MeasuresSome, StopsAtContext};
 ghost use Rattle.wbt_flusher.specs.Did.{Fits, KeepsDebts, IsMeasured, IsStopped};
+ghost use Rattle.wbt_flusher.specs.Kinds.{AreCounts};
 ghost use Rattle.wbt_flusher.specs.Plans.{Suits, IsPlan, context_at};
 ghost use Rattle.wbt_flusher.specs.Reads.{Measures, MeasuresAll, sample_of};
 ghost use Rattle.wbt_flusher.specs.Sights.{sight};
@@ -68,6 +70,7 @@ impl FlusherPlan {
         requires room { length self.now.contexts ≤ pen.old.room }
         requires estimates { length self.now.contexts ≤ pen.old.estimates }
         ensures asked { AskedBeforeEach self.now.cpu (G.said hands.now.gate.now) seats.old seats.new }
+        ensures kinds { Steps self.now.cpu AreCounts seats.old seats.new }
         ensures goes { GoesAt now self.now hands.now.kit.now seats.old seats.new pen.old.log pen.new.log work.old work.new }
         ensures fits { Fits self.now hands.now.kit.now seats.new }
         ensures lists { HasLists self.now work.new }
@@ -110,6 +113,7 @@ impl FlusherPlan {
         requires room { 1 ≤ pen.old.room }
         requires estimates { 1 ≤ pen.old.estimates }
         ensures asked { AskedBeforeEach self.now.cpu (G.said hands.now.gate.now) seats.old seats.new }
+        ensures kinds { Steps self.now.cpu AreCounts seats.old seats.new }
         ensures goes { GoesAt now self.now hands.now.kit.now seats.old seats.new pen.old.log pen.new.log work.old work.new }
         ensures fits { Fits self.now hands.now.kit.now seats.new }
         ensures lists { HasLists self.now work.new }

@@ -3,10 +3,13 @@
 ghost use Rattle.std.specs.Prelude.{◌≡◌, ◌+◌, ◌≤◌, OnOk, OnErr, Option, false};
 ghost use Rattle.wbt_table.specs.Calls.{HasNoPageSteps};
 ghost use Rattle.wbt_table.specs.Layout.{setting};
+ghost use Rattle.wbt_turns.specs.Words.{IsSettled};
 ghost use Rattle.wbt_run_steps.specs.Gate.{AskedBeforeEach};
+ghost use Rattle.wbt_run_steps.specs.Kinds.{StepsInTurn};
 ghost use Rattle.wbt_flusher.specs.Answers.{Ends, Goes, IsDown, IsReady};
 ghost use Rattle.wbt_flusher.specs.Cut.{CompletesSome, DoesNothing};
 ghost use Rattle.wbt_flusher.specs.Did.{Fits, OwesNothing, AreOwed};
+ghost use Rattle.wbt_flusher.specs.Kinds.{OwesEvent, StepsBy};
 ghost use Rattle.wbt_flusher.specs.Plans.{Suits};
 ghost use Rattle.wbt_flusher.specs.Sights.{sight};
 ghost use Rattle.wbt_flusher.specs.Took.{CompletesPage, DonePage, Lands};
@@ -38,6 +41,7 @@ impl FlusherPlan {
         requires phase { work.old.phase ≡ Flying flight }
         requires room { 6 ≤ pen.old.room }
         ensures asked { AskedBeforeEach self.now.cpu (G.said hands.now.gate.now) seats.old seats.new }
+        ensures kinds { StepsInTurn self.now.domains self.now.cpu result seats.old seats.new }
         ensures ends { (drain : _) (moments : _) (written : Option _) → Ends self.now hands.now.kit.now drain moments (G.said hands.now.gate.now) ⊥ result (sight work.old seats.old pen.old.log written) (sight work.new seats.new pen.new.log written) }
         ensures lands { result ≡ Stepped → (written : Option _) → CompletesPage self.now hands.now.kit.now (G.said hands.now.gate.now) flight (sight work.old seats.old pen.old.log written) (sight work.new seats.new pen.new.log written) }
         ensures halts { result ≡ Halted → (written : Option _) → CompletesSome self.now hands.now.kit.now (G.said hands.now.gate.now) flight (sight work.old seats.old pen.old.log written) (sight work.new seats.new pen.new.log written) }
@@ -73,8 +77,10 @@ impl FlusherPlan {
     ) -> Turn
         requires suits { Suits self.now hands.now.kit.now }
         requires down { IsDown self.now hands.now.kit.now flight work.old seats.old }
+        requires event { OwesEvent self.now hands.now.kit.now seats.old }
         requires room { 5 ≤ pen.old.room }
         ensures asked { AskedBeforeEach self.now.cpu (G.said hands.now.gate.now) seats.old seats.new }
+        ensures kinds { StepsBy self.now.cpu IsSettled result seats.old seats.new }
         ensures ends { (drain : _) (moments : _) (written : Option _) → Ends self.now hands.now.kit.now drain moments (G.said hands.now.gate.now) ⊥ result (sight work.old seats.old pen.old.log written) (sight work.new seats.new pen.new.log written) }
         ensures lands { result ≡ Stepped → (written : Option _) → Lands self.now hands.now.kit.now (G.said hands.now.gate.now) flight (sight work.old seats.old pen.old.log written) (sight work.new seats.new pen.new.log written) }
         ensures halts { result ≡ Halted → Settled self.now.cpu hands.now.kit.now (G.said hands.now.gate.now) false seats.old seats.new pen.old.log pen.new.log × (work.new ≡ work.old) }

@@ -4,9 +4,11 @@ ghost use Rattle.std.specs.Prelude.{◌||◌, ◌==◌, ◌≡◌, ◌+◌, ◌<
 ghost use Rattle.std.specs.Vec.{vec_capacity, vec_len};
 ghost use Rattle.wbt_io.specs.Faults.{HasRisen};
 ghost use Rattle.wbt_run_steps.specs.Gate.{AskedBeforeEach};
+ghost use Rattle.wbt_run_steps.specs.Kinds.{StepsInTurn};
 ghost use Rattle.wbt_flusher.specs.Answers.{Ends, EndsBy, Goes, IsReady};
 ghost use Rattle.wbt_flusher.specs.Cut.{ScanFails, ScansSome};
 ghost use Rattle.wbt_flusher.specs.Did.{Fits, KeepsDebts};
+ghost use Rattle.wbt_flusher.specs.Kinds.{StepsToLook};
 ghost use Rattle.wbt_flusher.specs.Looks.{Looks};
 ghost use Rattle.wbt_flusher.specs.Plans.{Suits, IsPlan, end_of};
 ghost use Rattle.wbt_flusher.specs.Sights.{sight};
@@ -57,6 +59,7 @@ impl FlusherPlan {
         requires room { 2 ≤ pen.old.room }
         requires spare { vec_len work.old.batch < vec_capacity work.old.batch }
         ensures asked { AskedBeforeEach self.now.cpu (G.said hands.now.gate.now) seats.old seats.new }
+        ensures kinds { StepsInTurn self.now.domains self.now.cpu result seats.old seats.new }
         ensures later { D.faults disk.old ≤ D.faults disk.new }
         ensures ends { EndsBy (C.told hands.now.clock.now) (λ moments. Ends self.now hands.now.kit.now false moments (G.said hands.now.gate.now) (HasRisen (D.faults disk.old) (D.faults disk.new)) result (sight work.old seats.old pen.old.log (D.written disk.old)) (sight work.new seats.new pen.new.log (D.written disk.new))) }
         ensures scans { result ≡ Stepped → ScansPage self.now hands.now.kit.now (C.told hands.now.clock.now) scan (sight work.old seats.old pen.old.log (D.written disk.old)) (sight work.new seats.new pen.new.log (D.written disk.new)) }
@@ -97,6 +100,7 @@ impl FlusherPlan {
         requires room { 1 ≤ pen.old.room }
         requires spare { vec_len work.old.batch < vec_capacity work.old.batch }
         ensures asked { AskedBeforeEach self.now.cpu (G.said hands.now.gate.now) seats.old seats.new }
+        ensures kinds { StepsToLook self.now.cpu result seats.old seats.new }
         ensures goes { Goes self.now hands.now.kit.now seats.old seats.new pen.old.log pen.new.log work.old work.new }
         ensures fits { Fits self.now hands.now.kit.now seats.new }
         ensures lists { HasLists self.now work.new }

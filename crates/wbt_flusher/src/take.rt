@@ -3,7 +3,9 @@
 ghost use Rattle.std.specs.Prelude.{◌≡◌, ◌⊎◌, ◌↔◌, ◌+◌, ◌<◌, ◌≤◌, ◌^◌, IsTrue, IsFalse, Bool, true, false, Contains, IfNone, IfSome, [], length, Option};
 ghost use Rattle.wbt_queue.specs.Order.{HasTaken};
 ghost use Rattle.wbt_queue.specs.Passes as queue;
+ghost use Rattle.wbt_turns.specs.Words.{MayTake};
 ghost use Rattle.wbt_run_steps.specs.Gate.{AskedBeforeEach};
+ghost use Rattle.wbt_run_steps.specs.Kinds.{Steps, StepsInTurn};
 ghost use Rattle.wbt_run_steps.specs.Inodes.{OnlyQueue};
 ghost use Rattle.wbt_run_steps.specs.Queues.{OnlyDevice};
 ghost use Rattle.wbt_flusher.specs.Answers.{Ends, IsReady};
@@ -45,6 +47,7 @@ impl FlusherPlan {
         requires room { length self.now.contexts + MOST_NOTICED + 1 ≤ pen.old.room }
         requires estimates { length self.now.contexts ≤ pen.old.estimates }
         ensures asked { AskedBeforeEach self.now.cpu (G.said hands.now.gate.now) seats.old seats.new }
+        ensures kinds { StepsInTurn self.now.domains self.now.cpu result seats.old seats.new }
         ensures ends { (moments : _) (written : Option _) → Contains moments.estimates now → Ends self.now hands.now.kit.now false moments (G.said hands.now.gate.now) ⊥ result (sight work.old seats.old pen.old.log written) (sight work.new seats.new pen.new.log written) }
         ensures tests { result ≡ Stepped → (written : Option _) → TestsAt self.now hands.now.kit.now now (sight work.old seats.old pen.old.log written) (sight work.new seats.new pen.new.log written) }
         ensures halts { result ≡ Halted → (written : Option _) → TestsSome self.now hands.now.kit.now now (sight work.old seats.old pen.old.log written) (sight work.new seats.new pen.new.log written) }
@@ -85,6 +88,7 @@ impl FlusherPlan {
         requires moment { now < 2 ^ 62 }
         requires room { MOST_NOTICED + 1 ≤ pen.old.room }
         ensures asked { AskedBeforeEach self.now.cpu (G.said hands.now.gate.now) seats.old seats.new }
+        ensures kinds { Steps self.now.cpu MayTake seats.old seats.new }
         ensures ends { (moments : _) (written : Option _) → Contains moments.estimates now → Ends self.now hands.now.kit.now false moments (G.said hands.now.gate.now) ⊥ result (sight work.old seats.old pen.old.log written) (sight work.new seats.new pen.new.log written) }
         ensures decides { result ≡ Stepped → (loads : _) (own : Bool) (written : Option _) → (IsTrue over ↔ (AnyOver loads ⊎ (own ≡ true))) → Decides self.now hands.now.kit.now now loads own (sight work.old seats.old pen.old.log written) (sight work.new seats.new pen.new.log written) }
         ensures halts { result ≡ Halted → (written : Option _) → LosesIdle self.now now over (sight work.old seats.old pen.old.log written) (sight work.new seats.new pen.new.log written) }
@@ -110,6 +114,7 @@ impl FlusherPlan {
         requires ready { IsReady self.now hands.now.kit.now work.old seats.old }
         requires idle { IsIdle work.old }
         ensures asked { AskedBeforeEach self.now.cpu (G.said hands.now.gate.now) seats.old seats.new }
+        ensures kinds { Steps self.now.cpu MayTake seats.old seats.new }
         ensures ends { (moments : _) (log : _) (written : Option _) → Ends self.now hands.now.kit.now false moments (G.said hands.now.gate.now) ⊥ result (sight work.old seats.old log written) (sight work.new seats.new log written) }
         ensures calm { IsFalse over → (result ≡ Stepped) × (seats.new ≡ seats.old) × (work.new ≡ record work.old { phase = Idle until false }) }
         ensures takes { result ≡ Stepped → IsTrue over → (log : _) (written : Option _) → TakesOrRests self.now hands.now.kit.now until (sight work.old seats.old log written) (sight work.new seats.new log written) }
@@ -136,6 +141,7 @@ impl FlusherPlan {
         requires ready { IsReady self.now hands.now.kit.now work.old seats.old }
         requires idle { IsIdle work.old }
         ensures asked { AskedBeforeEach self.now.cpu (G.said hands.now.gate.now) seats.old seats.new }
+        ensures kinds { Steps self.now.cpu MayTake seats.old seats.new }
         ensures ends { (moments : _) (log : _) (written : Option _) → Ends self.now hands.now.kit.now false moments (G.said hands.now.gate.now) ⊥ result (sight work.old seats.old log written) (sight work.new seats.new log written) }
         ensures takes { result ≡ Stepped → (log : _) (written : Option _) → TakesOrRests self.now hands.now.kit.now until (sight work.old seats.old log written) (sight work.new seats.new log written) }
         ensures halts { result ≡ Halted → (log : _) (written : Option _) → LosesInode self.now (sight work.old seats.old log written) (sight work.new seats.new log written) }
@@ -165,6 +171,7 @@ impl FlusherPlan {
         requires idle { IsIdle work.old }
         requires room { 1 ≤ pen.old.room }
         ensures asked { AskedBeforeEach self.now.cpu (G.said hands.now.gate.now) seats.old seats.new }
+        ensures kinds { Steps self.now.cpu MayTake seats.old seats.new }
         ensures ends { (moments : _) (written : Option _) → Ends self.now hands.now.kit.now true moments (G.said hands.now.gate.now) ⊥ result (sight work.old seats.old pen.old.log written) (sight work.new seats.new pen.new.log written) }
         ensures takes { result ≡ Stepped → (written : Option _) → TakesLast self.now hands.now.kit.now (sight work.old seats.old pen.old.log written) (sight work.new seats.new pen.new.log written) }
         ensures halts { result ≡ Halted → (written : Option _) → LosesLast self.now (sight work.old seats.old pen.old.log written) (sight work.new seats.new pen.new.log written) }
@@ -191,6 +198,7 @@ impl FlusherPlan {
         requires idle { IsIdle work.old }
         requires empty { list_by work.old ≡ [] }
         ensures asked { AskedBeforeEach self.now.cpu (G.said hands.now.gate.now) seats.old seats.new }
+        ensures kinds { Steps self.now.cpu MayTake seats.old seats.new }
         ensures ends { (moments : _) (written : Option _) → Ends self.now hands.now.kit.now true moments (G.said hands.now.gate.now) ⊥ result (sight work.old seats.old pen.old.log written) (sight work.new seats.new pen.new.log written) }
         ensures takes { result ≡ Stepped → (written : Option _) → TakesLast self.now hands.now.kit.now (sight work.old seats.old pen.old.log written) (sight work.new seats.new pen.new.log written) }
         ensures halts { result ≡ Halted → (written : Option _) → LosesLast self.now (sight work.old seats.old pen.old.log written) (sight work.new seats.new pen.new.log written) }
@@ -240,6 +248,7 @@ impl FlusherPlan {
         requires ready { IsReady self.now hands.now.kit.now work.old seats.old }
         requires idle { IsIdle work.old }
         ensures asked { AskedBeforeEach self.now.cpu (G.said hands.now.gate.now) seats.old seats.new }
+        ensures kinds { Steps self.now.cpu MayTake seats.old seats.new }
         ensures ends { (drain : _) (moments : _) (log : _) (written : Option _) → Ends self.now hands.now.kit.now drain moments (G.said hands.now.gate.now) ⊥ result (sight work.old seats.old log written) (sight work.new seats.new log written) }
         ensures takes { result ≡ Stepped → (log : _) (written : Option _) → TakesUp self.now hands.now.kit.now inode (sight work.old seats.old log written) (sight work.new seats.new log written) }
         ensures halts { result ≡ Halted → (work.new ≡ work.old) × (seats.new ≡ seats.old) × IsInode self.now inode }

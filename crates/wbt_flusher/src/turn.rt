@@ -3,7 +3,9 @@
 ghost use Rattle.std.specs.Prelude.{◌&&◌, not, ◌↔◌, ◌≡◌, ◌≤◌, length, Bool, OnOk, Option};
 ghost use Rattle.wbt_io.specs.Faults.{HasRisen};
 ghost use Rattle.wbt_num.specs.declared.most.TheConstants.{MOST_CONTEXTS};
+ghost use Rattle.wbt_table.specs.Layout.{domains};
 ghost use Rattle.wbt_run_steps.specs.Gate.{AskedBeforeEach};
+ghost use Rattle.wbt_run_steps.specs.Kinds.{StepsInTurn};
 ghost use Rattle.wbt_flusher.specs.Aged.{IsIdleTurn, WritesInTime, WritesWhatIsDue};
 ghost use Rattle.wbt_flusher.specs.Answers.{FlusherAnswers, TurnAnswers, HasSpace, IsReady, IsSameWork};
 ghost use Rattle.wbt_flusher.specs.Cut.{DoesNothing, FailsTook, FindsNothing, FlusherEnds, FlusherFails, FlusherSpends, FlusherStops, FlusherWaits, StopsTook};
@@ -64,6 +66,9 @@ impl<D: Disk> Flusher<D> {
         ensures counted { FaultsRise self.old.work.faults self.new.work.faults (D.faults self.old.disk) (D.faults self.new.disk) }
         ensures eighth { result ≡ Faulted ↔ self.new.work.faults ≡ MOST_FAULTS }
 
+        // The steps of its CPU are those of one turn, or a first part of them where the gate stopped it.
+        ensures kinds { StepsInTurn (domains hands.now.kit.now.throttle.layout) self.old.plan.cpu result seats.old seats.new }
+
         // Where it was cut off it did a first part of such a turn.
         ensures halts { result ≡ Halted → FlusherStops self.old.plan hands.now.kit.now drain (C.told hands.now.clock.now) (G.said hands.now.gate.now) (sight self.old.work seats.old log.old (D.written self.old.disk)) (sight self.new.work seats.new log.new (D.written self.new.disk)) }
         ensures fails { result ≡ Faulted → FlusherFails self.old.plan hands.now.kit.now (sight self.old.work seats.old log.old (D.written self.old.disk)) (sight self.new.work seats.new log.new (D.written self.new.disk)) }
@@ -100,6 +105,7 @@ impl<D: Disk> Flusher<D> {
         requires ready { IsReady self.old.plan hands.now.kit.now self.old.work seats.old }
         requires room { HasSpace self.old.plan self.old.work pen.old }
         ensures asked { AskedBeforeEach self.old.plan.cpu (G.said hands.now.gate.now) seats.old seats.new }
+        ensures kinds { StepsInTurn self.old.plan.domains self.old.plan.cpu result seats.old seats.new }
         ensures plan { self.new.plan ≡ self.old.plan }
         ensures later { D.faults self.old.disk ≤ D.faults self.new.disk }
         ensures answers { TurnAnswers self.old.plan hands.now.kit.now drain (C.told hands.now.clock.now) (G.said hands.now.gate.now) (HasRisen (D.faults self.old.disk) (D.faults self.new.disk)) result (sight self.old.work seats.old pen.old.log (D.written self.old.disk)) (sight self.new.work seats.new pen.new.log (D.written self.new.disk)) }
@@ -156,6 +162,7 @@ impl FlusherPlan {
         requires phase { work.old.phase ≡ Idle until kept }
         requires room { HasSpace self.now work.old pen.old }
         ensures asked { AskedBeforeEach self.now.cpu (G.said hands.now.gate.now) seats.old seats.new }
+        ensures kinds { StepsInTurn self.now.domains self.now.cpu result seats.old seats.new }
         ensures answers { (written : Option _) → TurnAnswers self.now hands.now.kit.now drain (C.told hands.now.clock.now) (G.said hands.now.gate.now) ⊥ result (sight work.old seats.old pen.old.log written) (sight work.new seats.new pen.new.log written) }
         ensures took { result ≡ Stepped → (written : Option _) → Took self.now hands.now.kit.now drain (C.told hands.now.clock.now) (G.said hands.now.gate.now) (sight work.old seats.old pen.old.log written) (sight work.new seats.new pen.new.log written) }
         ensures halts { result ≡ Halted → (written : Option _) → StopsTook self.now hands.now.kit.now drain (C.told hands.now.clock.now) (G.said hands.now.gate.now) (sight work.old seats.old pen.old.log written) (sight work.new seats.new pen.new.log written) }
@@ -192,6 +199,7 @@ impl FlusherPlan {
         requires phase { work.old.phase ≡ Flying flight }
         requires room { HasSpace self.now work.old pen.old }
         ensures asked { AskedBeforeEach self.now.cpu (G.said hands.now.gate.now) seats.old seats.new }
+        ensures kinds { StepsInTurn self.now.domains self.now.cpu result seats.old seats.new }
         ensures answers { (drain : Bool) (written : Option _) → TurnAnswers self.now hands.now.kit.now drain (C.told hands.now.clock.now) (G.said hands.now.gate.now) ⊥ result (sight work.old seats.old pen.old.log written) (sight work.new seats.new pen.new.log written) }
         ensures took { result ≡ Stepped → (drain : Bool) (written : Option _) → Took self.now hands.now.kit.now drain (C.told hands.now.clock.now) (G.said hands.now.gate.now) (sight work.old seats.old pen.old.log written) (sight work.new seats.new pen.new.log written) }
         ensures halts { result ≡ Halted → (drain : Bool) (written : Option _) → StopsTook self.now hands.now.kit.now drain (C.told hands.now.clock.now) (G.said hands.now.gate.now) (sight work.old seats.old pen.old.log written) (sight work.new seats.new pen.new.log written) }

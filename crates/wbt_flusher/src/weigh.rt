@@ -2,9 +2,11 @@
 
 ghost use Rattle.std.specs.Prelude.{◌≡◌, ◌<◌, ◌≤◌, ◌^◌, ◌||◌, true, false, IfNone, IfSome, length, Option};
 ghost use Rattle.wbt_run_steps.specs.Gate.{AskedBeforeEach};
+ghost use Rattle.wbt_run_steps.specs.Kinds.{Steps};
 ghost use Rattle.wbt_flusher.specs.Answers.{GoesKept};
 ghost use Rattle.wbt_flusher.specs.Cut.{WeighsSome};
 ghost use Rattle.wbt_flusher.specs.Did.{Fits, KeepsDebts, IsStopped};
+ghost use Rattle.wbt_flusher.specs.Kinds.{AreCounts};
 ghost use Rattle.wbt_flusher.specs.Plans.{Suits, context_at};
 ghost use Rattle.wbt_flusher.specs.Sights.{sight};
 ghost use Rattle.wbt_flusher.specs.Turns.{HasLists, IsPart, OnlyShare, OnlyTallies};
@@ -32,6 +34,7 @@ impl FlusherPlan {
         requires fits { Fits self.now hands.now.kit.now seats.old }
         requires lists { HasLists self.now work.old }
         ensures asked { AskedBeforeEach self.now.cpu (G.said hands.now.gate.now) seats.old seats.new }
+        ensures kinds { Steps self.now.cpu AreCounts seats.old seats.new }
         ensures goes { GoesKept self.now hands.now.kit.now seats.old seats.new work.old work.new }
         ensures fits { Fits self.now hands.now.kit.now seats.new }
         ensures lists { HasLists self.now work.new }
@@ -67,6 +70,7 @@ impl FlusherPlan {
         requires lists { HasLists self.now work.old }
         requires context { context < length self.now.contexts }
         ensures asked { AskedBeforeEach self.now.cpu (G.said hands.now.gate.now) seats.old seats.new }
+        ensures kinds { Steps self.now.cpu AreCounts seats.old seats.new }
         ensures goes { GoesKept self.now hands.now.kit.now seats.old seats.new work.old work.new }
         ensures fits { Fits self.now hands.now.kit.now seats.new }
         ensures lists { HasLists self.now work.new }

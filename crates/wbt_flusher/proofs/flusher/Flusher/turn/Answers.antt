@@ -17,6 +17,10 @@ use Rattle.wbt_flusher.proofs.Ending.{answers_after, as_answers, left_more}
 use Rattle.wbt_flusher.proofs.Going.{goes_kept, went_more}
 use Rattle.wbt_flusher.proofs.Keeping.{kept_by}
 use Rattle.wbt_flusher.proofs.Quotas.{steady_within}
+use Rattle.wbt_run_steps.specs.Kinds.{StepsInTurn}
+use Rattle.wbt_table.specs.Layout.{domains}
+use Rattle.wbt_run_steps.proofs.Logging.{none_as, turn_behind}
+use Rattle.wbt_flusher.proofs.Turning.{turn_rests}
 use Rattle.wbt_flusher.proofs.flusher.Flusher.turn.Goals as goal
 
 pub returns-in-Err-clause-answers : goal.returns-in-Err-clause-answers
@@ -192,3 +196,16 @@ returns-in-Ok-clause-ages g c is idle =
     writes_what_is_due c.args.self.now.plan c.args.hands.now.kit.now (g.C.Clock.told c.args.hands.now.clock.now) c.args.drain (g.G.Gate.said c.args.hands.now.gate.now)
     (sight c.args.self.now.work c.args.seats.now c.args.log.now (g.D.Disk.written c.args.self.now.disk)) (sight t.new.self.work t.new.seats c.close-in-Ok.new.log (g.D.Disk.written t.new.self.disk))
     (returns-in-Ok-clause-took g c is) idle
+
+-- ---- kinds of steps
+
+pub returns-in-Err-clause-kinds : goal.returns-in-Err-clause-kinds
+returns-in-Err-clause-kinds g c = turn_rests c.args.self.now.plan.cpu (domains c.args.hands.now.kit.now.throttle.layout) NoMemory c.args.seats.now c.args.seats.now refl
+
+pub returns-in-Ok-clause-kinds : goal.returns-in-Ok-clause-kinds
+returns-in-Ok-clause-kinds g c =
+    let plan = c.args.self.now.plan in
+    let t = c.turn_on-answer in
+    subst (λ (n : ℕ). StepsInTurn n plan.cpu t.result c.args.seats.now t.new.seats) c.requires.suits.domains_are
+    (turn_behind plan.domains plan.cpu t.result c.args.seats.now c.put_waiting.new.seats t.new.seats
+    (none_as plan.cpu c.args.seats.now c.put_waiting.new.seats c.put_waiting.ensures.only_queue.cpu) t.ensures.kinds)

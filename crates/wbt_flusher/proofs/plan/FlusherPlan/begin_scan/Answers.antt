@@ -11,6 +11,9 @@ use Rattle.wbt_flusher.specs.Plans.{context_of}
 use Rattle.wbt_run_steps.specs.Reads.{ReadsEstimate}
 use Rattle.wbt_flusher.specs.Turns.{begun_scan}
 use Rattle.wbt_flusher.specs.declared.work.FlusherWork.{FlusherWork}
+use Rattle.wbt_turns.specs.Words.{MayTake}
+use Rattle.wbt_run_steps.proofs.Logging.{makes_as}
+use Rattle.wbt_flusher.proofs.Turning.{no_take, one_take, still_after}
 use Rattle.wbt_flusher.proofs.plan.FlusherPlan.begin_scan.Goals as goal
 
 pub returns-then-not-may_step-clause-goes : goal.returns-then-not-may_step-clause-goes
@@ -47,3 +50,16 @@ returns-clause-begins g c so log written =
       queue_is = q.only_est.queue ∙ u.only.queue;
       work = q.quota.2 ∙ ap (λ (w : FlusherWork). record w { phase = begun_scan plan c.args.inode (chunk_of newest.avg w.hard) }) u.begun;
     }
+
+-- ---- kinds of steps
+
+pub returns-then-not-may_step-clause-kinds : goal.returns-then-not-may_step-clause-kinds
+returns-then-not-may_step-clause-kinds g c = no_take c.args.self.now.cpu c.args.seats.now c.args.seats.now refl
+
+pub returns-clause-kinds : goal.returns-clause-kinds
+returns-clause-kinds g c =
+    let cpu = c.args.self.now.cpu in
+    let u = c.unmark.ensures.unmarks in
+    still_after cpu MayTake c.args.seats.now c.unmark.new.seats c.set_quota.new.seats
+    (one_take cpu c.args.seats.now c.unmark.new.seats (makes_as cpu (setting c.args.hands.now.kit.now.throttle.layout) (unmark cpu c.args.inode) u.0 c.args.seats.now c.unmark.new.seats refl u.1))
+    c.set_quota.ensures.only_est.cpu

@@ -6,6 +6,7 @@ use Rattle.wbt_flusher.specs.Sights.{sight}
 use Rattle.wbt_flusher.proofs.Ending.{idle_stands, idles, steps_by}
 use Rattle.wbt_flusher.proofs.Going.{owes_still}
 use Rattle.wbt_flusher.proofs.Marks.{idle_bare}
+use Rattle.wbt_flusher.proofs.Turning.{no_take}
 use Rattle.wbt_flusher.proofs.plan.FlusherPlan.begin_taken.Goals as goal
 
 pub returns-then-not-has-clause-ends : goal.returns-then-not-has-clause-ends
@@ -36,3 +37,6 @@ returns-clause-ends g c drain moments log written =
 
 pub returns-clause-halts : goal.returns-clause-halts
 returns-clause-halts g c is = (c.begin_scan.ensures.same c.if-begin_scan.false, c.begin_scan.ensures.stays c.if-begin_scan.false, c.has.ensures.0 c.if-not-has.false)
+
+pub returns-then-not-has-clause-kinds : goal.returns-then-not-has-clause-kinds
+returns-then-not-has-clause-kinds g c = no_take c.args.self.now.cpu c.args.seats.now c.args.seats.now refl

@@ -8,6 +8,7 @@ use Rattle.wbt_flusher.specs.declared.work.Phase.TheVariants.{Scanning}
 use Rattle.wbt_rules.specs.declared.scan.Scan.{Scan}
 use Rattle.wbt_flusher.specs.declared.work.FlusherWork.{FlusherWork}
 use Rattle.wbt_flusher.proofs.Looking.{claims_page, passes_page, misses, halted, stops_at, claimed_stands, passed_stands, both_of}
+use Rattle.wbt_flusher.proofs.Turning.{claimed_as, halted_as, looked_as}
 use Rattle.wbt_flusher.proofs.plan.FlusherPlan.claim_next.Goals as goal
 
 or_left : (a b : Bool) → a ≡ true → (a || b) ≡ true
@@ -44,6 +45,7 @@ returns-in-Mine g c =
       };
       looks = claimed_stands c.args.self.now was is scan next c.requires.suits.plan_is c.requires.scan c.requires.before refl refl refl refl refl c.push_reserved.ensures.items;
       asked = asked_try c.args.self.now.cpu (g.G.Gate.said c.args.hands.now.gate.now) (setting c.args.hands.now.kit.now.throttle.layout) scan.page e.0 e.0 c.args.seats.now new c.requires.fits.held e.5 e.6 e.2;
+      kinds = claimed_as c.args.self.now.cpu (setting c.args.hands.now.kit.now.throttle.layout) scan.page e.0 e.0 c.args.seats.now new e.4;
       room = omega arith;
     }
 
@@ -82,6 +84,7 @@ returns-in-NotDirty g c =
       };
       looks = passed_stands c.args.self.now was is scan next c.requires.scan c.requires.before refl refl refl refl refl refl;
       asked = asked_look c.args.self.now.cpu (g.G.Gate.said c.args.hands.now.gate.now) (setting c.args.hands.now.kit.now.throttle.layout) scan.page n c.args.seats.now new c.requires.fits.held e.5 e.3;
+      kinds = looked_as c.args.self.now.cpu (setting c.args.hands.now.kit.now.throttle.layout) scan.page n c.args.seats.now new e.4;
       room = omega arith;
     }
 
@@ -98,6 +101,7 @@ returns-in-Missed g c =
       page = λ written. record { first = c.in-Missed.first; second = c.in-Missed.second; claimable = e.0; changed = e.1; tries = e.2; only = record { share = refl; est = refl; queue = refl }; told = refl; work = refl };
       looks = refl;
       asked = asked_try c.args.self.now.cpu (g.G.Gate.said c.args.hands.now.gate.now) (setting c.args.hands.now.kit.now.throttle.layout) c.args.scan.page c.in-Missed.first c.in-Missed.second c.args.seats.now new c.requires.fits.held e.4 e.5 e.2;
+      kinds = claimed_as c.args.self.now.cpu (setting c.args.hands.now.kit.now.throttle.layout) c.args.scan.page c.in-Missed.first c.in-Missed.second c.args.seats.now new e.3;
       room = omega arith;
     }
 
@@ -119,5 +123,6 @@ returns-in-Stopped g c =
       };
       looks = (refl, e.0);
       asked = asked_halt c.args.self.now.cpu (g.G.Gate.said c.args.hands.now.gate.now) (setting c.args.hands.now.kit.now.throttle.layout) c.args.scan.page c.args.seats.now new c.requires.fits.held e.1;
+      kinds = halted_as c.args.self.now.cpu (setting c.args.hands.now.kit.now.throttle.layout) c.args.scan.page (g.G.Gate.said c.args.hands.now.gate.now c.args.self.now.cpu) c.args.seats.now new e.1;
       room = omega arith;
     }

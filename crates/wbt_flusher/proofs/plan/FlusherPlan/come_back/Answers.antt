@@ -13,6 +13,10 @@ use Rattle.wbt_flusher.proofs.Flown.{none_there}
 use Rattle.wbt_flusher.proofs.Giving.{still_returns}
 use Rattle.wbt_flusher.proofs.Going.{went_more, owes_still}
 use Rattle.wbt_flusher.proofs.Paying.{settles}
+use Rattle.wbt_flusher.specs.Kinds.{ComesAfter}
+use Rattle.wbt_run_steps.proofs.Logging.{cut_whole, makes_as}
+use Rattle.wbt_flusher.proofs.Events.{may_settle, may_settle_part}
+use Rattle.wbt_flusher.proofs.Turning.{comes_back, comes_back_cut, comes_back_last, one_mark}
 use Rattle.wbt_flusher.proofs.plan.FlusherPlan.come_back.Goals as goal
 
 pub settle-requires : goal.settle-requires
@@ -130,3 +134,30 @@ returns-then-not-may_step-clause-halts g c is written =
 pub returns-clause-faults : goal.returns-clause-faults
 returns-clause-faults g c =
     let ends = c.end_return.ensures.ends c.settle.new.pen.log None in ends.rest.faults ∙ ends.only.faults
+
+-- ---- kinds of steps
+
+pub returns-then-not-settle-clause-kinds : goal.returns-then-not-settle-clause-kinds
+returns-then-not-settle-clause-kinds g c =
+    comes_back_cut c.args.self.now.cpu c.args.seats.now c.settle.new.seats
+    (may_settle_part c.args.self.now c.args.hands.now.kit.now c.settle.result c.args.seats.now c.settle.new.seats c.requires.event c.if-not-settle.true c.settle.ensures.kinds)
+
+pub returns-then-giving-as_slice-clause-kinds : goal.returns-then-giving-as_slice-clause-kinds
+returns-then-giving-as_slice-clause-kinds g c =
+    comes_back c.args.self.now.cpu c.args.seats.now c.settle.new.seats
+    (may_settle c.args.self.now c.args.hands.now.kit.now c.settle.result c.args.seats.now c.settle.new.seats c.requires.event c.if-not-settle.false c.settle.ensures.kinds)
+
+pub returns-then-not-may_step-clause-kinds : goal.returns-then-not-may_step-clause-kinds
+returns-then-not-may_step-clause-kinds g c =
+    cut_whole c.args.self.now.cpu ComesAfter c.args.seats.now c.settle.new.seats
+    (comes_back c.args.self.now.cpu c.args.seats.now c.settle.new.seats
+    (may_settle c.args.self.now c.args.hands.now.kit.now c.settle.result c.args.seats.now c.settle.new.seats c.requires.event c.if-not-settle.false c.settle.ensures.kinds))
+
+pub returns-clause-kinds : goal.returns-clause-kinds
+returns-clause-kinds g c =
+    let cpu = c.args.self.now.cpu in
+    let m = c.end_return.ensures.ends c.settle.new.pen.log None in
+    comes_back_last cpu c.args.seats.now c.settle.new.seats c.end_return.new.seats
+    (may_settle c.args.self.now c.args.hands.now.kit.now c.settle.result c.args.seats.now c.settle.new.seats c.requires.event c.if-not-settle.false c.settle.ensures.kinds)
+    (one_mark cpu c.settle.new.seats c.end_return.new.seats
+    (makes_as cpu (setting c.args.hands.now.kit.now.throttle.layout) (mark cpu c.args.giving.inode) m.marks.found c.settle.new.seats c.end_return.new.seats refl m.marks.makes))

@@ -13,6 +13,8 @@ use Rattle.wbt_flusher.proofs.Ageing.{told_now, wheel_told}
 use Rattle.wbt_flusher.proofs.Deciding.{at_inode}
 use Rattle.wbt_flusher.proofs.Ending.{ends_after, idles}
 use Rattle.wbt_flusher.proofs.Marks.{idle_bare}
+use Rattle.wbt_turns.specs.Words.{MayTake}
+use Rattle.wbt_flusher.proofs.Turning.{no_take, still_before}
 use Rattle.wbt_flusher.proofs.plan.FlusherPlan.decide_by_age.Goals as goal
 
 pub notice_all-requires-clause-lists : goal.notice_all-requires-clause-lists
@@ -162,3 +164,11 @@ returns-in-Some-clause-faults g c =
     let at = at_inode c.args.now plan kit c.args.seats.now n.new.seats c.args.pen.now.log n.new.pen.log c.args.work.now c.tell_wheel.new.wheel n.new.work c.requires.ready c.requires.idle
     c.tell_wheel.ensures.told n.ensures.goes n.ensures.only_wheel n.ensures.only_queue t.new.pen.log t.new.work (t.ensures.goes kit n.new.seats n.ensures.fits) t.ensures.only_wheel t.ensures.lists in
     c.begin_waiting.ensures.faults ∙ ap (λ (w : FlusherWork). w.faults) at.only
+
+-- ---- kinds of steps
+
+pub returns-in-None-clause-kinds : goal.returns-in-None-clause-kinds
+returns-in-None-clause-kinds g c = no_take c.args.self.now.cpu c.args.seats.now c.notice_all.new.seats c.notice_all.ensures.only_queue.cpu
+
+pub returns-in-Some-clause-kinds : goal.returns-in-Some-clause-kinds
+returns-in-Some-clause-kinds g c = still_before c.args.self.now.cpu MayTake c.args.seats.now c.notice_all.new.seats c.begin_waiting.new.seats c.notice_all.ensures.only_queue.cpu c.begin_waiting.ensures.kinds

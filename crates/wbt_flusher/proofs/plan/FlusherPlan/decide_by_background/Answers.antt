@@ -2,6 +2,7 @@ use Rattle.wbt_run_steps.proofs.Gating.{asked_none}
 use Rattle.std.proofs.Common.{false, refl}
 use Rattle.wbt_flusher.proofs.Ending.{idles}
 use Rattle.wbt_flusher.proofs.Marks.{idle_bare}
+use Rattle.wbt_flusher.proofs.Turning.{no_take}
 use Rattle.wbt_flusher.proofs.plan.FlusherPlan.decide_by_background.Goals as goal
 
 pub returns-then-not-over-clause-asked : goal.returns-then-not-over-clause-asked
@@ -18,3 +19,6 @@ returns-then-not-over-clause-ends g c moments log written =
     let e = c.be_idle.ensures in
     idles plan kit seats was c.be_idle.new.work c.args.until false moments log written ready idle.batch e.phase e.lists
     (e.goes kit seats ready.fits (idle_bare plan was seats idle) moments log written)
+
+pub returns-then-not-over-clause-kinds : goal.returns-then-not-over-clause-kinds
+returns-then-not-over-clause-kinds g c = no_take c.args.self.now.cpu c.args.seats.now c.args.seats.now refl

@@ -17,6 +17,7 @@ use Rattle.wbt_flusher.specs.declared.work.Return.{Return}
 use Rattle.wbt_flusher.proofs.Giving.{debts_kept, goes_given, goes_halted, goes_kept_back, is_back, page_held, page_there, return_of}
 use Rattle.wbt_flusher.proofs.Going.{goes_nowhere, owes_still, ready_went}
 use Rattle.wbt_flusher.proofs.plan.FlusherPlan.give_next.Goals as goal
+use Rattle.wbt_run_steps.specs.Kinds.{StepsToGiveBack}
 use Rattle.std.specs.Prelude.{None}
 
 pub give_back-requires-clause-may : goal.give_back-requires-clause-may
@@ -190,3 +191,17 @@ returns-in-Stopped-clause-gives g c written =
       stops = subst (λ (b : Back). AnswersBack kit plan.cpu plan.flusher c.index-page.result.now (g.G.Gate.said c.args.hands.now.gate.now) b c.args.seats.now c.give_back.new.seats c.args.pen.now.log c.give_back.new.pen.log) c.in-Stopped.is c.in_ok-back.ensures.answers;
       work = refl;
     }
+
+-- ---- kinds of steps
+
+pub returns-in-Redirtied-clause-kinds : goal.returns-in-Redirtied-clause-kinds
+returns-in-Redirtied-clause-kinds g c = subst (λ (b : Back). StepsToGiveBack c.args.self.now.cpu b c.args.seats.now c.give_back.new.seats) c.in-Redirtied.is c.in_ok-back.ensures.kinds
+
+pub returns-in-Absorbed-clause-kinds : goal.returns-in-Absorbed-clause-kinds
+returns-in-Absorbed-clause-kinds g c = subst (λ (b : Back). StepsToGiveBack c.args.self.now.cpu b c.args.seats.now c.give_back.new.seats) c.in-Absorbed.is c.in_ok-back.ensures.kinds
+
+pub returns-in-Missed-clause-kinds : goal.returns-in-Missed-clause-kinds
+returns-in-Missed-clause-kinds g c = subst (λ (b : Back). StepsToGiveBack c.args.self.now.cpu b c.args.seats.now c.give_back.new.seats) c.in-Missed.is c.in_ok-back.ensures.kinds
+
+pub returns-in-Stopped-clause-kinds : goal.returns-in-Stopped-clause-kinds
+returns-in-Stopped-clause-kinds g c = subst (λ (b : Back). StepsToGiveBack c.args.self.now.cpu b c.args.seats.now c.give_back.new.seats) c.in-Stopped.is c.in_ok-back.ensures.kinds

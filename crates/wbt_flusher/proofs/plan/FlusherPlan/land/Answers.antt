@@ -10,6 +10,9 @@ use Rattle.wbt_flusher.proofs.Keeping.{debts_same}
 use Rattle.wbt_flusher.proofs.Paying.{settles}
 use Rattle.wbt_run_steps.specs.Steps.{Settled}
 use Rattle.wbt_flusher.specs.Took.{is_last}
+use Rattle.wbt_turns.specs.Words.{IsSettled}
+use Rattle.wbt_flusher.proofs.Events.{event_settled, event_settled_part}
+use Rattle.wbt_flusher.proofs.Turning.{still_after}
 use Rattle.wbt_flusher.proofs.plan.FlusherPlan.land.Goals as goal
 
 pub settle-requires : goal.settle-requires
@@ -91,3 +94,19 @@ returns-then-not-settle-clause-halts g c is = (
       c.if-not-settle.true c.settle.ensures.settled,
   refl,
 )
+
+-- ---- kinds of steps
+
+pub returns-then-not-settle-clause-kinds : goal.returns-then-not-settle-clause-kinds
+returns-then-not-settle-clause-kinds g c =
+    event_settled_part c.args.self.now c.args.hands.now.kit.now c.settle.result c.args.seats.now c.settle.new.seats c.requires.event c.if-not-settle.true c.settle.ensures.kinds
+
+pub returns-then-flight-as_slice-clause-kinds : goal.returns-then-flight-as_slice-clause-kinds
+returns-then-flight-as_slice-clause-kinds g c =
+    event_settled c.args.self.now c.args.hands.now.kit.now c.settle.result c.args.seats.now c.settle.new.seats c.requires.event c.if-not-settle.false c.settle.ensures.kinds
+
+pub returns-clause-kinds : goal.returns-clause-kinds
+returns-clause-kinds g c =
+    still_after c.args.self.now.cpu IsSettled c.args.seats.now c.settle.new.seats c.end_flight.new.seats
+    (event_settled c.args.self.now c.args.hands.now.kit.now c.settle.result c.args.seats.now c.settle.new.seats c.requires.event c.if-not-settle.false c.settle.ensures.kinds)
+    c.end_flight.ensures.only_share.cpu

@@ -3,6 +3,8 @@ use Rattle.wbt_grant.specs.Kinds.{mark}
 use Rattle.wbt_table.specs.Layout.{setting}
 use Rattle.wbt_run_steps.proofs.Gating.{asked_none, asked_once, once_made}
 use Rattle.wbt_flusher.proofs.Going.{goes_nowhere}
+use Rattle.wbt_run_steps.proofs.Logging.{makes_as}
+use Rattle.wbt_flusher.proofs.Turning.{no_mark, one_mark}
 use Rattle.wbt_flusher.proofs.plan.FlusherPlan.mark_again.Goals as goal
 
 pub returns-then-scan-end_of-clause-goes : goal.returns-then-scan-end_of-clause-goes
@@ -21,3 +23,17 @@ returns-clause-asked g c =
 
 pub returns-then-not-may_step-clause-goes : goal.returns-then-not-may_step-clause-goes
 returns-then-not-may_step-clause-goes g c told log written = goes_nowhere c.args.self.now c.args.hands.now.kit.now c.args.seats.now c.requires.fits told c.args.work.now log written
+
+-- ---- kinds of steps
+
+pub returns-then-scan-end_of-clause-kinds : goal.returns-then-scan-end_of-clause-kinds
+returns-then-scan-end_of-clause-kinds g c = no_mark c.args.self.now.cpu c.args.seats.now c.args.seats.now refl
+
+pub returns-then-not-may_step-clause-kinds : goal.returns-then-not-may_step-clause-kinds
+returns-then-not-may_step-clause-kinds g c = no_mark c.args.self.now.cpu c.args.seats.now c.args.seats.now refl
+
+pub returns-clause-kinds : goal.returns-clause-kinds
+returns-clause-kinds g c =
+    let cpu = c.args.self.now.cpu in
+    let m = c.mark.ensures.marks in
+    one_mark cpu c.args.seats.now c.mark.new.seats (makes_as cpu (setting c.args.hands.now.kit.now.throttle.layout) (mark cpu c.args.scan.inode) m.found c.args.seats.now c.mark.new.seats refl m.makes)

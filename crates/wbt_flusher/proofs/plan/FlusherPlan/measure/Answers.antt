@@ -19,6 +19,8 @@ use Rattle.wbt_flusher.specs.Reads.{ReadsShare, is_updated, sample_of}
 use Rattle.wbt_flusher.proofs.Fitting.{loaded_count, may_load}
 use Rattle.wbt_flusher.proofs.Keeping.{debts_same}
 use Rattle.wbt_flusher.proofs.Loading.{count_loaded}
+use Rattle.wbt_flusher.proofs.Turning.{no_counts, one_count, still_before, still_after}
+use Rattle.wbt_flusher.specs.Kinds.{AreCounts}
 use Rattle.wbt_flusher.proofs.plan.FlusherPlan.measure.Goals as goal
 
 pub load_count-count-requires : goal.load_count-count-requires
@@ -134,3 +136,24 @@ returns-then-not-may_step-clause-stops g c so written =
     let n = c.newest-old in
     let device : (context_at plan c.args.context).device ≡ plan.device = search rules in
     record { of_device = device; newest = n.result; reads = n.ensures.reads; old_enough = c.if-now-old.false; only = n.ensures.only_est; work = refl; told = refl }
+
+-- ---- kinds of steps
+
+pub returns-then-as_slice-context-clause-kinds : goal.returns-then-as_slice-context-clause-kinds
+returns-then-as_slice-context-clause-kinds g c = no_counts c.args.self.now.cpu c.args.seats.now c.args.seats.now refl
+
+pub returns-then-now-old-clause-kinds : goal.returns-then-now-old-clause-kinds
+returns-then-now-old-clause-kinds g c = no_counts c.args.self.now.cpu c.args.seats.now c.newest-old.new.seats c.newest-old.ensures.only_est.cpu
+
+pub returns-then-not-may_step-clause-kinds : goal.returns-then-not-may_step-clause-kinds
+returns-then-not-may_step-clause-kinds g c = no_counts c.args.self.now.cpu c.args.seats.now c.newest-old.new.seats c.newest-old.ensures.only_est.cpu
+
+pub returns-clause-kinds : goal.returns-clause-kinds
+returns-clause-kinds g c =
+    let cpu = c.args.self.now.cpu in
+    let n = c.newest-old in
+    let l = c.load_count-count in
+    let p = c.publish in
+    still_before cpu AreCounts c.args.seats.now n.new.seats p.new.seats n.ensures.only_est.cpu
+    (still_after cpu AreCounts n.new.seats l.new.seats p.new.seats (one_count cpu n.new.seats l.new.seats l.ensures.kinds)
+    (p.ensures.only_est.cpu ∙ c.written-written.ensures.cpu ∙ c.read_share-share.ensures.only_share.cpu))

@@ -4,6 +4,7 @@ use Rattle.wbt_flusher.proofs.Going.{goes_nowhere, at_more}
 use Rattle.wbt_flusher.specs.Reads.{MeasuresBefore, is_first}
 use Rattle.wbt_flusher.specs.Sights.{sight}
 use Rattle.wbt_flusher.proofs.Held.{measures_more}
+use Rattle.wbt_flusher.proofs.Turning.{counts_after, no_counts}
 use Rattle.wbt_flusher.proofs.plan.FlusherPlan.measure_all.Goals as goal
 
 pub returns-then-not-self-clause-goes : goal.returns-then-not-self-clause-goes
@@ -27,6 +28,7 @@ loop-context-init g c = record {
   estimates = omega arith;
   measures = λ written. refl;
   asked = asked_none c.args.self.now.cpu (g.G.Gate.said c.args.hands.now.gate.now) c.args.seats.now c.args.seats.now refl;
+  kinds = no_counts c.args.self.now.cpu c.args.seats.now c.args.seats.now refl;
 }
 
 pub returns-then-not-measure-clause-goes : goal.returns-then-not-measure-clause-goes
@@ -66,6 +68,7 @@ loop-context-preserved g c =
       measures = λ written. measures_more c.args.self.now c.args.hands.now.kit.now c.args.now c.args.global.now l.context (sight c.args.work.now c.args.seats.now c.args.pen.now.log written)
           (sight l.work l.seats l.pen.log written) (sight m.new.work m.new.seats m.new.pen.log written) (l.invariant.measures written) (e.measures c.if-not-measure.false written);
       asked = asked_more c.args.self.now.cpu (g.G.Gate.said c.args.hands.now.gate.now) c.args.seats.now l.seats m.new.seats l.invariant.asked e.asked;
+      kinds = counts_after c.args.self.now.cpu c.args.seats.now l.seats m.new.seats l.invariant.kinds e.kinds;
     }
 
 pub returns-clause-measures : goal.returns-clause-measures
@@ -87,3 +90,11 @@ returns-then-not-measure-clause-stops g c so written =
       measured = l.invariant.measures written;
       stops = c.measure.ensures.stops c.if-not-measure.true written;
     }
+
+-- ---- kinds of steps
+
+pub returns-then-not-self-clause-kinds : goal.returns-then-not-self-clause-kinds
+returns-then-not-self-clause-kinds g c = no_counts c.args.self.now.cpu c.args.seats.now c.args.seats.now refl
+
+pub returns-then-not-measure-clause-kinds : goal.returns-then-not-measure-clause-kinds
+returns-then-not-measure-clause-kinds g c = counts_after c.args.self.now.cpu c.args.seats.now c.loop-context.seats c.measure.new.seats c.loop-context.invariant.kinds c.measure.ensures.kinds

@@ -4,7 +4,9 @@ use Rattle.wbt_flusher.specs.Did.{Fits, KeepsDebts}
 use Rattle.wbt_flusher.specs.Reads.{MeasuresBefore}
 use Rattle.wbt_flusher.specs.Sights.{sight}
 use Rattle.wbt_flusher.specs.Turns.{HasLists, OnlyTallies}
+use Rattle.wbt_flusher.specs.Kinds.{AreCounts}
 use Rattle.wbt_run_steps.specs.Gate.{AskedBeforeEach}
+use Rattle.wbt_run_steps.specs.Kinds.{Steps}
 use Rattle.wbt_flusher.proofs.plan.FlusherPlan.measure_all.Given as goal
 
 abbrev pub invariant-loop-context : goal.invariant-loop-context
@@ -19,4 +21,5 @@ invariant-loop-context g l = record {
   estimates : length l.self.contexts ≤ l.pen.estimates + l.context;
   measures : (written : Option ℕ) → MeasuresBefore l.self l.hands.kit.now l.now l.global l.context (sight l.initial.work l.initial.seats l.initial.pen.log written) (sight l.work l.seats l.pen.log written);
   asked : AskedBeforeEach l.self.cpu (g.G.Gate.said l.hands.gate.now) l.initial.seats l.seats;
+  kinds : Steps l.self.cpu AreCounts l.initial.seats l.seats;
 }

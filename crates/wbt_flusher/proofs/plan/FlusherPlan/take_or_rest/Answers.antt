@@ -6,6 +6,8 @@ use Rattle.wbt_flusher.proofs.Ending.{idles, ready_queue, ends_after}
 use Rattle.wbt_flusher.proofs.Keeping.{queue_quiet}
 use Rattle.wbt_flusher.proofs.Marks.{idle_bare}
 use Rattle.wbt_flusher.proofs.Cutting.{loses}
+use Rattle.wbt_turns.specs.Words.{MayTake}
+use Rattle.wbt_flusher.proofs.Turning.{no_take, still_before}
 use Rattle.wbt_flusher.proofs.plan.FlusherPlan.take_or_rest.Goals as goal
 
 pub begin_taken-requires-clause-ready : goal.begin_taken-requires-clause-ready
@@ -49,3 +51,9 @@ pub returns-in-Some-clause-halts : goal.returns-in-Some-clause-halts
 returns-in-Some-clause-halts g c is log written =
     let b = c.begin_taken in
     loses c.args.self.now c.in-Some.inode c.args.seats.now c.take.new.seats b.new.seats c.args.work.now b.new.work log written c.in-Some.ensures.taken c.take.ensures.only_queue (b.ensures.halts is)
+
+pub returns-in-None-clause-kinds : goal.returns-in-None-clause-kinds
+returns-in-None-clause-kinds g c = no_take c.args.self.now.cpu c.args.seats.now c.take.new.seats c.take.ensures.only_queue.cpu
+
+pub returns-in-Some-clause-kinds : goal.returns-in-Some-clause-kinds
+returns-in-Some-clause-kinds g c = still_before c.args.self.now.cpu MayTake c.args.seats.now c.take.new.seats c.begin_taken.new.seats c.take.ensures.only_queue.cpu c.begin_taken.ensures.kinds

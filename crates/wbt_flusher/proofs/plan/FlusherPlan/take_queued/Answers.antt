@@ -10,6 +10,8 @@ use Rattle.wbt_flusher.proofs.Ending.{idles, ready_queue, ends_after, ends_undon
 use Rattle.wbt_flusher.proofs.Keeping.{queue_quiet}
 use Rattle.wbt_flusher.proofs.Marks.{idle_bare}
 use Rattle.wbt_flusher.proofs.Cutting.{loses}
+use Rattle.wbt_turns.specs.Words.{MayTake}
+use Rattle.wbt_flusher.proofs.Turning.{no_take, still_before}
 use Rattle.wbt_flusher.proofs.plan.FlusherPlan.take_queued.Goals as goal
 
 pub begin_taken-requires-clause-ready : goal.begin_taken-requires-clause-ready
@@ -132,3 +134,14 @@ returns-in-Some-clause-done g c is written =
     let log = c.args.pen.now.log in
     absurd (ends_undone c.args.self.now c.args.hands.now.kit.now no_moments (g.G.Gate.said c.args.hands.now.gate.now) ⊥ b.result (sight c.args.work.now c.take.new.seats log written) (sight b.new.work b.new.seats log written)
     (b.ensures.ends false no_moments log written) is)
+
+-- ---- kinds of steps
+
+pub returns-then-work-clause-kinds : goal.returns-then-work-clause-kinds
+returns-then-work-clause-kinds g c = no_take c.args.self.now.cpu c.args.seats.now c.take.new.seats c.take.ensures.only_queue.cpu
+
+pub returns-else-work-clause-kinds : goal.returns-else-work-clause-kinds
+returns-else-work-clause-kinds g c = no_take c.args.self.now.cpu c.args.seats.now c.take.new.seats c.take.ensures.only_queue.cpu
+
+pub returns-in-Some-clause-kinds : goal.returns-in-Some-clause-kinds
+returns-in-Some-clause-kinds g c = still_before c.args.self.now.cpu MayTake c.args.seats.now c.take.new.seats c.begin_taken.new.seats c.take.ensures.only_queue.cpu c.begin_taken.ensures.kinds

@@ -2,6 +2,7 @@ use Rattle.wbt_run_steps.proofs.Gating.{asked_more}
 use Rattle.wbt_flusher.proofs.Going.{quiet_more}
 use Rattle.wbt_flusher.proofs.Loading.{tests_some}
 use Rattle.wbt_flusher.proofs.Cutting.{some_after, some_first}
+use Rattle.wbt_flusher.proofs.Turning.{global_cut, later_cut, loads_each, none_so, some_so}
 use Rattle.wbt_flusher.proofs.plan.FlusherPlan.test.Goals as goal
 
 pub returns-in-Some-clause-goes : goal.returns-in-Some-clause-goes
@@ -20,3 +21,18 @@ returns-in-None-clause-part g c = some_first c.args.self.now c.args.hands.now.ki
 pub returns-in-Some-clause-part : goal.returns-in-Some-clause-part
 returns-in-Some-clause-part g c =
     some_after c.args.self.now c.args.hands.now.kit.now c.in-Some.global c.test_others.result c.args.seats.now c.read.new.seats c.test_others.new.seats c.in-Some.ensures.reads c.test_others.ensures.part
+
+-- ---- kinds of steps
+
+pub returns-in-None-clause-cut : goal.returns-in-None-clause-cut
+returns-in-None-clause-cut g c = global_cut c.args.self.now.cpu c.args.self.now.domains c.args.seats.now c.read.new.seats c.requires.suits.plan_is.some_domain c.in-None.ensures.cut
+
+pub returns-in-Some-clause-kinds : goal.returns-in-Some-clause-kinds
+returns-in-Some-clause-kinds g c =
+    some_so c.test_others.result _ _
+    (loads_each c.args.self.now.cpu c.args.self.now.domains c.args.seats.now c.read.new.seats c.test_others.new.seats c.requires.suits.plan_is.some_domain c.in-Some.ensures.kinds) c.test_others.ensures.kinds
+
+pub returns-in-Some-clause-cut : goal.returns-in-Some-clause-cut
+returns-in-Some-clause-cut g c =
+    none_so c.test_others.result _ _
+    (later_cut c.args.self.now.cpu c.args.self.now.domains c.args.seats.now c.read.new.seats c.test_others.new.seats c.requires.suits.plan_is.some_domain c.in-Some.ensures.kinds) c.test_others.ensures.cut

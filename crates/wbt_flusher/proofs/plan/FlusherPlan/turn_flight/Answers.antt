@@ -10,6 +10,10 @@ use Rattle.wbt_flusher.proofs.Flown.{comes_down}
 use Rattle.wbt_flusher.proofs.Going.{goes_nowhere}
 use Rattle.std.proofs.Common.{refl}
 use Rattle.wbt_flusher.specs.Cut.{among_its_folds, before_its_page}
+use Rattle.wbt_kit.specs.declared.turn.Turn.TheVariants.{Halted, Spent}
+use Rattle.wbt_run_steps.proofs.Logging.{makes_as}
+use Rattle.wbt_flusher.proofs.Turning.{turn_completes, turn_rests}
+use Rattle.wbt_flusher.proofs.Events.{owes_completed}
 use Rattle.wbt_flusher.proofs.plan.FlusherPlan.turn_flight.Goals as goal
 
 pub returns-then-not-may_step-clause-ends : goal.returns-then-not-may_step-clause-ends
@@ -64,3 +68,23 @@ returns-in-Ok-clause-halts g c is written =
 
 pub returns-in-Ok-clause-spends : goal.returns-in-Ok-clause-spends
 returns-in-Ok-clause-spends g c is written = absurd (c.land.ensures.unspent is)
+
+-- ---- kinds of steps
+
+pub land-requires-clause-event : goal.land-requires-clause-event
+land-requires-clause-event g c =
+    let d = c.in-Ok.ensures.completes in
+    owes_completed c.args.self.now c.args.hands.now.kit.now d.page d.found c.args.seats.now c.complete.new.seats c.requires.ready.fits.held d.makes
+
+pub returns-then-not-may_step-clause-kinds : goal.returns-then-not-may_step-clause-kinds
+returns-then-not-may_step-clause-kinds g c = turn_rests c.args.self.now.cpu c.args.self.now.domains Halted c.args.seats.now c.args.seats.now refl
+
+pub returns-in-Err-clause-kinds : goal.returns-in-Err-clause-kinds
+returns-in-Err-clause-kinds g c = turn_rests c.args.self.now.cpu c.args.self.now.domains Spent c.args.seats.now c.complete.new.seats (ap (λ (s : Seats). s.cpu) c.in-Err.ensures.spent.1)
+
+pub returns-in-Ok-clause-kinds : goal.returns-in-Ok-clause-kinds
+returns-in-Ok-clause-kinds g c =
+    let cpu = c.args.self.now.cpu in
+    let d = c.in-Ok.ensures.completes in
+    turn_completes cpu c.args.self.now.domains c.land.result c.args.seats.now c.complete.new.seats c.land.new.seats
+    (makes_as cpu (setting c.args.hands.now.kit.now.throttle.layout) (complete cpu d.page) d.found c.args.seats.now c.complete.new.seats refl d.makes) c.land.ensures.kinds

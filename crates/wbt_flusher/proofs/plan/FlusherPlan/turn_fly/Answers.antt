@@ -6,6 +6,8 @@ use Rattle.wbt_flusher.specs.Sights.{sight}
 use Rattle.wbt_flusher.proofs.Ending.{ends_at_once, ends_undone, answers_by, told_none, come_by, rests_here}
 use Rattle.wbt_flusher.specs.Took.{flies}
 use Rattle.wbt_flusher.specs.Cut as cut
+use Rattle.wbt_kit.specs.declared.turn.Turn.TheVariants.{Resting}
+use Rattle.wbt_flusher.proofs.Turning.{turn_rests}
 use Rattle.wbt_flusher.proofs.plan.FlusherPlan.turn_fly.Goals as goal
 
 pub returns-then-not-has_landed-clause-answers : goal.returns-then-not-has_landed-clause-answers
@@ -49,3 +51,6 @@ returns-clause-undone g c is =
     let t = c.turn_flight in
     ends_undone c.args.self.now c.args.hands.now.kit.now no_moments (g.G.Gate.said c.args.hands.now.gate.now) ⊥ t.result (sight c.args.work.now c.args.seats.now c.args.pen.now.log None)
     (sight t.new.work t.new.seats t.new.pen.log None) (t.ensures.ends false no_moments None) is
+
+pub returns-then-not-has_landed-clause-kinds : goal.returns-then-not-has_landed-clause-kinds
+returns-then-not-has_landed-clause-kinds g c = turn_rests c.args.self.now.cpu c.args.self.now.domains (Resting c.told_moment-now.result c.args.flight.until) c.args.seats.now c.args.seats.now refl

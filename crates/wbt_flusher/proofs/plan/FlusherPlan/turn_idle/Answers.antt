@@ -7,6 +7,8 @@ use Rattle.wbt_flusher.proofs.Ending.{idle_stands, ends_after}
 use Rattle.wbt_flusher.proofs.Measured.{measured, ready_measured, idle_measured}
 use Rattle.wbt_flusher.proofs.Weighing.{only_more, over_both, weighed}
 use Rattle.wbt_flusher.specs.Cut.{at_a_context, at_a_count, at_a_domain, at_its_inode}
+use Rattle.wbt_kit.specs.declared.turn.Turn.TheVariants.{Halted}
+use Rattle.wbt_flusher.proofs.Turning.{counts_after, no_take, test_cut, turn_tests}
 use Rattle.wbt_flusher.proofs.plan.FlusherPlan.turn_idle.Goals as goal
 
 pub returns-in-None-clause-ends : goal.returns-in-None-clause-ends
@@ -132,3 +134,27 @@ returns-in-Some-weigh_all-clause-halts g c is written =
     own (sight w.new.work w.new.seats m.new.pen.log written) (c.in-Some-weigh_all.ensures.weighs m.new.pen.log written)
     c.is_or_was-over.result (over_both test.over own c.is_or_was-over.result (AnyOver (tested.global ∷ tested.others)) c.is_or_was-over.ensures tested.over_is)
     (c.decide.ensures.halts is written)
+
+-- ---- kinds of steps
+
+pub returns-in-None-clause-kinds : goal.returns-in-None-clause-kinds
+returns-in-None-clause-kinds g c = test_cut c.args.self.now.cpu c.args.self.now.domains c.args.seats.now c.test.new.seats c.in-None.ensures.cut
+
+pub returns-then-not-measure_all-clause-kinds : goal.returns-then-not-measure_all-clause-kinds
+returns-then-not-measure_all-clause-kinds g c =
+    let m = c.measure_all in
+    turn_tests c.args.self.now.cpu c.args.self.now.domains Halted c.args.seats.now c.test.new.seats m.new.seats m.new.seats c.in-Some.ensures.kinds m.ensures.kinds (no_take c.args.self.now.cpu m.new.seats m.new.seats refl)
+
+pub returns-in-None-weigh_all-clause-kinds : goal.returns-in-None-weigh_all-clause-kinds
+returns-in-None-weigh_all-clause-kinds g c =
+    let m = c.measure_all in
+    let w = c.weigh_all in
+    turn_tests c.args.self.now.cpu c.args.self.now.domains Halted c.args.seats.now c.test.new.seats w.new.seats w.new.seats c.in-Some.ensures.kinds
+    (counts_after c.args.self.now.cpu c.test.new.seats m.new.seats w.new.seats m.ensures.kinds w.ensures.kinds) (no_take c.args.self.now.cpu w.new.seats w.new.seats refl)
+
+pub returns-in-Some-weigh_all-clause-kinds : goal.returns-in-Some-weigh_all-clause-kinds
+returns-in-Some-weigh_all-clause-kinds g c =
+    let m = c.measure_all in
+    let w = c.weigh_all in
+    turn_tests c.args.self.now.cpu c.args.self.now.domains c.decide.result c.args.seats.now c.test.new.seats w.new.seats c.decide.new.seats c.in-Some.ensures.kinds
+    (counts_after c.args.self.now.cpu c.test.new.seats m.new.seats w.new.seats m.ensures.kinds w.ensures.kinds) c.decide.ensures.kinds

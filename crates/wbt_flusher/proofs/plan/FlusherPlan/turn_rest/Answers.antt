@@ -7,6 +7,8 @@ use Rattle.wbt_flusher.specs.Sights.{sight}
 use Rattle.wbt_flusher.proofs.Ending.{ends_at_once, ends_undone, answers_by, told_none, come_by, come_dropped, wait_kept, rests_here, and_left, and_not_right}
 use Rattle.wbt_flusher.specs.Took.{drains}
 use Rattle.wbt_flusher.specs.Cut as cut
+use Rattle.wbt_kit.specs.declared.turn.Turn.TheVariants.{Resting}
+use Rattle.wbt_flusher.proofs.Turning.{turn_rests, turn_takes}
 use Rattle.wbt_flusher.proofs.plan.FlusherPlan.turn_rest.Goals as goal
 
 pub returns-then-dropped-clause-answers : goal.returns-then-dropped-clause-answers
@@ -118,3 +120,16 @@ returns-clause-done g c is written =
     let moments : Moments = record { batches = []; estimates = now ∷ [] } in
     absurd (ends_undone c.args.self.now c.args.hands.now.kit.now moments (g.G.Gate.said c.args.hands.now.gate.now) ⊥ c.turn_idle.result (sight c.args.work.now c.args.seats.now c.args.pen.now.log written)
     (sight c.turn_idle.new.work c.turn_idle.new.seats c.turn_idle.new.pen.log written) (c.turn_idle.ensures.ends moments written (here now [])) is)
+
+-- ---- kinds of steps
+
+pub returns-then-dropped-clause-kinds : goal.returns-then-dropped-clause-kinds
+returns-then-dropped-clause-kinds g c = turn_takes c.args.self.now.cpu c.args.self.now.domains c.take_last.result c.args.seats.now c.take_last.new.seats c.take_last.ensures.kinds
+
+pub returns-then-now-until-clause-kinds : goal.returns-then-now-until-clause-kinds
+returns-then-now-until-clause-kinds g c = turn_rests c.args.self.now.cpu c.args.self.now.domains (Resting c.told_moment-now.result c.args.until) c.args.seats.now c.args.seats.now refl
+
+pub returns-then-drain-clause-kinds : goal.returns-then-drain-clause-kinds
+returns-then-drain-clause-kinds g c =
+    let t = c.take_last-then-drain in
+    turn_takes c.args.self.now.cpu c.args.self.now.domains t.result c.args.seats.now t.new.seats t.ensures.kinds

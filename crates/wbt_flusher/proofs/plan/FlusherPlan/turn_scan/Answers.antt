@@ -13,6 +13,10 @@ use Rattle.wbt_flusher.proofs.Going.{owes_still}
 use Rattle.wbt_flusher.proofs.Quotas.{one_more, scan_below}
 use Rattle.wbt_flusher.specs.Took.{closes, goes_on}
 use Rattle.wbt_flusher.specs.Cut.{at_a_page, at_its_mark}
+use Rattle.wbt_kit.specs.declared.turn.Turn.TheVariants.{Stepped}
+use Rattle.wbt_flusher.specs.Kinds.{StepsToLook}
+use Rattle.wbt_flusher.specs.declared.scan.Looked.{Looked}
+use Rattle.wbt_flusher.proofs.Turning.{look_cut, turn_looks, turn_scans}
 use Rattle.wbt_flusher.proofs.plan.FlusherPlan.turn_scan.Goals as goal
 
 pub returns-in-Missed-clause-ends : goal.returns-in-Missed-clause-ends
@@ -126,3 +130,25 @@ returns-else-not-is_over-clause-within g c =
     let below = scan_below c.args.self.now c.args.work.now c.args.scan c.requires.ready.steady c.requires.phase in
     let more = one_more c.args.work.now.batch.items c.claim_next.new.work.batch.items c.args.scan.page c.in-Passed.ensures.looks.batch in
     let same : length c.close.new.work.batch.items ≡ length c.claim_next.new.work.batch.items = ap (λ (l : List ℕ). length l) c.close.ensures.batch in omega arith
+
+-- ---- kinds of steps
+
+pub returns-in-Missed-clause-kinds : goal.returns-in-Missed-clause-kinds
+returns-in-Missed-clause-kinds g c =
+    turn_looks c.args.self.now.cpu c.args.self.now.domains Stepped c.args.seats.now c.claim_next.new.seats
+    (subst (λ (x : Looked). StepsToLook c.args.self.now.cpu x c.args.seats.now c.claim_next.new.seats) c.in-Missed.is c.claim_next.ensures.kinds)
+
+pub returns-in-Stopped-clause-kinds : goal.returns-in-Stopped-clause-kinds
+returns-in-Stopped-clause-kinds g c =
+    look_cut c.args.self.now.cpu c.args.self.now.domains c.args.seats.now c.claim_next.new.seats
+    (subst (λ (x : Looked). StepsToLook c.args.self.now.cpu x c.args.seats.now c.claim_next.new.seats) c.in-Stopped.is c.claim_next.ensures.kinds)
+
+pub returns-then-not-is_over-clause-kinds : goal.returns-then-not-is_over-clause-kinds
+returns-then-not-is_over-clause-kinds g c =
+    turn_looks c.args.self.now.cpu c.args.self.now.domains Stepped c.args.seats.now c.claim_next.new.seats
+    (subst (λ (x : Looked). StepsToLook c.args.self.now.cpu x c.args.seats.now c.claim_next.new.seats) c.in-Passed.is c.claim_next.ensures.kinds)
+
+pub returns-else-not-is_over-clause-kinds : goal.returns-else-not-is_over-clause-kinds
+returns-else-not-is_over-clause-kinds g c =
+    turn_scans c.args.self.now.cpu c.args.self.now.domains c.close.result c.args.seats.now c.claim_next.new.seats c.close.new.seats
+    (subst (λ (x : Looked). StepsToLook c.args.self.now.cpu x c.args.seats.now c.claim_next.new.seats) c.in-Passed.is c.claim_next.ensures.kinds) c.close.ensures.kinds

@@ -11,6 +11,8 @@ use Rattle.wbt_flusher.proofs.Fitting.{loaded_count, may_load}
 use Rattle.wbt_flusher.proofs.Going.{goes_nowhere, kept_more}
 use Rattle.wbt_flusher.proofs.Keeping.{debts_same}
 use Rattle.wbt_flusher.proofs.Loading.{count_loaded}
+use Rattle.wbt_flusher.proofs.Turning.{no_counts, one_count, still_after}
+use Rattle.wbt_flusher.specs.Kinds.{AreCounts}
 use Rattle.wbt_flusher.proofs.plan.FlusherPlan.weigh.Goals as goal
 
 pub load_count-count-requires : goal.load_count-count-requires
@@ -79,3 +81,18 @@ returns-clause-weighs g c log written =
       loaded = count_loaded plan kit c.args.seats.now l.new.seats c.requires.fits (Context k) l.result l.ensures.loads;
       weighs = subst (λ (n : ℕ). WeighsInBoth plan kit k n b.result (sight c.args.work.now l.new.seats log written) (sight b.new.work b.new.seats log written)) c.reading.ensures (b.ensures.weighs log written);
     })
+
+-- ---- kinds of steps
+
+pub returns-then-as_slice-context-clause-kinds : goal.returns-then-as_slice-context-clause-kinds
+returns-then-as_slice-context-clause-kinds g c = no_counts c.args.self.now.cpu c.args.seats.now c.args.seats.now refl
+
+pub returns-then-not-may_step-clause-kinds : goal.returns-then-not-may_step-clause-kinds
+returns-then-not-may_step-clause-kinds g c = no_counts c.args.self.now.cpu c.args.seats.now c.args.seats.now refl
+
+pub returns-clause-kinds : goal.returns-clause-kinds
+returns-clause-kinds g c =
+    let cpu = c.args.self.now.cpu in
+    let l = c.load_count-count in
+    let b = c.weigh_in_both in
+    still_after cpu AreCounts c.args.seats.now l.new.seats b.new.seats (one_count cpu c.args.seats.now l.new.seats l.ensures.kinds) b.ensures.only_share.cpu

@@ -6,6 +6,7 @@ use Rattle.wbt_flusher.proofs.Going.{goes_nowhere, kept_more}
 use Rattle.wbt_flusher.proofs.Weighing.{only_more, weighs_more}
 use Rattle.wbt_flusher.specs.Sights.{sight}
 use Rattle.wbt_flusher.specs.Weighs.{WeighsBefore, weighs_each, weighs_none}
+use Rattle.wbt_flusher.proofs.Turning.{counts_after, no_counts}
 use Rattle.wbt_flusher.proofs.plan.FlusherPlan.weigh_all.Goals as goal
 
 pub returns-then-not-is_strict-clause-goes : goal.returns-then-not-is_strict-clause-goes
@@ -26,6 +27,7 @@ loop-context-init g c = record {
   only = record { phase = refl; batch = refl; faults = refl; hard = refl; waiting = refl; some_wait = refl; wheel = refl };
   weighs = λ log written. (refl, refl);
   asked = asked_none c.args.self.now.cpu (g.G.Gate.said c.args.hands.now.gate.now) c.args.seats.now c.args.seats.now refl;
+  kinds = no_counts c.args.self.now.cpu c.args.seats.now c.args.seats.now refl;
 }
 
 pub loop-context-preserved : goal.loop-context-preserved
@@ -42,6 +44,7 @@ loop-context-preserved g c =
       weighs = λ log written. weighs_more c.args.self.now c.args.hands.now.kit.now l.context l.over c.in-Some.more c.is_or_was-over.result (sight c.args.work.now c.args.seats.now log written)
           (sight l.work l.seats log written) (sight w.new.work w.new.seats log written) (l.invariant.weighs log written) (c.in-Some.ensures.weighs log written) c.is_or_was-over.ensures;
       asked = asked_more c.args.self.now.cpu (g.G.Gate.said c.args.hands.now.gate.now) c.args.seats.now l.seats w.new.seats l.invariant.asked e.asked;
+      kinds = counts_after c.args.self.now.cpu c.args.seats.now l.seats w.new.seats l.invariant.kinds e.kinds;
     }
 
 pub returns-in-None-clause-goes : goal.returns-in-None-clause-goes
@@ -75,3 +78,11 @@ returns-clause-weighs g c log written =
     let l = c.loop-context in
     weighs_each (sym c.is_strict.ensures ∙ c.if-not-is_strict.false) (subst (λ (n : ℕ). WeighsBefore c.args.self.now c.args.hands.now.kit.now n l.over (sight c.args.work.now c.args.seats.now log written) (sight l.work l.seats log written))
     (let long : length c.as_slice.result.now ≡ length c.args.self.now.contexts = (λ i. length (c.as_slice.ensures i)) in omega arith) (l.invariant.weighs log written))
+
+-- ---- kinds of steps
+
+pub returns-then-not-is_strict-clause-kinds : goal.returns-then-not-is_strict-clause-kinds
+returns-then-not-is_strict-clause-kinds g c = no_counts c.args.self.now.cpu c.args.seats.now c.args.seats.now refl
+
+pub returns-in-None-clause-kinds : goal.returns-in-None-clause-kinds
+returns-in-None-clause-kinds g c = counts_after c.args.self.now.cpu c.args.seats.now c.loop-context.seats c.weigh.new.seats c.loop-context.invariant.kinds c.weigh.ensures.kinds

@@ -5,7 +5,9 @@ use Rattle.wbt_flusher.specs.Did.{Fits, KeepsDebts}
 use Rattle.wbt_flusher.specs.Sights.{sight}
 use Rattle.wbt_flusher.specs.Turns.{HasLists, OnlyTallies}
 use Rattle.wbt_flusher.specs.Weighs.{WeighsBefore}
+use Rattle.wbt_flusher.specs.Kinds.{AreCounts}
 use Rattle.wbt_run_steps.specs.Gate.{AskedBeforeEach}
+use Rattle.wbt_run_steps.specs.Kinds.{Steps}
 use Rattle.wbt_flusher.proofs.plan.FlusherPlan.weigh_all.Given as goal
 
 abbrev pub invariant-loop-context : goal.invariant-loop-context
@@ -17,4 +19,5 @@ invariant-loop-context g l = record {
   only : OnlyTallies l.initial.work l.work;
   weighs : (log : CpuJournal) (written : Option ℕ) → WeighsBefore l.self l.hands.kit.now l.context l.over (sight l.initial.work l.initial.seats log written) (sight l.work l.seats log written);
   asked : AskedBeforeEach l.self.cpu (g.G.Gate.said l.hands.gate.now) l.initial.seats l.seats;
+  kinds : Steps l.self.cpu AreCounts l.initial.seats l.seats;
 }
