@@ -1,3 +1,4 @@
+pub mod Wording
 pub mod Wholly
 pub mod Draining
 pub mod Sweeping

@@ -16,7 +16,7 @@ use Rattle.wbt_run_drain.specs.Swept.{IsInodeCleaned, StepsUntold}
 use Rattle.wbt_run_drain.proofs.Cleaned.{held_all, holds_none, inode_there, is_cleaned, owes_nothing}
 use Rattle.wbt_run_drain.proofs.Queued.{queued_same}
 use Rattle.wbt_run_drain.proofs.Turning.{went_more, went_nowhere}
-use Rattle.wbt_run_drain.proofs.Untold.{still_standing, went_untold}
+use Rattle.wbt_run_drain.proofs.Untold.{still_standing, turns_still, went_untold}
 
 -- all CPUs stand, and each flusher is done
 pub record Sweeps {D : Type 0} (told : ℕ → Type 0) (said : ℕ → ℕ → Bool → Type 0) (written : D → Option ℕ) (faults : D → ℕ) (trace : Trace) (kit : Kit)
@@ -52,6 +52,7 @@ module _ {D : Type 0} (told : ℕ → Type 0) (said : ℕ → ℕ → Bool → T
     looked_standing : AreStanding told said written faults trace kit mid behind
     looked_standing = still_standing told said written faults trace kit mid 0 between behind (cpus_are trace now kit of) lawful.whole.cpus untold sweeps.standing
         (queued_same written faults trace kit mid between behind same sweeps.standing.queued)
+        (turns_still told said written faults trace kit mid 0 between behind (cpus_are trace now kit of) lawful.whole.cpus untold sweeps.standing sweeps.ended)
 
     looked_went : WentOn trace mid mid between behind
     looked_went = went_untold told said written faults trace kit mid 0 between behind (cpus_are trace now kit of) lawful.whole.cpus untold sweeps.standing

@@ -12,11 +12,13 @@ use Rattle.wbt_queue.specs.Passes.{Held, known_of, size_of}
 use Rattle.wbt_run_worker.specs.declared.side.CpuSide.{CpuSide}
 use Rattle.wbt_run_worker.specs.declared.side.Post.{Post}
 use Rattle.wbt_run_worker.specs.declared.side.Stand.TheVariants.{Open}
+use Rattle.wbt_run_steps.specs.Kinds.{Steps}
 use Rattle.wbt_run_steps.specs.Records.{IsApart, record_of}
 use Rattle.wbt_table.specs.Layout.{setting}
 use Rattle.wbt_trace.specs.declared.trace.Trace.{Trace}
 use Rattle.wbt_run_laws.specs.Grew.{Grew}
 use Rattle.wbt_run_drain.specs.Standing.{IsCleanedIn}
+use Rattle.wbt_run_drain.specs.Words.{IsLook}
 
 -- ---- a look at an inode
 
@@ -29,12 +31,13 @@ pub record IsUntold (old new : CpuRecord) : Type 0 where
   pub rescans : (page : ℕ) → 1 ≤ times_in page new.owed_rescans → 1 ≤ times_in page old.owed_rescans
   pub marks : (inode : ℕ) → 1 ≤ times_in inode new.owed_marks → 1 ≤ times_in inode old.owed_marks
 
--- such steps of one CPU, and puts into queues: nothing else changed
+-- such steps of one CPU, a look at most, and puts into queues: nothing else changed
 pub record StepsUntold (cpu : ℕ) (kit : Kit) (old new : Seats) : Type 0 where
   pub seats_are : AreSeatsOf kit new
   pub has : HasCpu cpu (record_of cpu new.cpu.cpus) new
   pub apart : IsApart cpu old.cpu new.cpu
   pub steps : IsUntold (record_of cpu old.cpu.cpus) (record_of cpu new.cpu.cpus)
+  pub kinds : Steps cpu (IsLook cpu) old new
   pub share : new.share ≡ old.share
   pub est : new.est ≡ old.est
 

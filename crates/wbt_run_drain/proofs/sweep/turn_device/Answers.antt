@@ -3,7 +3,7 @@ use Rattle.wbt_run_drain.proofs.Queued.{queued_put}
 use Rattle.wbt_run_drain.proofs.Reopening.{goes_on, stand_again, went_again}
 use Rattle.wbt_run_drain.proofs.Sweeps.{cpus_are}
 use Rattle.wbt_run_drain.proofs.Turning.{went_more}
-use Rattle.wbt_run_drain.proofs.Untold.{put_untold, still_standing, went_untold}
+use Rattle.wbt_run_drain.proofs.Untold.{put_untold, still_standing, turns_put, went_untold}
 use Rattle.wbt_run_drain.proofs.sweep.turn_device.Goals as goal
 
 pub put_back-requires : goal.put_back-requires
@@ -25,7 +25,8 @@ drain-requires g c =
       standing = still_standing told said g.D.Disk.written g.D.Disk.faults trace kit new 0 seats put (cpus_are trace kit.published.moment kit c.requires.kit) c.requires.lawful.whole.cpus
           (put_untold kit seats put r.0 r.1 c.put_back.ensures.only c.put_back.ensures.seats) again
           (queued_put g.D.Disk.written g.D.Disk.faults trace kit new seats put c.args.device c.put_back.ensures.device
-          (goes_on told said g.D.Disk.written g.D.Disk.faults trace kit c.args.device old new seats c.open_flushers.ensures c.requires.standing c.requires.ended c.requires.done) again.queued);
+          (goes_on told said g.D.Disk.written g.D.Disk.faults trace kit c.args.device old new seats c.open_flushers.ensures c.requires.standing c.requires.ended c.requires.done) again.queued)
+          (turns_put trace kit new seats put c.put_back.ensures.only again.turns);
     }
 
 pub returns-clause-went : goal.returns-clause-went
