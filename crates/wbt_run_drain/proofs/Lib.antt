@@ -21,5 +21,6 @@ pub mod Looking
 pub mod Sofar
 pub mod Reopening
 pub mod Opened
+pub mod Putting
 pub mod Sweeps
 pub mod Stopping
