@@ -1,8 +1,10 @@
-//! A clock that moves slowly, whoever rests by it.
+//! Clocks that several tests run by: one that moves slowly, whoever rests by it, and one that jumps.
 
+use std::alloc::Global;
 use std::sync::atomic::{AtomicU64, Ordering};
+use std::test::Fail;
 use std::thread;
-use wbt_io::Clock;
+use wbt_io::{Clock, JumpClock};
 
 // How many rests make a tick.
 const RESTS_A_TICK: u64 = 100;
@@ -34,4 +36,20 @@ impl Clock for SlowClock {
         self.rests.fetch_add(1, Ordering::SeqCst);
         thread::yield_now();
     }
+}
+
+// How often a clock that jumps shows the same moments again.
+const MOST_JUMPS: u64 = 8192;
+
+/// A clock that begins at 1, jumps to and fro between four moments for some ten thousands of looks, and then to one that is far ahead. The workers of a
+/// run look thousands of times until all have come, and it jumps still when they take their turns.
+pub fn jumping_clock(alloc: Global) -> Result<JumpClock, Fail> {
+    let mut moments = Vec::new(alloc);
+    for _jump in 0..MOST_JUMPS {
+        for moment in [1, 500, 3, 0] {
+            moments.push(moment)?;
+        }
+    }
+    moments.push(1_000_000_000)?;
+    Ok(JumpClock::make(alloc, moments)?)
 }

@@ -2,7 +2,7 @@
 //!
 //! ```text
 //! threads  the calls
-//! clock    a clock that moves slowly, whoever rests by it
+//! clock    a clock that moves slowly, whoever rests by it, and one that jumps
 //! traces   traces that several tests run
 //! lines    lines of a journal's text, word by word
 //! ```
@@ -13,7 +13,7 @@ mod lines;
 mod threads;
 mod traces;
 
-pub use clock::SlowClock;
+pub use clock::{SlowClock, jumping_clock};
 pub use lines::number;
 pub use threads::{Input, call, calm};
 pub use traces::{THREE_CPUS, TWO_PAGES};

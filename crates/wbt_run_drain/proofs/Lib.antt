@@ -22,5 +22,6 @@ pub mod Looking
 pub mod Sofar
 pub mod Reopening
 pub mod Opened
+pub mod Putting
 pub mod Sweeps
 pub mod Stopping

@@ -13,6 +13,8 @@ use Rattle.wbt_flusher.specs.declared.work.Phase.TheVariants.{Failed}
 use Rattle.wbt_kit.specs.declared.kit.Kit.{Kit}
 use Rattle.wbt_kit.specs.declared.kit.Seats.{Seats}
 use Rattle.wbt_flusher.specs.Sights.{OwesMark, OwesRescan}
+use Rattle.wbt_queue.specs.Passes.{known_of}
+use Rattle.wbt_run_steps.proofs.Queues.{puts_none}
 use Rattle.wbt_run_worker.specs.Side.{ArePosted, HaveEnded as TeamHasEnded, IsDesk}
 use Rattle.wbt_run_worker.specs.Team.{AnyOf, Seen, Team, owed_in, owed_totals, seen, team_of}
 use Rattle.wbt_run_worker.specs.Went.{IsTold}
@@ -248,6 +250,7 @@ module _ {D : Type 0} (told : ℕ → Type 0) (said : ℕ → ℕ → Bool → T
     stakes = λ domain. refl;
     total_stakes = refl;
     cleaned = λ page cleaned. cleaned;
+    puts = λ x. puts_none (known_of x seats.queue) (known_of x seats.queue) refl;
     stopped = λ none_stopped cpu other less is.
         let there : cpu < length old = subst (λ (n : ℕ). cpu < n) again.many less in
         none_stopped cpu other there (sym (again.each cpu other there).end ∙ is);

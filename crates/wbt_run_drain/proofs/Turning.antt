@@ -5,6 +5,8 @@ use mathlib.Core.Logic.{dite}
 use native.Mathlib.Decide.{ℕ_discrete}
 use Rattle.wbt_kit.specs.declared.kit.Kit.{Kit}
 use Rattle.wbt_kit.specs.declared.kit.Seats.{Seats}
+use Rattle.wbt_queue.specs.Passes.{known_of}
+use Rattle.wbt_run_steps.proofs.Queues.{puts_each, puts_none, puts_then}
 use Rattle.wbt_run_steps.specs.Kinds.{StepsInTurn}
 use Rattle.wbt_run_worker.specs.Answers.{job_by}
 use Rattle.wbt_run_worker.specs.declared.round.JobOutcome.{JobOutcome}
@@ -27,13 +29,13 @@ use Rattle.wbt_run_drain.proofs.Here.{side_now}
 use Rattle.wbt_run_drain.proofs.Queued.{queued_now}
 use Rattle.wbt_run_drain.proofs.Showing.{cleaned_now, in_sides, told_now}
 use Rattle.wbt_run_drain.proofs.Summing.{backed_now, disks_now, moments_now}
-use Rattle.wbt_run_drain.proofs.Taking.{TakesTurn, has_now, mine, others_keep, went}
+use Rattle.wbt_run_drain.proofs.Taking.{TakesTurn, d, has_now, mine, others_keep, went}
 use Rattle.wbt_run_drain.proofs.Wording.{others_stay, tells_else, turned_more}
 
 -- ---- one turn after another
 
 pub went_nowhere : {D : Type 0} (trace : Trace) (sides : List (CpuSide D)) (seats : Seats) → WentOn trace sides sides seats seats
-went_nowhere trace sides seats = record { desks = refl; timer = refl; stakes = λ domain. refl; total_stakes = refl; cleaned = λ page cleaned. cleaned; stopped = λ none_stopped. none_stopped }
+went_nowhere trace sides seats = record { desks = refl; timer = refl; stakes = λ domain. refl; total_stakes = refl; cleaned = λ page cleaned. cleaned; stopped = λ none_stopped. none_stopped; puts = λ device. puts_none (known_of device seats.queue) (known_of device seats.queue) refl }
 
 pub went_more : {D : Type 0} (trace : Trace) (a b c : List (CpuSide D)) (s t u : Seats) → WentOn trace a b s t → WentOn trace b c t u → WentOn trace a c s u
 went_more trace a b c s t u p q = record {
@@ -43,6 +45,7 @@ went_more trace a b c s t u p q = record {
   total_stakes = q.total_stakes ∙ p.total_stakes;
   cleaned = λ page cleaned. q.cleaned page (p.cleaned page cleaned);
   stopped = λ none_stopped. q.stopped (p.stopped none_stopped);
+  puts = λ device. puts_then (known_of device s.queue) (known_of device t.queue) (known_of device u.queue) (p.puts device) (q.puts device);
 }
 
 -- ---- a turn
@@ -139,4 +142,5 @@ module _ {D : Type 0} {told : ℕ → Type 0} {said : ℕ → ℕ → Bool → T
     total_stakes = (went t).did.total_stakes;
     cleaned = cleaned_now t;
     stopped = stopped_now;
+    puts = puts_each (d t).plan.device seats.queue seats'.queue (went t).queue;
   }

@@ -24,6 +24,8 @@ use Rattle.wbt_run_worker.proofs.Backing.{Grown, backed_still}
 use Rattle.wbt_run_worker.proofs.Lists.{each_at}
 use Rattle.std.specs.List.{sum_by}
 use Rattle.wbt_run_steps.specs.Inodes.{OnlyQueue}
+use Rattle.wbt_queue.specs.Passes.{known_of}
+use Rattle.wbt_run_steps.specs.Queues.{PutsMore}
 use Rattle.wbt_run_steps.specs.Records.{IsApart, firsts_of, record_of}
 use Rattle.wbt_run_steps.proofs.Changing.{record_is}
 use Rattle.wbt_run_steps.proofs.Logging.{none_as}
@@ -251,12 +253,13 @@ module _ {D : Type 0} (told : ℕ → Type 0) (said : ℕ → ℕ → Bool → T
       (λ cpu less. ap (λ events. times (absorbs page) events) (steps cpu less).grew.events) in
       omega arith
 
-  pub went_untold : WentOn trace sides sides old new
-  went_untold = record {
+  pub went_untold : ((device : ℕ) → PutsMore (known_of device old.queue) (known_of device new.queue)) → WentOn trace sides sides old new
+  went_untold puts = record {
     desks = refl;
     timer = untold.apart.timer;
     stakes = λ domain. ap (λ (s : fraction.Seats). fraction.stakes_in domain s.domains) untold.share;
     total_stakes = ap (λ (s : fraction.Seats). s.totals.stakes) untold.share;
     cleaned = cleaned_still;
     stopped = λ none_stopped. none_stopped;
+    puts = puts;
   }

@@ -27,7 +27,7 @@ use Rattle.wbt_run_worker.specs.declared.side.Post.{Post}
 use Rattle.wbt_run_worker.specs.declared.side.Stand.{Stand}
 use Rattle.wbt_run_worker.specs.declared.side.Stand.TheVariants.{Open, Done, Out}
 use Rattle.wbt_queue.specs.Passes.{AreAllTaken, known_of}
-use Rattle.wbt_run_steps.specs.Queues.{HasAllStakes}
+use Rattle.wbt_run_steps.specs.Queues.{HasAllStakes, PutsMore}
 use Rattle.wbt_run_steps.specs.Records.{record_of}
 use Rattle.wbt_table.specs.Calls.{HasNoPageSteps, HoldsAll}
 use Rattle.wbt_table.specs.Layout.{setting, domains as limits_of}
@@ -193,6 +193,8 @@ pub record WentOn {D : Type 0} (trace : Trace) (old new : List (CpuSide D)) (sea
   pub cleaned : (page : ℕ) → IsCleanedIn trace seats page → IsCleanedIn trace seats' page
   -- no side is told to stop that wasn't
   pub stopped : NoneStopped old → NoneStopped new
+  -- what was put into a device's queue before stands before what was put meanwhile
+  pub puts : (device : ℕ) → PutsMore (known_of device seats.queue) (known_of device seats'.queue)
 
 -- each flusher is done
 abbrev pub AreAllDone : {D : Type 0} (sides : List (CpuSide D)) → Type 0

@@ -152,16 +152,20 @@ module _ (signals : TableId) where
   timer_looked_for refused gone b c its is = record {
     its = ap (λ (v : Known). v.signals) is ∙ its;
     stakes = ap (λ (v : Known). v.stakes) is;
+    writes = ap (λ (v : Known). v.writes) is;
+    there = ap (λ (v : Known). v.there) is;
     rings = inl (ap (λ (v : Known). v.rings) is, refl);
   }
 
   pub timer_now : (refused : Bool) (voice : Known) → voice.signals ≡ signals → TimerSpeaks signals refused refused voice voice
-  timer_now refused voice its = record { its = its; stakes = refl; rings = inl (refl, refl) }
+  timer_now refused voice its = record { its = its; stakes = refl; writes = refl; there = refl; rings = inl (refl, refl) }
 
   pub timer_more : (r s t : Bool) (a b c : Known) → TimerSpeaks signals r s a b → TimerSpeaks signals s t b c → TimerSpeaks signals r t a c
   timer_more r s t a b c p q = record {
     its = q.its;
     stakes = q.stakes ∙ p.stakes;
+    writes = q.writes ∙ p.writes;
+    there = q.there ∙ p.there;
     rings = ⊎_elim
         (λ (same : (c.rings ≡ b.rings) × (t ≡ s)). ⊎_elim
         (λ (was : (b.rings ≡ a.rings) × (s ≡ r)). inl (same.0 ∙ was.0, same.1 ∙ was.1))
@@ -173,14 +177,17 @@ module _ (signals : TableId) where
   timer_looked refused quiet b c its is = record {
     its = ap (λ (v : Known). v.signals) is ∙ its;
     stakes = ap (λ (v : Known). v.stakes) is;
+    writes = ap (λ (v : Known). v.writes) is;
+    there = ap (λ (v : Known). v.there) is;
     rings = inl (ap (λ (v : Known). v.rings) is, refl);
   }
 
   -- it was refused memory, and rang
-  pub timer_refused : (was refused : Bool) (a b c d : Known) (quiet : Bool) → TimerSpeaks signals was refused a b → c ≡ record b { quiet = quiet; notes = c.notes }
-      → d ≡ record c { rings = c.rings + 1; notes = d.notes } → TimerSpeaks signals was true a d
-  timer_refused was refused a b c d quiet p is rang = record {
-    its = ap (λ (v : Known). v.signals) rang ∙ ap (λ (v : Known). v.signals) is ∙ p.its;
-    stakes = ap (λ (v : Known). v.stakes) rang ∙ ap (λ (v : Known). v.stakes) is ∙ p.stakes;
+  pub timer_refused : (was : Bool) (a b : Known) → a.signals ≡ signals → b ≡ record a { rings = a.rings + 1; notes = b.notes } → TimerSpeaks signals was true a b
+  timer_refused was a b its rang = record {
+    its = ap (λ (v : Known). v.signals) rang ∙ its;
+    stakes = ap (λ (v : Known). v.stakes) rang;
+    writes = ap (λ (v : Known). v.writes) rang;
+    there = ap (λ (v : Known). v.there) rang;
     rings = inr refl;
   }

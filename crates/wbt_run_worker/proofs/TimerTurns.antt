@@ -1,12 +1,13 @@
 -- The timer's turns so far, one after another.
-use Rattle.std.proofs.Common.{◌≡◌, ℕ, ◌+◌, ◌⊎◌, Bool, true, false, List, [], ◌∷◌, ◌++◌, refl, ap, ◌∙◌, subst, arith}
+use Rattle.std.proofs.Common.{◌≡◌, ℕ, ◌+◌, ◌≤◌, ◌||◌, ◌⊎◌, inl, inr, Bool, true, false, not, cond, List, [], ◌∷◌, ◌++◌, length, refl, sym, ap, ◌∙◌, subst, arith, length-append}
 use Rattle.wbt_signals.specs.Signals.{Known}
 use Rattle.wbt_journal.specs.Each.{Each}
 use Rattle.wbt_kit.specs.declared.kit.Kit.{Kit}
 use Rattle.wbt_kit.specs.declared.kit.Seats.{Seats}
 use Rattle.wbt_kit.specs.declared.turn.Turn.{Turn}
 use Rattle.wbt_kit.specs.declared.turn.Turn.TheVariants.{Stepped, Resting, Done, Halted, Faulted, Spent, NoMemory}
-use Rattle.wbt_run_worker.specs.TimerTurns.{AreTurns, GoesOnAfter, HasTurned, HasTurnedOnce, IsTurn, TimerStance, timer_stance}
+use Rattle.wbt_run_worker.specs.TimerTurns.{AreTurns, GoesOnAfter, HasTakenTurns, HasTurnedOnce, HasTurnedToTheEnd, IsTurn, TakesATurn, TakesTurn, TimerStance, is_refused, is_stopped, timer_stance}
+use Rattle.wbt_run_worker.specs.Voices.{LeavesFor}
 use Rattle.wbt_run_worker.specs.declared.ticking.TimerWorker.{TimerWorker}
 
 pub goes_after : (answer : Turn) → (answer ≡ NoMemory → ⊥) → (answer ≡ Halted → ⊥) → GoesOnAfter answer
@@ -18,15 +19,36 @@ goes_after Faulted out stopped = tt
 goes_after Spent out stopped = tt
 goes_after NoMemory out stopped = out refl
 
--- a look rings no bell, and a ring is one
-pub looked_only : (quiet : Bool) (a b c : Known) → b.rings ≡ a.rings → c ≡ record b { quiet = quiet; notes = c.notes } → c.rings ≡ a.rings
-looked_only quiet a b c same is = ap (λ (v : Known). v.rings) is ∙ same
+pub goes_by : (answer : Turn) → (answer ≡ NoMemory → ⊥) → (answer ≡ Halted → ⊥) → true ≡ not (is_refused answer || is_stopped answer)
+goes_by Stepped out stopped = refl
+goes_by (Resting now until) out stopped = refl
+goes_by Done out stopped = refl
+goes_by Halted out stopped = absurd (stopped refl)
+goes_by Faulted out stopped = refl
+goes_by Spent out stopped = refl
+goes_by NoMemory out stopped = absurd (out refl)
 
-pub looked_for : (gone : Bool) (a b c : Known) → b.rings ≡ a.rings → c ≡ record b { gone = gone; notes = c.notes } → c.rings ≡ a.rings
-looked_for gone a b c same is = ap (λ (v : Known). v.rings) is ∙ same
+-- a turn that was neither refused memory nor stopped
+pub goes_so : (answer : Turn) → GoesOnAfter answer → (is_refused answer ≡ false) × (is_stopped answer ≡ false)
+goes_so Stepped goes = (refl, refl)
+goes_so (Resting now until) goes = (refl, refl)
+goes_so Done goes = (refl, refl)
+goes_so Halted goes = absurd goes
+goes_so Faulted goes = (refl, refl)
+goes_so Spent goes = (refl, refl)
+goes_so NoMemory goes = absurd goes
 
-pub rang_once : (a b c : Known) → b.rings ≡ a.rings → c ≡ record b { rings = b.rings + 1; notes = c.notes } → c.rings ≡ a.rings + 1
-rang_once a b c same is = ap (λ (v : Known). v.rings) is ∙ ap (λ (n : ℕ). n + 1) same
+pub may_go : (answer : Turn) → not (is_refused answer || is_stopped answer) ≡ true → GoesOnAfter answer
+may_go Stepped so = tt
+may_go (Resting now until) so = tt
+may_go Done so = tt
+may_go Halted so = absurd (let no : false ≡ true = so in cc)
+may_go Faulted so = tt
+may_go Spent so = tt
+may_go NoMemory so = absurd (let no : false ≡ true = so in cc)
+
+pub rang_once : (a b : Known) → b ≡ record a { rings = a.rings + 1; notes = b.notes } → b.rings ≡ a.rings + 1
+rang_once a b is = ap (λ (v : Known). v.rings) is
 
 module _ (told : ℕ → Type 0) (said : ℕ → ℕ → Bool → Type 0) (kit : Kit) where
   turn_more : (turns : List Turn) (last : Turn) (a b c : TimerStance) → AreTurns told said kit turns a b → IsTurn told said kit last b c → AreTurns told said kit (turns ++ last ∷ []) a c
@@ -46,58 +68,159 @@ module _ (told : ℕ → Type 0) (said : ℕ → ℕ → Bool → Type 0) (kit :
   pub no_turn_yet : (s : TimerStance) → SoManyTurns s s
   no_turn_yet s = record { turns = []; are = refl; each = tt }
 
-  pub one_turn_more : (answer : Turn) (a b c : TimerStance) → SoManyTurns a b → IsTurn told said kit answer b c → GoesOnAfter answer → SoManyTurns a c
-  one_turn_more answer a b c many one had = record {
-    turns = many.turns ++ answer ∷ [];
-    are = turn_more many.turns answer a b c many.are one;
-    each = each_more many.turns answer many.each had;
-  }
-
   module _ (old new : TimerWorker) (seats seats' : Seats) where
-    -- it goes on after all
-    pub turned_so : SoManyTurns (timer_stance old seats) (timer_stance new seats') → new.refused ≡ old.refused → new.halted ≡ old.halted → new.voice.rings ≡ old.voice.rings
-        → HasTurned told said kit old new seats seats'
-    turned_so many refused halted rings = record {
-      turns = many.turns;
-      are = many.are;
-      out = false;
-      stopped = false;
-      ends = many.each;
-      refused = refused;
-      halted = halted;
-      rings = omega (arith, rings);
-    }
-
-    -- and then one had no memory
+    -- turns, of which the last had no memory
     pub turned_out : (mid : TimerStance) → SoManyTurns (timer_stance old seats) mid → IsTurn told said kit NoMemory mid (timer_stance new seats') → new.refused ≡ true → new.halted ≡ old.halted
-        → new.voice.rings ≡ old.voice.rings + 1 → HasTurned told said kit old new seats seats'
+        → new.voice.rings ≡ old.voice.rings + 1 → HasTurnedToTheEnd told said kit old new seats seats'
     turned_out mid many one refused halted rings = record {
-      turns = many.turns ++ NoMemory ∷ [];
-      are = turn_more many.turns NoMemory (timer_stance old seats) mid (timer_stance new seats') many.are one;
-      out = true;
-      stopped = false;
-      ends = (many.turns, refl, many.each);
-      refused = refused;
-      halted = halted;
-      rings = rings;
+      turned = record {
+        turns = many.turns ++ NoMemory ∷ [];
+        are = turn_more many.turns NoMemory (timer_stance old seats) mid (timer_stance new seats') many.are one;
+        out = true;
+        stopped = false;
+        ends = (many.turns, refl, many.each);
+        refused = refused;
+        halted = halted;
+        rings = rings;
+      };
+      some = omega (arith, length-append many.turns (NoMemory ∷ []));
+      cause = tt;
     }
 
     -- or was stopped
     pub turned_stopped : (mid : TimerStance) → SoManyTurns (timer_stance old seats) mid → IsTurn told said kit Halted mid (timer_stance new seats') → new.refused ≡ old.refused → new.halted ≡ true
-        → new.voice.rings ≡ old.voice.rings → HasTurned told said kit old new seats seats'
+        → new.voice.rings ≡ old.voice.rings → HasTurnedToTheEnd told said kit old new seats seats'
     turned_stopped mid many one refused halted rings = record {
-      turns = many.turns ++ Halted ∷ [];
-      are = turn_more many.turns Halted (timer_stance old seats) mid (timer_stance new seats') many.are one;
-      out = false;
-      stopped = true;
-      ends = (many.turns, refl, many.each);
-      refused = refused;
-      halted = halted;
-      rings = omega (arith, rings);
+      turned = record {
+        turns = many.turns ++ Halted ∷ [];
+        are = turn_more many.turns Halted (timer_stance old seats) mid (timer_stance new seats') many.are one;
+        out = false;
+        stopped = true;
+        ends = (many.turns, refl, many.each);
+        refused = refused;
+        halted = halted;
+        rings = omega (arith, rings);
+      };
+      some = omega (arith, length-append many.turns (Halted ∷ []));
+      cause = tt;
     }
 
-    -- ---- one thread for all
+  -- ---- turns as the worker takes them
 
+  -- a turn that it goes on after, of which it says nothing
+  pub takes_on : (answer : Turn) (old new : TimerWorker) (s t : Seats) → IsTurn told said kit answer (timer_stance old s) (timer_stance new t) → GoesOnAfter answer
+      → new.refused ≡ old.refused → new.halted ≡ old.halted → new.voice.rings ≡ old.voice.rings → TakesTurn told said kit answer old new s t
+  takes_on answer old new s t one goes refused halted rings =
+      let none = goes_so answer goes in record {
+        is = one;
+        refused = subst (λ (b : Bool). new.refused ≡ (b || old.refused)) (sym none.0) refused;
+        halted = subst (λ (b : Bool). new.halted ≡ (b || old.halted)) (sym none.1) halted;
+        rings = subst (λ (b : Bool). new.voice.rings ≡ old.voice.rings + cond b 1 0) (sym none.0) (omega (arith, rings));
+      }
+
+  -- so far it turned, and goes on: it says so of nothing, and rang no bell
+  pub record HasGoneOn (old new : TimerWorker) (seats seats' : Seats) : Type 0 where
+    pub many : SoManyTurns (timer_stance old seats) (timer_stance new seats')
+    pub refused : new.refused ≡ old.refused
+    pub halted : new.halted ≡ old.halted
+    pub rings : new.voice.rings ≡ old.voice.rings
+
+  pub gone_nowhere : (worker : TimerWorker) (seats : Seats) → HasGoneOn worker worker seats seats
+  gone_nowhere worker seats = record { many = no_turn_yet (timer_stance worker seats); refused = refl; halted = refl; rings = refl }
+
+  -- so it did, and took a turn at least
+  pub record HasGoneFurther (old new : TimerWorker) (seats seats' : Seats) : Type 0 where
+    pub gone : HasGoneOn old new seats seats'
+    pub some : 1 ≤ length gone.many.turns
+
+  -- a turn that it goes on after
+  pub gone_further : (answer : Turn) (old mid new : TimerWorker) (s t u : Seats) → HasGoneOn old mid s t → TakesTurn told said kit answer mid new t u → GoesOnAfter answer
+      → HasGoneFurther old new s u
+  gone_further answer old mid new s t u gone takes goes =
+      let none = goes_so answer goes in
+      let rung : new.voice.rings ≡ mid.voice.rings + cond false 1 0 = subst (λ (b : Bool). new.voice.rings ≡ mid.voice.rings + cond b 1 0) none.0 takes.rings in
+      let many = gone.many in
+      record {
+        gone = record {
+          many = record {
+            turns = many.turns ++ answer ∷ [];
+            are = turn_more many.turns answer (timer_stance old s) (timer_stance mid t) (timer_stance new u) many.are takes.is;
+            each = each_more many.turns answer many.each goes;
+          };
+          refused = subst (λ (b : Bool). new.refused ≡ (b || mid.refused)) none.0 takes.refused ∙ gone.refused;
+          halted = subst (λ (b : Bool). new.halted ≡ (b || mid.halted)) none.1 takes.halted ∙ gone.halted;
+          rings = let before = gone.rings in omega (arith, rung, before);
+        };
+        some = omega (arith, length-append many.turns (answer ∷ []));
+      }
+
+  -- it looked whether it is to leave
+  pub gone_looked : (old mid new : TimerWorker) (s t : Seats) → timer_stance new t ≡ timer_stance mid t → new.refused ≡ mid.refused → new.halted ≡ mid.halted → new.voice.rings ≡ mid.voice.rings
+      → HasGoneOn old mid s t → HasGoneOn old new s t
+  gone_looked old mid new s t stance refused halted rings gone = record {
+    many = subst (λ (stance : TimerStance). SoManyTurns (timer_stance old s) stance) (sym stance) gone.many;
+    refused = refused ∙ gone.refused;
+    halted = halted ∙ gone.halted;
+    rings = rings ∙ gone.rings;
+  }
+
+  -- it was cut off by its last turn
+  cut_by : (answer : Turn) (old mid new : TimerWorker) (s t u : Seats) → HasGoneOn old mid s t → TakesTurn told said kit answer mid new t u
+      → false ≡ not (is_refused answer || is_stopped answer) → HasTurnedToTheEnd told said kit old new s u
+  cut_by Halted old mid new s t u gone takes so =
+      let rung : new.voice.rings ≡ mid.voice.rings + 0 = takes.rings in let before = gone.rings in
+      turned_stopped old new s u (timer_stance mid t) gone.many takes.is (takes.refused ∙ gone.refused) takes.halted (omega (arith, rung, before))
+  cut_by NoMemory old mid new s t u gone takes so =
+      let rung : new.voice.rings ≡ mid.voice.rings + 1 = takes.rings in let before = gone.rings in
+      turned_out old new s u (timer_stance mid t) gone.many takes.is takes.refused (takes.halted ∙ gone.halted) (omega (arith, rung, before))
+  cut_by Stepped old mid new s t u gone takes so = absurd (let no : false ≡ true = so in cc)
+  cut_by (Resting now until) old mid new s t u gone takes so = absurd (let no : false ≡ true = so in cc)
+  cut_by Done old mid new s t u gone takes so = absurd (let no : false ≡ true = so in cc)
+  cut_by Faulted old mid new s t u gone takes so = absurd (let no : false ≡ true = so in cc)
+  cut_by Spent old mid new s t u gone takes so = absurd (let no : false ≡ true = so in cc)
+
+  left_by : (answer : Turn) (old new : TimerWorker) (s t : Seats) → TakesTurn told said kit answer old new s t → false ≡ not (is_refused answer || is_stopped answer)
+      → LeavesFor new.refused new.halted new.in_turn new.voice
+  left_by Halted old new s t takes so = inr (inl takes.halted)
+  left_by NoMemory old new s t takes so = inl takes.refused
+  left_by Stepped old new s t takes so = absurd (let no : false ≡ true = so in cc)
+  left_by (Resting now until) old new s t takes so = absurd (let no : false ≡ true = so in cc)
+  left_by Done old new s t takes so = absurd (let no : false ≡ true = so in cc)
+  left_by Faulted old new s t takes so = absurd (let no : false ≡ true = so in cc)
+  left_by Spent old new s t takes so = absurd (let no : false ≡ true = so in cc)
+
+  pub leaves_cut : (old new : TimerWorker) (s t : Seats) → TakesATurn told said kit false old new s t → LeavesFor new.refused new.halted new.in_turn new.voice
+  leaves_cut old new s t took = left_by took.answer old new s t took.takes took.goes
+
+  module _ (old mid new : TimerWorker) (s t u : Seats) (gone : HasGoneOn old mid s t) where
+    pub cut_off : TakesATurn told said kit false mid new t u → HasTurnedToTheEnd told said kit old new s u
+    cut_off took = cut_by took.answer old mid new s t u gone took.takes took.goes
+
+    pub turned_on : TakesATurn told said kit true mid new t u → HasGoneFurther old new s u
+    turned_on took = gone_further took.answer old mid new s t u gone took.takes (may_go took.answer (sym took.goes))
+
+  -- after a turn it found that it is to leave
+  pub to_the_end : (old new last : TimerWorker) (s u : Seats) → HasGoneFurther old new s u → timer_stance last u ≡ timer_stance new u → last.refused ≡ new.refused → last.halted ≡ new.halted
+      → last.voice.rings ≡ new.voice.rings → (last.in_turn ≡ true) ⊎ (last.voice.gone ≡ true) → HasTurnedToTheEnd told said kit old last s u
+  to_the_end old new last s u further stance refused halted rings cause =
+      let all = further.gone in record {
+        turned = record {
+          turns = all.many.turns;
+          are = subst (λ (stance : TimerStance). AreTurns told said kit all.many.turns (timer_stance old s) stance) (sym stance) all.many.are;
+          out = false;
+          stopped = false;
+          ends = all.many.each;
+          refused = refused ∙ all.refused;
+          halted = halted ∙ all.halted;
+          rings = let now = rings ∙ all.rings in omega (arith, now);
+        };
+        some = further.some;
+        cause = cause;
+      }
+
+  -- ---- one thread for all
+
+  module _ (old new : TimerWorker) (seats seats' : Seats) where
     pub no_turn : timer_stance new seats' ≡ timer_stance old seats → new.refused ≡ old.refused → new.halted ≡ old.halted → new.voice.rings ≡ old.voice.rings
         → (new.voice.quiet ≡ true) ⊎ (old.halted ≡ true) → HasTurnedOnce told said kit old new seats seats'
     no_turn same refused halted rings none = record {
@@ -152,3 +275,41 @@ module _ (told : ℕ → Type 0) (said : ℕ → ℕ → Bool → Type 0) (kit :
       };
       once = tt;
     }
+
+    once_so : (answer : Turn) → GoesOnAfter answer → TakesTurn told said kit answer old new seats seats' → HasTurnedOnce told said kit old new seats seats'
+    once_so answer goes takes =
+        let all = (gone_further answer old old new seats seats seats' (gone_nowhere old seats) takes goes).gone in one_turn answer takes.is goes all.refused all.halted all.rings
+
+    taken_once : (answer : Turn) → TakesTurn told said kit answer old new seats seats' → HasTurnedOnce told said kit old new seats seats'
+    taken_once Halted takes = let rung : new.voice.rings ≡ old.voice.rings + 0 = takes.rings in stopped_at_once takes.is takes.refused takes.halted (omega (arith, rung))
+    taken_once NoMemory takes = out_at_once takes.is takes.refused takes.halted takes.rings
+    taken_once Stepped takes = once_so Stepped tt takes
+    taken_once (Resting now until) takes = once_so (Resting now until) tt takes
+    taken_once Done takes = once_so Done tt takes
+    taken_once Faulted takes = once_so Faulted tt takes
+    taken_once Spent takes = once_so Spent tt takes
+
+    -- after a look, by which it rang no bell
+    pub looked_once : (voice : Known) (answer : Turn) → voice.rings ≡ old.voice.rings → TakesTurn told said kit answer (record old { voice = voice }) new seats seats' → HasTurnedOnce told said kit old new seats seats'
+    looked_once voice answer same takes = taken_once answer (record {
+      is = takes.is;
+      refused = takes.refused;
+      halted = takes.halted;
+      rings = subst (λ (n : ℕ). new.voice.rings ≡ n + cond (is_refused answer) 1 0) same takes.rings;
+    })
+
+  -- ---- turns beside others, and then in turn
+
+  turns_more : (some more : List Turn) (a b c : TimerStance) → AreTurns told said kit some a b → AreTurns told said kit more b c → AreTurns told said kit (some ++ more) a c
+  turns_more [] more a b c are then = subst (λ (s : TimerStance). AreTurns told said kit more s c) are then
+  turns_more (t ∷ some) more a b c are then = (are.0, are.1, turns_more some more are.0 b c are.2 then)
+
+  pub turned_some : (old new : TimerWorker) (s t : Seats) → HasTurnedToTheEnd told said kit old new s t → HasTakenTurns told said kit old new s t
+  turned_some old new s t turned = record { turns = turned.turned.turns; are = turned.turned.are; some = turned.some }
+
+  pub turned_more : (old mid new : TimerWorker) (s t u : Seats) → HasTakenTurns told said kit old mid s t → HasTurnedOnce told said kit mid new t u → HasTakenTurns told said kit old new s u
+  turned_more old mid new s t u before once = record {
+    turns = before.turns ++ once.turned.turns;
+    are = turns_more before.turns once.turned.turns (timer_stance old s) (timer_stance mid t) (timer_stance new u) before.are once.turned.are;
+    some = let many = before.some in omega (arith, many, length-append before.turns once.turned.turns);
+  }

@@ -1,5 +1,5 @@
 -- The timer's turns, from the first to the last, and where it was refused memory or stopped.
-use Rattle.std.specs.Prelude.{◌≡◌, ℕ, ◌+◌, ◌||◌, ◌⊎◌, Bool, true, false, cond, List, [], ◌∷◌, ◌++◌}
+use Rattle.std.specs.Prelude.{◌≡◌, ℕ, ◌+◌, ◌≤◌, ◌||◌, ◌⊎◌, Bool, true, false, not, cond, List, [], ◌∷◌, ◌++◌, length}
 use Rattle.wbt_signals.specs.Signals.{Known}
 use Rattle.wbt_journal.specs.Each.{Each}
 use Rattle.wbt_journal.specs.declared.timer.TimerEntry.{TimerEntry}
@@ -48,6 +48,29 @@ EndBy false false turns = Each GoesOnAfter turns
 EndBy false true turns = (before : List Turn) × (turns ≡ before ++ Halted ∷ []) × Each GoesOnAfter before
 EndBy true stopped turns = (before : List Turn) × (turns ≡ before ++ NoMemory ∷ []) × Each GoesOnAfter before
 
+-- whether a turn was refused memory, and whether the gate stopped it
+abbrev pub is_refused : (answer : Turn) → Bool
+is_refused NoMemory = true
+is_refused other = false
+
+abbrev pub is_stopped : (answer : Turn) → Bool
+is_stopped Halted = true
+is_stopped other = false
+
+-- A turn with this answer. The worker says that it was refused memory, and rings the bell, just where the turn was; and it is halted just where the
+-- gate stopped the turn.
+pub record TakesTurn (told : ℕ → Type 0) (said : ℕ → ℕ → Bool → Type 0) (kit : Kit) (answer : Turn) (old new : TimerWorker) (seats seats' : Seats) : Type 0 where
+  pub is : IsTurn told said kit answer (timer_stance old seats) (timer_stance new seats')
+  pub refused : new.refused ≡ (is_refused answer || old.refused)
+  pub halted : new.halted ≡ (is_stopped answer || old.halted)
+  pub rings : new.voice.rings ≡ old.voice.rings + cond (is_refused answer) 1 0
+
+-- a turn, after which it goes on or doesn't
+pub record TakesATurn (told : ℕ → Type 0) (said : ℕ → ℕ → Bool → Type 0) (kit : Kit) (goes_on : Bool) (old new : TimerWorker) (seats seats' : Seats) : Type 0 where
+  pub answer : Turn
+  pub takes : TakesTurn told said kit answer old new seats seats'
+  pub goes : goes_on ≡ not (is_refused answer || is_stopped answer)
+
 -- The worker took these turns and did nothing else. It says that it was refused memory, and rings the bell, just where the last one was; and that
 -- it was halted just where the gate stopped the last one, and said false.
 pub record HasTurned (told : ℕ → Type 0) (said : ℕ → ℕ → Bool → Type 0) (kit : Kit) (old new : TimerWorker) (seats seats' : Seats) : Type 0 where
@@ -59,6 +82,25 @@ pub record HasTurned (told : ℕ → Type 0) (said : ℕ → ℕ → Bool → Ty
   pub refused : new.refused ≡ (out || old.refused)
   pub halted : new.halted ≡ (stopped || old.halted)
   pub rings : new.voice.rings ≡ old.voice.rings + cond out 1 0
+
+-- Why the turns ended, of which the last one was refused memory or stopped, or wasn't: it rang the bell; the gate stopped it; or it is to be
+-- served in turn, or found that all CPUs' workers have left
+abbrev pub EndFor : (out stopped in_turn : Bool) (voice : Known) → Type 0
+EndFor true stopped in_turn voice = Unit {0}
+EndFor false true in_turn voice = Unit {0}
+EndFor false false in_turn voice = (in_turn ≡ true) ⊎ (voice.gone ≡ true)
+
+-- It took one turn at least, before it looked whether it was to leave. Its turns ended for their cause.
+pub record HasTurnedToTheEnd (told : ℕ → Type 0) (said : ℕ → ℕ → Bool → Type 0) (kit : Kit) (old new : TimerWorker) (seats seats' : Seats) : Type 0 where
+  pub turned : HasTurned told said kit old new seats seats'
+  pub some : 1 ≤ length turned.turns
+  pub cause : EndFor turned.out turned.stopped new.in_turn new.voice
+
+-- turns, one at least, and nothing else
+pub record HasTakenTurns (told : ℕ → Type 0) (said : ℕ → ℕ → Bool → Type 0) (kit : Kit) (old new : TimerWorker) (seats seats' : Seats) : Type 0 where
+  pub turns : List Turn
+  pub are : AreTurns told said kit turns (timer_stance old seats) (timer_stance new seats')
+  pub some : 1 ≤ length turns
 
 -- one turn; or none, where it found that no task writes any more, or was halted before
 abbrev pub IsOneTurn : (turns : List Turn) (halted : Bool) (voice : Known) → Type 0

@@ -53,8 +53,10 @@ pub record HasSpoken (signals : TableId) (writes : Bool) (end : Option End) (old
 abbrev pub LeavesFor : (refused halted in_turn : Bool) (voice : Known) → Type 0
 LeavesFor refused halted in_turn voice = (refused ≡ true) ⊎ ((halted ≡ true) ⊎ ((in_turn ≡ true) ⊎ (voice.gone ≡ true)))
 
--- the timer rings the bell only where it was refused memory
+-- the timer rings the bell only where it was refused memory; it speaks for no CPU's worker, neither that it writes no more nor that it leaves
 pub record TimerSpeaks (signals : TableId) (refused refused' : Bool) (old new : Known) : Type 0 where
   pub its : new.signals ≡ signals
   pub stakes : new.stakes ≡ old.stakes
+  pub writes : new.writes ≡ old.writes
+  pub there : new.there ≡ old.there
   pub rings : ((new.rings ≡ old.rings) × (refused' ≡ refused)) ⊎ (refused' ≡ true)

@@ -12,9 +12,6 @@ use wbt_signals::{Signals, Voice};
 // How many ticks a worker waits for the others: two seconds of the machine's clock.
 const MOST_WAIT: u64 = 2000;
 
-// How often it looks for them from one look at the clock to the next.
-const LOOKS_A_MOMENT: u64 = 1024;
-
 // How often it looks for them at most, whatever the clock shows: some tens of seconds.
 const MOST_LOOKS: u64 = 40_000_000;
 
@@ -41,21 +38,17 @@ impl Condition {
         Ok((condition, voice))
     }
 
-    /// A worker comes to its first turn, and waits for the others. Where one doesn't come within some seconds, as where no thread could be made for
-    /// it, one thread is to serve all. Each comes once.
+    /// A worker comes to its first turn, and waits for the others; at each look for them it asks the clock. Where one doesn't come within two seconds
+    /// of it, as where no thread could be made for it, one thread is to serve all. Each comes once.
     pub fn meet<C: Clock>(&self, clock: &C) {
         self.coming.fetch_sub(1, Ordering::SeqCst);
-        let mut since = None;
-        for look in 0..MOST_LOOKS {
+        let since = clock.now();
+        for _look in 0..MOST_LOOKS {
             if self.is_in_turns() || self.coming.load(Ordering::SeqCst) == 0 {
                 return;
             }
-            if look % LOOKS_A_MOMENT == LOOKS_A_MOMENT - 1 {
-                let now = clock.now();
-                if now.saturating_sub(since.unwrap_or(now)) >= MOST_WAIT {
-                    break;
-                }
-                since = since.or(Some(now));
+            if clock.now().saturating_sub(since) >= MOST_WAIT {
+                break;
             }
             thread::yield_now();
         }

@@ -5,8 +5,8 @@ use std::alloc::{AllocError, Global};
 use std::sync::Wait;
 use std::test::Fail;
 use std::thread::Threads;
-use top_in_use::{TWO_PAGES, call, calm};
-use wbt_io::{Clock, FaultyRack, FreeGate, HaltGate, HandClock, JumpClock};
+use top_in_use::{TWO_PAGES, call, calm, jumping_clock};
+use wbt_io::{Clock, FaultyRack, FreeGate, HaltGate, HandClock};
 use wbt_top_plain::Status;
 
 // Four tasks on two CPUs write the same pages again and again, with rests after which a flusher that gave pages back may try again. It is
@@ -99,18 +99,13 @@ fn is_faulted(alloc: Global, ran: &Ran) -> Result<bool, AllocError> {
     )
 }
 
-// A clock that jumps.
-fn jumping(alloc: Global) -> Result<JumpClock, Fail> {
-    Ok(JumpClock::make(alloc, [1, 500, 3, 0, 1000000000].to_vec(alloc)?)?)
-}
-
 #[test]
 fn seven_failures_leave_nothing_behind(rt: HostRuntime) -> Result<(), Fail> {
     let alloc = rt.alloc();
     let ran = run(&rt, alloc, FOUR_WRITERS, &HandClock::make(1), 7)?;
     assert!(rt; is_done(alloc, &ran, 7)?);
     assert!(rt; 1 <= lines_of(ran.held.as_slice(), b"back 0 ", b" dirty"));
-    let jumped = run(&rt, alloc, FOUR_WRITERS, &jumping(alloc)?, 7)?;
+    let jumped = run(&rt, alloc, FOUR_WRITERS, &jumping_clock(alloc)?, 7)?;
     assert!(rt; is_done(alloc, &jumped, 7)?);
     Ok(())
 }
@@ -135,7 +130,7 @@ fn eight_failures_are_told_with_what_is_left(rt: HostRuntime) -> Result<(), Fail
     let alloc = rt.alloc();
     let ran = run(&rt, alloc, FOUR_WRITERS, &HandClock::make(1), 8)?;
     assert!(rt; is_faulted(alloc, &ran)?);
-    let jumped = run(&rt, alloc, FOUR_WRITERS, &jumping(alloc)?, 8)?;
+    let jumped = run(&rt, alloc, FOUR_WRITERS, &jumping_clock(alloc)?, 8)?;
     assert!(rt; is_faulted(alloc, &jumped)?);
     Ok(())
 }

@@ -5,8 +5,8 @@ use std::alloc::Global;
 use std::sync::Wait;
 use std::test::Fail;
 use std::thread::Threads;
-use top_in_use::{Input, SlowClock, THREE_CPUS, TWO_PAGES, call, calm};
-use wbt_io::{FreeGate, HaltGate, JumpClock, ModelRack};
+use top_in_use::{Input, SlowClock, THREE_CPUS, TWO_PAGES, call, calm, jumping_clock};
+use wbt_io::{FreeGate, HaltGate, ModelRack};
 use wbt_run::MeetingGate;
 use wbt_top_plain::{Route, Status, route};
 use wbt_trace_text::{Missing, TraceFault};
@@ -45,7 +45,7 @@ fn two_pages_are_written_and_cleaned(rt: HostRuntime) -> Result<(), Fail> {
 #[test]
 fn a_clock_that_jumps_stops_nobody(rt: HostRuntime) -> Result<(), Fail> {
     let alloc = rt.alloc();
-    let clock = JumpClock::make(alloc, [1, 500, 3, 0, 1000000000].to_vec(alloc)?)?;
+    let clock = jumping_clock(alloc)?;
     let done = call(
         &rt,
         alloc,

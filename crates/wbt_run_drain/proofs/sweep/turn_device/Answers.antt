@@ -1,4 +1,6 @@
+use Rattle.wbt_run_steps.proofs.Queues.{puts_each}
 use Rattle.wbt_run_drain.proofs.Looking.{first_held}
+use Rattle.wbt_run_drain.proofs.Putting.{next_put}
 use Rattle.wbt_run_drain.proofs.Queued.{queued_put}
 use Rattle.wbt_run_drain.proofs.Reopening.{goes_on, stand_again, went_again}
 use Rattle.wbt_run_drain.proofs.Sweeps.{cpus_are}
@@ -45,5 +47,11 @@ returns-clause-went g c =
     (went_more trace old new new seats seats put
     (went_again told said g.D.Disk.written g.D.Disk.faults trace kit c.args.device old new seats c.open_flushers.ensures c.requires.standing c.requires.ended c.requires.done)
     (went_untold told said g.D.Disk.written g.D.Disk.faults trace kit new 0 seats put (cpus_are trace kit.published.moment kit c.requires.kit) c.requires.lawful.whole.cpus
-    (put_untold kit seats put r.0 r.1 c.put_back.ensures.only c.put_back.ensures.seats) again))
+    (put_untold kit seats put r.0 r.1 c.put_back.ensures.only c.put_back.ensures.seats) again
+    (puts_each c.args.device seats.queue put.queue c.put_back.ensures.device)))
     c.drain.ensures.went
+
+pub returns-clause-puts : goal.returns-clause-puts
+returns-clause-puts g c =
+    next_put c.args.hands.now.kit.now c.args.device c.args.inode c.args.seats.now.queue c.put_back.new.seats.queue c.drain.new.seats.queue
+    c.put_back.ensures.queued (c.drain.ensures.went.puts c.args.device)
