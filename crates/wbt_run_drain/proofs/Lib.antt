@@ -1,3 +1,4 @@
+pub mod Wording
 pub mod Wholly
 pub mod Draining
 pub mod Sweeping
@@ -21,5 +22,6 @@ pub mod Looking
 pub mod Sofar
 pub mod Reopening
 pub mod Opened
+pub mod Putting
 pub mod Sweeps
 pub mod Stopping

@@ -13,7 +13,9 @@ use Rattle.wbt_kit.specs.declared.kit.Seats.{Seats}
 use Rattle.wbt_rules.specs.Things.{context_of, device_of}
 use Rattle.wbt_queue.specs.Known.{after_put}
 use Rattle.wbt_queue.specs.Passes as queue
+use Rattle.wbt_run_steps.specs.Kinds.{marking}
 use Rattle.wbt_run_steps.specs.Records.{OnlyCpu, record_of}
+use Rattle.wbt_run_steps.proofs.Logging.{makes_as}
 use Rattle.wbt_run_steps.proofs.Changing.{apart_changed, record_is, seats_stay}
 use Rattle.wbt_table.specs.Calls.{HoldsAll}
 use Rattle.wbt_table.specs.Layout.{setting}
@@ -38,9 +40,9 @@ mark_untold to cpu inode found r = record {
   marks = λ i owes. (passed (λ m. not (m == inode)) i r.owed_marks owes).there;
 }
 
-pub marked : (kit : Kit) (cpu inode found : ℕ) (old new : Seats) (r : CpuRecord) → AreSeatsOf kit old → HasCpu cpu r old → OnlyCpu old new
+pub marked : (kit : Kit) (cpu inode found : ℕ) (old new : Seats) (r : CpuRecord) → cpu ≡ 0 → AreSeatsOf kit old → HasCpu cpu r old → OnlyCpu old new
     → Makes (setting kit.throttle.layout) (mark cpu inode) found old.cpu new.cpu → StepsUntold cpu kit old new
-marked kit cpu inode found old new r seats held only makes =
+marked kit cpu inode found old new r first seats held only makes =
     let f = record_after (setting kit.throttle.layout) (mark cpu inode) found in
     let now : Has new.cpu.cpus cpu (f r) = has_changed cpu f old.cpu new.cpu r makes.changes held in
     let was_is = record_is old.cpu.cpus cpu r held in
@@ -51,6 +53,7 @@ marked kit cpu inode found old new r seats held only makes =
       apart = apart_changed cpu f old.cpu new.cpu r makes.changes held;
       steps = subst (λ (q : CpuRecord). IsUntold q (record_of cpu new.cpu.cpus)) (sym was_is)
           (subst (λ (q : CpuRecord). IsUntold r q) (sym now_is) (mark_untold (setting kit.throttle.layout) cpu inode found r));
+      kinds = (marking, inr (first, refl), makes_as cpu (setting kit.throttle.layout) (mark cpu inode) found old new refl makes);
       share = only.share;
       est = only.est;
     }

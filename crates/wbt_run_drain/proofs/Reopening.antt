@@ -13,6 +13,8 @@ use Rattle.wbt_flusher.specs.declared.work.Phase.TheVariants.{Failed}
 use Rattle.wbt_kit.specs.declared.kit.Kit.{Kit}
 use Rattle.wbt_kit.specs.declared.kit.Seats.{Seats}
 use Rattle.wbt_flusher.specs.Sights.{OwesMark, OwesRescan}
+use Rattle.wbt_queue.specs.Passes.{known_of}
+use Rattle.wbt_run_steps.proofs.Queues.{puts_none}
 use Rattle.wbt_run_worker.specs.Side.{ArePosted, HaveEnded as TeamHasEnded, IsDesk}
 use Rattle.wbt_run_worker.specs.Team.{AnyOf, Seen, Team, owed_in, owed_totals, seen, team_of}
 use Rattle.wbt_run_worker.specs.Went.{IsTold}
@@ -23,11 +25,13 @@ use Rattle.wbt_run_worker.specs.declared.side.Post.{Post}
 use Rattle.wbt_run_worker.specs.declared.side.Stand.{Stand}
 use Rattle.wbt_run_worker.specs.declared.side.Stand.TheVariants.{Open, Done, Out}
 use Rattle.wbt_run_worker.proofs.Lists.{each_at}
+use Rattle.wbt_table.specs.Layout.{domains as limits_of}
 use Rattle.wbt_trace.specs.declared.trace.Trace.{Trace}
 use Rattle.wbt_writer.specs.Desk.{Desk}
 use Rattle.wbt_run_drain.specs.Ends.{Any, EndsSo, HasEnded, HaveEnded, IsOut}
 use Rattle.wbt_run_drain.specs.Standing.{AreAllDone, AreDoneAt, AreQueued, AreStanding, HasFlusher, EndsBy, FaultsAreTold, GoesOn, HaveTold, NotHalted, OutBy, SideStands, StandsSo, WentOn}
 use Rattle.wbt_run_drain.specs.Swept.{AreReopened, IsReopened, reopened}
+use Rattle.wbt_run_drain.specs.Words.{TellsTurns}
 use Rattle.wbt_run_drain.specs.Teams.{handed_over, logs_of, posts_of, teams_of, written_by_all}
 
 -- ---- lists
@@ -234,6 +238,9 @@ module _ {D : Type 0} (told : ℕ → Type 0) (said : ℕ → ℕ → Bool → T
     disks = subst (λ (teams : List Team). IfSome (written_by_all teams) (λ total. total ≡ handed_over (logs_of new))) (sym teams_are)
         (subst (λ (logs : List CpuJournal). IfSome (written_by_all (teams_of written faults old)) (λ total. total ≡ handed_over logs)) (sym logs_are) stands.disks);
     queued = queued_again;
+    turns = λ cpu other less.
+        let there : cpu < length old = subst (λ (n : ℕ). cpu < n) (sym stands.many) less in
+        subst (λ (e : End). TellsTurns (limits_of kit.throttle.layout) cpu e seats) (sym (again.each cpu other there).end) (stands.turns cpu other less);
   }
 
   pub went_again : WentOn trace old new seats seats
@@ -243,6 +250,7 @@ module _ {D : Type 0} (told : ℕ → Type 0) (said : ℕ → ℕ → Bool → T
     stakes = λ domain. refl;
     total_stakes = refl;
     cleaned = λ page cleaned. cleaned;
+    puts = λ x. puts_none (known_of x seats.queue) (known_of x seats.queue) refl;
     stopped = λ none_stopped cpu other less is.
         let there : cpu < length old = subst (λ (n : ℕ). cpu < n) again.many less in
         none_stopped cpu other there (sym (again.each cpu other there).end ∙ is);

@@ -4,6 +4,8 @@ use Rattle.std.proofs.lemmas.Bool.{cases_lt}
 use Rattle.wbt_kit.specs.Kit.{IsKitOf}
 use Rattle.wbt_kit.specs.declared.kit.Kit.{Kit}
 use Rattle.wbt_kit.specs.declared.kit.Seats.{Seats}
+use Rattle.wbt_queue.specs.Passes.{known_of}
+use Rattle.wbt_run_steps.proofs.Queues.{puts_none}
 use Rattle.wbt_run_worker.specs.declared.side.CpuSide.{CpuSide}
 use Rattle.wbt_table.specs.Calls.{HasNoDirtyPage, OwesInodeNothing}
 use Rattle.wbt_table.specs.Layout.{setting}
@@ -12,11 +14,12 @@ use Rattle.wbt_trace.specs.Lawful.{IsLawful}
 use Rattle.wbt_trace.specs.declared.trace.Trace.{Trace}
 use Rattle.wbt_run_drain.specs.Ends.{HaveEnded}
 use Rattle.wbt_run_drain.specs.Standing.{AreAllCleaned, AreAllDone, AreStanding, WentOn}
-use Rattle.wbt_run_drain.specs.Swept.{IsInodeCleaned, StepsUntold}
+use Rattle.wbt_run_drain.specs.Swept.{IsInodeCleaned, StepsUntold, WasPut, WerePut}
 use Rattle.wbt_run_drain.proofs.Cleaned.{held_all, holds_none, inode_there, is_cleaned, owes_nothing}
+use Rattle.wbt_run_drain.proofs.Putting.{put_next}
 use Rattle.wbt_run_drain.proofs.Queued.{queued_same}
 use Rattle.wbt_run_drain.proofs.Turning.{went_more, went_nowhere}
-use Rattle.wbt_run_drain.proofs.Untold.{still_standing, went_untold}
+use Rattle.wbt_run_drain.proofs.Untold.{still_standing, turns_still, went_untold}
 
 -- all CPUs stand, and each flusher is done
 pub record Sweeps {D : Type 0} (told : ℕ → Type 0) (said : ℕ → ℕ → Bool → Type 0) (written : D → Option ℕ) (faults : D → ℕ) (trace : Trace) (kit : Kit)
@@ -31,6 +34,7 @@ pub record Swept {D : Type 0} (told : ℕ → Type 0) (said : ℕ → ℕ → Bo
     (old new : List (CpuSide D)) (before behind : Seats) (inodes : ℕ) : Type 0 where
   pub sweeps : Sweeps told said written faults trace kit old new before behind
   pub cleaned : (inode : ℕ) → inode < inodes → IsInodeCleaned trace kit inode behind
+  pub put : WerePut inodes trace kit before.queue behind.queue
 
 pub cpus_are : (trace : Trace) (now : ℕ) (kit : Kit) → IsKitOf trace now kit → kit.throttle.layout.cpus ≡ trace.cpus
 cpus_are trace now kit of = ap (λ (key : Layout). key.cpus) of.layout
@@ -52,9 +56,11 @@ module _ {D : Type 0} (told : ℕ → Type 0) (said : ℕ → ℕ → Bool → T
     looked_standing : AreStanding told said written faults trace kit mid behind
     looked_standing = still_standing told said written faults trace kit mid 0 between behind (cpus_are trace now kit of) lawful.whole.cpus untold sweeps.standing
         (queued_same written faults trace kit mid between behind same sweeps.standing.queued)
+        (turns_still told said written faults trace kit mid 0 between behind (cpus_are trace now kit of) lawful.whole.cpus untold sweeps.standing sweeps.ended)
 
     looked_went : WentOn trace mid mid between behind
     looked_went = went_untold told said written faults trace kit mid 0 between behind (cpus_are trace now kit of) lawful.whole.cpus untold sweeps.standing
+        (λ device. puts_none (known_of device between.queue) (known_of device behind.queue) (ap (known_of device) same))
 
     -- a look leaves all as it was
     pub looked : Sweeps told said written faults trace kit old mid before behind
@@ -90,13 +96,17 @@ module _ {D : Type 0} (told : ℕ → Type 0) (said : ℕ → ℕ → Bool → T
     pub swept_went : WentOn trace old new before behind
     swept_went = went_more trace old mid new before between behind swept.sweeps.went went
 
+    pub swept_put : WasPut trace kit inode between.queue behind.queue → WerePut (inode + 1) trace kit before.queue behind.queue
+    swept_put next = put_next trace kit inode before.queue between.queue behind.queue swept.put next
+
     pub swept_next : AreStanding told said written faults trace kit new behind → HaveEnded new → AreAllDone new → IsInodeCleaned trace kit inode behind
-        → Swept told said written faults trace kit old new before behind (inode + 1)
-    swept_next standing ended done cleaned = record {
+        → WasPut trace kit inode between.queue behind.queue → Swept told said written faults trace kit old new before behind (inode + 1)
+    swept_next standing ended done cleaned next = record {
       sweeps = record { standing = standing; ended = ended; done = done; went = swept_went };
       cleaned = λ i less. ⊎_elim
           (λ (earlier : i < inode). cleaned_still trace kit mid new between behind i went (swept.cleaned i earlier))
           (λ (here : inode ≤ i). subst (λ (k : ℕ). IsInodeCleaned trace kit k behind) (omega arith) cleaned) (cases_lt i inode);
+      put = swept_put next;
     }
 
   -- each page belongs to an inode

@@ -5,6 +5,10 @@ use mathlib.Core.Logic.{dite}
 use native.Mathlib.Decide.{ℕ_discrete}
 use Rattle.wbt_kit.specs.declared.kit.Kit.{Kit}
 use Rattle.wbt_kit.specs.declared.kit.Seats.{Seats}
+use Rattle.wbt_queue.specs.Passes.{known_of}
+use Rattle.wbt_run_steps.proofs.Queues.{puts_each, puts_none, puts_then}
+use Rattle.wbt_run_steps.specs.Kinds.{StepsInTurn}
+use Rattle.wbt_run_worker.specs.Answers.{job_by}
 use Rattle.wbt_run_worker.specs.declared.round.JobOutcome.{JobOutcome}
 use Rattle.wbt_run_worker.specs.declared.round.JobOutcome.TheVariants as job
 use Rattle.wbt_run_worker.specs.declared.side.CpuSide.{CpuSide}
@@ -12,23 +16,26 @@ use Rattle.wbt_run_worker.specs.declared.side.End.{End}
 use Rattle.wbt_run_worker.specs.declared.side.End.TheVariants.{Ended, Halted, Faulted, Spent, Refused, Stopped}
 use Rattle.wbt_run_worker.proofs.Lists.{map_at}
 use Rattle.wbt_table.specs.Calls.{HoldsAll}
+use Rattle.wbt_table.specs.Layout.{domains as limits_of}
 use Rattle.wbt_table.specs.Rule.{Has}
 use Rattle.wbt_trace.specs.declared.trace.Trace.{Trace}
 use Rattle.wbt_writer.specs.Desk.{Desk}
-use Rattle.wbt_run_drain.specs.Standing.{AreStanding, NoneStopped, SideStands, WentOn}
+use Rattle.wbt_run_drain.specs.Standing.{AreStanding, NoneStopped, SideStands, TellTurns, WentOn}
 use Rattle.wbt_run_drain.specs.Teams.{desks_of}
 use Rattle.wbt_run_drain.specs.Turned.{end_by}
+use Rattle.wbt_run_drain.specs.Words.{TellsTurns}
 use Rattle.wbt_run_drain.proofs.Elsewhere.{keeps_side, side_still}
 use Rattle.wbt_run_drain.proofs.Here.{side_now}
 use Rattle.wbt_run_drain.proofs.Queued.{queued_now}
 use Rattle.wbt_run_drain.proofs.Showing.{cleaned_now, in_sides, told_now}
 use Rattle.wbt_run_drain.proofs.Summing.{backed_now, disks_now, moments_now}
-use Rattle.wbt_run_drain.proofs.Taking.{TakesTurn, has_now, mine, others_keep, went}
+use Rattle.wbt_run_drain.proofs.Taking.{TakesTurn, d, has_now, mine, others_keep, went}
+use Rattle.wbt_run_drain.proofs.Wording.{others_stay, tells_else, turned_more}
 
 -- ---- one turn after another
 
 pub went_nowhere : {D : Type 0} (trace : Trace) (sides : List (CpuSide D)) (seats : Seats) → WentOn trace sides sides seats seats
-went_nowhere trace sides seats = record { desks = refl; timer = refl; stakes = λ domain. refl; total_stakes = refl; cleaned = λ page cleaned. cleaned; stopped = λ none_stopped. none_stopped }
+went_nowhere trace sides seats = record { desks = refl; timer = refl; stakes = λ domain. refl; total_stakes = refl; cleaned = λ page cleaned. cleaned; stopped = λ none_stopped. none_stopped; puts = λ device. puts_none (known_of device seats.queue) (known_of device seats.queue) refl }
 
 pub went_more : {D : Type 0} (trace : Trace) (a b c : List (CpuSide D)) (s t u : Seats) → WentOn trace a b s t → WentOn trace b c t u → WentOn trace a c s u
 went_more trace a b c s t u p q = record {
@@ -38,6 +45,7 @@ went_more trace a b c s t u p q = record {
   total_stakes = q.total_stakes ∙ p.total_stakes;
   cleaned = λ page cleaned. q.cleaned page (p.cleaned page cleaned);
   stopped = λ none_stopped. q.stopped (p.stopped none_stopped);
+  puts = λ device. puts_then (known_of device s.queue) (known_of device t.queue) (known_of device u.queue) (p.puts device) (q.puts device);
 }
 
 -- ---- a turn
@@ -77,6 +85,26 @@ module _ {D : Type 0} {told : ℕ → Type 0} {said : ℕ → ℕ → Bool → T
       (λ ne. subst (λ (s : CpuSide D). SideStands said written faults trace cpu kit s seats') (sym (get_or-set_other sides c cpu side' default ne))
       (side_still said written faults trace cpu kit (get_or sides cpu default) seats seats' (keeps_side cpu kit seats seats' (others_keep t cpu less ne)) (t.standing.each cpu default less)))
 
+  -- the CPU's log tells a turn more, and those of others stay
+  steps_now : StepsInTurn (limits_of kit.throttle.layout) c t.turned.turn seats seats'
+  steps_now = subst (λ (n : ℕ). StepsInTurn (limits_of kit.throttle.layout) n t.turned.turn seats seats') (mine t).cpu_is t.turned.steps
+
+  here_now : TellsTurns (limits_of kit.throttle.layout) c side'.end seats'
+  here_now =
+      let n : ℕ = limits_of kit.throttle.layout in
+      let end_was : (get_or sides c side).end ≡ Ended = ap (λ (s : CpuSide D). s.end) t.side_is ∙ t.ended in
+      let tells : TellsTurns n c Ended seats = subst (λ (e : End). TellsTurns n c e seats) end_was (t.standing.turns c side t.cpu_there) in
+      let end_is : end_by (job_by t.turned.turn) Ended ≡ side'.end =
+      ap (λ (a : JobOutcome). end_by a Ended) (sym t.turned.answer_is) ∙ ap (λ (e : End). end_by answer e) (sym t.ended) ∙ sym t.turned.ends in
+      subst (λ (e : End). TellsTurns n c e seats') end_is (turned_more n c seats seats' tells t.turned.turn steps_now)
+
+  turns_now : TellTurns kit trace.cpus sides' seats'
+  turns_now cpu default less = let n : ℕ = limits_of kit.throttle.layout in dite (ℕ_discrete cpu c)
+      (λ same. subst (λ (k : ℕ). TellsTurns n k (get_or sides' k default).end seats') (sym same)
+      (subst (λ (s : CpuSide D). TellsTurns n c s.end seats') (sym (get_or-set_same sides c side' default (in_sides t))) here_now))
+      (λ ne. subst (λ (s : CpuSide D). TellsTurns n cpu s.end seats') (sym (get_or-set_other sides c cpu side' default ne))
+      (tells_else n cpu (get_or sides cpu default).end seats seats' (others_stay n c t.turned.turn seats seats' steps_now cpu ne) (t.standing.turns cpu default less)))
+
   pub stands_behind : AreStanding told said written faults trace kit sides' seats'
   stands_behind = record {
     many = length-set sides c side' ∙ t.standing.many;
@@ -88,6 +116,7 @@ module _ {D : Type 0} {told : ℕ → Type 0} {said : ℕ → ℕ → Bool → T
     moments = moments_now t;
     disks = disks_now t;
     queued = queued_now t;
+    turns = turns_now;
   }
 
   desks_same : desks_of sides' ≡ desks_of sides
@@ -113,4 +142,5 @@ module _ {D : Type 0} {told : ℕ → Type 0} {said : ℕ → ℕ → Bool → T
     total_stakes = (went t).did.total_stakes;
     cleaned = cleaned_now t;
     stopped = stopped_now;
+    puts = puts_each (d t).plan.device seats.queue seats'.queue (went t).queue;
   }

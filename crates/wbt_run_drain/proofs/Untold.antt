@@ -1,6 +1,7 @@
 -- Steps that no entry tells leave the sides of all CPUs standing where they stood.
-use Rattle.std.proofs.Common.{◌≡◌, ℕ, ◌<◌, ◌≤◌, Bool, List, [], get_or, Option, refl, sym, ap, ◌∙◌, subst, arith, append-nil}
+use Rattle.std.proofs.Common.{◌≡◌, inl, ℕ, ◌<◌, ◌≤◌, Bool, List, [], get_or, Option, refl, sym, ap, ◌∙◌, subst, arith, append-nil}
 use mathlib.Core.Logic.{dite}
+use lib.ListN.{get_elem?}
 use native.Mathlib.Decide.{ℕ_discrete}
 use Rattle.wbt_book.specs.Ledger.{absorbs, completes, dirties, times}
 use Rattle.wbt_counter.proofs.Sums.{total_same}
@@ -17,13 +18,19 @@ use Rattle.wbt_kit.specs.declared.kit.Seats.{Seats}
 use Rattle.wbt_published.specs.Passes as est
 use Rattle.wbt_run_worker.specs.Team.{Team, owed_in, owed_totals}
 use Rattle.wbt_run_worker.specs.declared.side.CpuSide.{CpuSide}
+use Rattle.wbt_run_worker.specs.declared.side.End.{End}
+use Rattle.wbt_run_worker.specs.declared.side.End.TheVariants.{Ended}
 use Rattle.wbt_run_worker.proofs.Backing.{Grown, backed_still}
+use Rattle.wbt_run_worker.proofs.Lists.{each_at}
 use Rattle.std.specs.List.{sum_by}
 use Rattle.wbt_run_steps.specs.Inodes.{OnlyQueue}
+use Rattle.wbt_queue.specs.Passes.{known_of}
+use Rattle.wbt_run_steps.specs.Queues.{PutsMore}
 use Rattle.wbt_run_steps.specs.Records.{IsApart, firsts_of, record_of}
 use Rattle.wbt_run_steps.proofs.Changing.{record_is}
+use Rattle.wbt_run_steps.proofs.Logging.{none_as}
 use Rattle.wbt_table.specs.Calls.{HasNoPageSteps, HoldsAll}
-use Rattle.wbt_table.specs.Layout.{setting}
+use Rattle.wbt_table.specs.Layout.{setting, domains as limits_of}
 use Rattle.wbt_table.specs.declared.layout.Layout.{Layout}
 use Rattle.wbt_table.specs.Rule.{Has}
 use Rattle.wbt_table.specs.Seat.{Seated}
@@ -34,11 +41,14 @@ use Rattle.wbt_run_laws.specs.Shown.{Shown, first_shown}
 use Rattle.wbt_run_laws.proofs.Growing.{by_nothing}
 use Rattle.wbt_run_laws.proofs.Noting.{noted_more, noted_now}
 use Rattle.wbt_run_drain.specs.Whole.{CpuWorked, log_at}
-use Rattle.wbt_run_drain.specs.Standing.{AreQueued, AreStanding, HaveTold, IsCleanedIn, WentOn}
+use Rattle.wbt_run_drain.specs.Standing.{AreQueued, AreStanding, HaveTold, IsCleanedIn, TellTurns, WentOn}
+use Rattle.wbt_run_drain.specs.Ends.{HasEnded, HaveEnded}
+use Rattle.wbt_run_drain.specs.Words.{TellsTurns}
 use Rattle.wbt_run_drain.specs.Swept.{IsUntold, StepsUntold}
 use Rattle.wbt_run_drain.specs.Teams.{logs_of, shown_at, teams_of}
 use Rattle.wbt_run_drain.proofs.Cleaned.{held_all}
 use Rattle.wbt_run_drain.proofs.Elsewhere.{KeepsSide, side_still}
+use Rattle.wbt_run_drain.proofs.Wording.{looks_more, tells_else}
 
 untold_same : (r : CpuRecord) → IsUntold r r
 untold_same r = record {
@@ -59,9 +69,16 @@ put_untold kit old new r has only are =
       has = subst (λ (s : Seated). Has s.cpus 0 (record_of 0 s.cpus)) (sym only.cpu) here;
       apart = subst (λ (s : Seated). IsApart 0 old.cpu s) (sym only.cpu) (record { others = λ c q other had. had; no_more = λ c q other had. had; timer = refl; layout = refl });
       steps = subst (λ (s : Seated). IsUntold (record_of 0 old.cpu.cpus) (record_of 0 s.cpus)) (sym only.cpu) (untold_same (record_of 0 old.cpu.cpus));
+      kinds = ([], inl refl, none_as 0 old new only.cpu);
       share = only.share;
       est = only.est;
     }
+
+-- and no log tells one
+pub turns_put : {D : Type 0} (trace : Trace) (kit : Kit) (sides : List (CpuSide D)) (old new : Seats) → OnlyQueue old new → TellTurns kit trace.cpus sides old
+    → TellTurns kit trace.cpus sides new
+turns_put {D} trace kit sides old new only turns cpu other less =
+    tells_else (limits_of kit.throttle.layout) cpu (get_or sides cpu other).end old new (ap (λ (s : Seated). get_elem? s.logs cpu) only.cpu) (turns cpu other less)
 
 module _ {D : Type 0} (told : ℕ → Type 0) (said : ℕ → ℕ → Bool → Type 0) (written : D → Option ℕ) (faults : D → ℕ) (trace : Trace) (kit : Kit)
     (sides : List (CpuSide D)) (stepper : ℕ) (old new : Seats) (cpus_are : kit.throttle.layout.cpus ≡ trace.cpus) (there : stepper < trace.cpus)
@@ -201,8 +218,18 @@ module _ {D : Type 0} (told : ℕ → Type 0) (said : ℕ → ℕ → Bool → T
     totals = ap (λ (s : fraction.Seats). s.totals) untold.share;
   }
 
-  pub still_standing : AreQueued written faults trace kit sides new → AreStanding told said written faults trace kit sides new
-  still_standing queued = record {
+  -- where no side was halted the steps are words after those that each log told
+  pub turns_still : HaveEnded sides → TellTurns kit trace.cpus sides new
+  turns_still ended cpu other less =
+      let end_is : (get_or sides cpu other).end ≡ Ended = (each_at HasEnded sides cpu other (omega (arith, less, stands.many)) ended).ended in
+      let n : ℕ = limits_of kit.throttle.layout in
+      let tells : TellsTurns n cpu Ended old = subst (λ (e : End). TellsTurns n cpu e old) end_is (stands.turns cpu other less) in
+      subst (λ (e : End). TellsTurns n cpu e new) (sym end_is) (dite (ℕ_discrete cpu stepper)
+      (λ same. subst (λ (k : ℕ). TellsTurns n k Ended new) (sym same) (looks_more n stepper old new (subst (λ (k : ℕ). TellsTurns n k Ended old) same tells) untold.kinds))
+      (λ ne. tells_else n cpu Ended old new (untold.kinds.2.others cpu ne) tells))
+
+  pub still_standing : AreQueued written faults trace kit sides new → TellTurns kit trace.cpus sides new → AreStanding told said written faults trace kit sides new
+  still_standing queued turns = record {
     many = stands.many;
     seats_are = untold.seats_are;
     all_held = all_held;
@@ -213,6 +240,7 @@ module _ {D : Type 0} (told : ℕ → Type 0) (said : ℕ → ℕ → Bool → T
     moments = stands.moments;
     disks = stands.disks;
     queued = queued;
+    turns = turns;
   }
 
   cleaned_still : (page : ℕ) → IsCleanedIn trace old page → IsCleanedIn trace new page
@@ -225,12 +253,13 @@ module _ {D : Type 0} (told : ℕ → Type 0) (said : ℕ → ℕ → Bool → T
       (λ cpu less. ap (λ events. times (absorbs page) events) (steps cpu less).grew.events) in
       omega arith
 
-  pub went_untold : WentOn trace sides sides old new
-  went_untold = record {
+  pub went_untold : ((device : ℕ) → PutsMore (known_of device old.queue) (known_of device new.queue)) → WentOn trace sides sides old new
+  went_untold puts = record {
     desks = refl;
     timer = untold.apart.timer;
     stakes = λ domain. ap (λ (s : fraction.Seats). fraction.stakes_in domain s.domains) untold.share;
     total_stakes = ap (λ (s : fraction.Seats). s.totals.stakes) untold.share;
     cleaned = cleaned_still;
     stopped = λ none_stopped. none_stopped;
+    puts = puts;
   }

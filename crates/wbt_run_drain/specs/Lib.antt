@@ -1,3 +1,4 @@
+pub mod Words
 pub mod Whole
 pub mod Laws
 pub mod Drained

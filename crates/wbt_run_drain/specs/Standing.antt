@@ -27,15 +27,16 @@ use Rattle.wbt_run_worker.specs.declared.side.Post.{Post}
 use Rattle.wbt_run_worker.specs.declared.side.Stand.{Stand}
 use Rattle.wbt_run_worker.specs.declared.side.Stand.TheVariants.{Open, Done, Out}
 use Rattle.wbt_queue.specs.Passes.{AreAllTaken, known_of}
-use Rattle.wbt_run_steps.specs.Queues.{HasAllStakes}
+use Rattle.wbt_run_steps.specs.Queues.{HasAllStakes, PutsMore}
 use Rattle.wbt_run_steps.specs.Records.{record_of}
 use Rattle.wbt_table.specs.Calls.{HasNoPageSteps, HoldsAll}
-use Rattle.wbt_table.specs.Layout.{setting}
+use Rattle.wbt_table.specs.Layout.{setting, domains as limits_of}
 use Rattle.wbt_trace.specs.declared.trace.Trace.{Trace}
 use Rattle.wbt_run_laws.specs.Notes.{Notes}
 use Rattle.wbt_run_laws.specs.Shown.{Shown}
 use Rattle.wbt_run_drain.specs.Drained.{AreTogether}
 use Rattle.wbt_run_drain.specs.Ends.{Any, EndsSo}
+use Rattle.wbt_run_drain.specs.Words.{TellsTurns}
 use Rattle.wbt_run_drain.specs.Teams.{desks_of, handed_over, logs_of, posts_of, shown_at, teams_of, written_by_all}
 
 -- ---- a flusher
@@ -149,8 +150,14 @@ pub record HaveTold (trace : Trace) (kit : Kit) (teams : List Team) (logs : List
   pub shows : (cpu : ℕ) (other : Team) → cpu < trace.cpus → last cpu ≡ shown_at trace cpu (get_or teams cpu other) seats
   pub together : AreTogether trace kit.published.moment kit first (λ domain. []) logs last notes seats
 
+-- each CPU's log tells turns, the last of which may be cut off where its side was halted
+abbrev pub TellTurns : {D : Type 0} (kit : Kit) (cpus : ℕ) (sides : List (CpuSide D)) (seats : Seats) → Type 0
+TellTurns {D} kit cpus sides seats =
+    (cpu : ℕ) (other : CpuSide D) → cpu < cpus → TellsTurns (limits_of kit.throttle.layout) cpu (get_or sides cpu other).end seats
+
 -- The sides of all CPUs in order, on seats that hold all. The clock told each moment in their logs; where all disks tell it, they have written
--- just the pages of the batches; rooms and completions back what all flushers are still to add; and the queues are known.
+-- just the pages of the batches; rooms and completions back what all flushers are still to add; the queues are known; and each CPU's log tells
+-- turns, one after another.
 pub record AreStanding {D : Type 0} (told : ℕ → Type 0) (said : ℕ → ℕ → Bool → Type 0) (written : D → Option ℕ) (faults : D → ℕ) (trace : Trace) (kit : Kit)
     (sides : List (CpuSide D)) (seats : Seats) : Type 0 where
   pub many : length sides ≡ trace.cpus
@@ -163,6 +170,7 @@ pub record AreStanding {D : Type 0} (told : ℕ → Type 0) (said : ℕ → ℕ 
   pub moments : Each (λ (side : CpuSide D). Each (IsTold told) (told_by side.log)) sides
   pub disks : IfSome (written_by_all (teams_of written faults sides)) (λ total. total ≡ handed_over (logs_of sides))
   pub queued : AreQueued written faults trace kit sides seats
+  pub turns : TellTurns kit trace.cpus sides seats
 
 -- ---- what the drain does
 
@@ -185,6 +193,8 @@ pub record WentOn {D : Type 0} (trace : Trace) (old new : List (CpuSide D)) (sea
   pub cleaned : (page : ℕ) → IsCleanedIn trace seats page → IsCleanedIn trace seats' page
   -- no side is told to stop that wasn't
   pub stopped : NoneStopped old → NoneStopped new
+  -- what was put into a device's queue before stands before what was put meanwhile
+  pub puts : (device : ℕ) → PutsMore (known_of device seats.queue) (known_of device seats'.queue)
 
 -- each flusher is done
 abbrev pub AreAllDone : {D : Type 0} (sides : List (CpuSide D)) → Type 0

@@ -1,5 +1,5 @@
 -- What the sweep does between two drains: it looks at an inode, and has its device's flushers turned again.
-use Rattle.std.specs.Prelude.{◌≡◌, ℕ, ◌<◌, ◌≤◌, ◌⊎◌, ◌==◌, if◌then◌else◌, List, [], length, get_or, map, min}
+use Rattle.std.specs.Prelude.{◌≡◌, ℕ, zero, suc, ◌<◌, ◌≤◌, ◌⊎◌, ◌==◌, if◌then◌else◌, List, [], ◌∷◌, ◌++◌, length, get_or, map, min}
 use Rattle.wbt_book.specs.Ledger.{times_in}
 use Rattle.wbt_grant.specs.declared.record.CpuRecord.{CpuRecord}
 use Rattle.wbt_io.specs.Faults.{last_count}
@@ -8,15 +8,18 @@ use Rattle.wbt_kit.specs.Kit.{AreSeatsOf, HasCpu}
 use Rattle.wbt_kit.specs.declared.kit.Kit.{Kit}
 use Rattle.wbt_kit.specs.declared.kit.Seats.{Seats}
 use Rattle.wbt_queue.specs.Order.{HasPut}
-use Rattle.wbt_queue.specs.Passes.{Held, known_of, size_of}
+use Rattle.wbt_queue.specs.Passes.{Held, Seats as Passes, known_of, size_of}
 use Rattle.wbt_run_worker.specs.declared.side.CpuSide.{CpuSide}
 use Rattle.wbt_run_worker.specs.declared.side.Post.{Post}
 use Rattle.wbt_run_worker.specs.declared.side.Stand.TheVariants.{Open}
+use Rattle.wbt_rules.specs.Things.{device_of}
+use Rattle.wbt_run_steps.specs.Kinds.{Steps}
 use Rattle.wbt_run_steps.specs.Records.{IsApart, record_of}
 use Rattle.wbt_table.specs.Layout.{setting}
 use Rattle.wbt_trace.specs.declared.trace.Trace.{Trace}
 use Rattle.wbt_run_laws.specs.Grew.{Grew}
 use Rattle.wbt_run_drain.specs.Standing.{IsCleanedIn}
+use Rattle.wbt_run_drain.specs.Words.{IsLook}
 
 -- ---- a look at an inode
 
@@ -29,18 +32,49 @@ pub record IsUntold (old new : CpuRecord) : Type 0 where
   pub rescans : (page : ℕ) → 1 ≤ times_in page new.owed_rescans → 1 ≤ times_in page old.owed_rescans
   pub marks : (inode : ℕ) → 1 ≤ times_in inode new.owed_marks → 1 ≤ times_in inode old.owed_marks
 
--- such steps of one CPU, and puts into queues: nothing else changed
+-- such steps of one CPU, a look at most, and puts into queues: nothing else changed
 pub record StepsUntold (cpu : ℕ) (kit : Kit) (old new : Seats) : Type 0 where
   pub seats_are : AreSeatsOf kit new
   pub has : HasCpu cpu (record_of cpu new.cpu.cpus) new
   pub apart : IsApart cpu old.cpu new.cpu
   pub steps : IsUntold (record_of cpu old.cpu.cpus) (record_of cpu new.cpu.cpus)
+  pub kinds : Steps cpu (IsLook cpu) old new
   pub share : new.share ≡ old.share
   pub est : new.est ≡ old.est
 
 -- the inode was put into the device's queue, or that was full at a moment
 abbrev pub IsQueued : (kit : Kit) (device inode : ℕ) (old new : Seats) → Type 0
 IsQueued kit device inode old new = HasPut (known_of device old.queue) inode (known_of device new.queue) ⊎ Held (size_of device kit.queues) (known_of device old.queue)
+
+-- ---- what the passes put
+
+-- The next number that was put into the device's queue is this inode, whatever was put after it; or that queue was full at a moment.
+abbrev pub IsNextPut : (kit : Kit) (device inode : ℕ) (old new : Passes) → Type 0
+IsNextPut kit device inode old new =
+    ((more : List ℕ) × ((known_of device new).own.puts ≡ (known_of device old).own.puts ++ inode ∷ more)) ⊎ Held (size_of device kit.queues) (known_of device old)
+
+-- so it was so many times, one after another
+abbrev pub WasPutTimes : (times : ℕ) (kit : Kit) (device inode : ℕ) (old new : Passes) → Type 0
+WasPutTimes zero kit device inode old new = new ≡ old
+WasPutTimes (suc times) kit device inode old new = (mid : Passes) × WasPutTimes times kit device inode old mid × IsNextPut kit device inode mid new
+
+-- the inode was put some times into its own device's queue
+abbrev pub WasPut : (trace : Trace) (kit : Kit) (inode : ℕ) (old new : Passes) → Type 0
+WasPut trace kit inode old new = (times : ℕ) × WasPutTimes times kit (device_of trace inode) inode old new
+
+-- so were the inodes before one, in order
+abbrev pub WerePut : (inodes : ℕ) (trace : Trace) (kit : Kit) (old new : Passes) → Type 0
+WerePut zero trace kit old new = new ≡ old
+WerePut (suc inode) trace kit old new = (mid : Passes) × WerePut inode trace kit old mid × WasPut trace kit inode mid new
+
+-- so were the first inodes of the trace, and all where the sweep came to its end
+pub record PutsInOrder (trace : Trace) (kit : Kit) (ended : Type 0) (old new : Passes) : Type 0 where
+  pub inodes : ℕ
+  pub within : inodes ≤ length trace.inodes
+  pub were : WerePut inodes trace kit old new
+  pub all : ended → inodes ≡ length trace.inodes
+
+-- ---- an inode
 
 -- each dirtying of each page of the inode was completed or absorbed
 abbrev pub IsInodeCleaned : (trace : Trace) (kit : Kit) (inode : ℕ) (seats : Seats) → Type 0

@@ -13,6 +13,8 @@ use Rattle.wbt_kit.specs.declared.kit.Seats.{Seats}
 use Rattle.wbt_kit.specs.declared.turn.Turn.{Turn}
 use Rattle.wbt_kit.specs.declared.turn.Turn.TheVariants as turn
 use Rattle.wbt_journal.specs.Each.{Each}
+use Rattle.wbt_run_steps.specs.Kinds.{StepsInTurn}
+use Rattle.wbt_table.specs.Layout.{domains}
 use Rattle.wbt_run_worker.specs.Answers.{job_by}
 use Rattle.wbt_run_worker.specs.declared.round.JobOutcome.{JobOutcome}
 use Rattle.wbt_run_worker.specs.declared.round.JobOutcome.TheVariants as job
@@ -52,8 +54,8 @@ pub record IsOneTurn (told : ℕ → Type 0) (said : ℕ → ℕ → Bool → Ty
   pub waits : (now until : ℕ) → answer ≡ turn.Resting now until → FlusherWaits plan kit old new
   pub done : answer ≡ turn.Done → FlusherEnds plan kit old new
 
--- The flusher of this place took a turn and answered so. Of its side nothing changed but the flusher, what was told, where the flusher
--- stands, and how the side ended.
+-- The flusher of this place took a turn and answered so: its CPU's steps are those of a whole turn, or where it was halted a first part of
+-- them. Of its side nothing changed but the flusher, what was told, where the flusher stands, and how the side ended.
 pub record HasTurned {D : Type 0} (told : ℕ → Type 0) (said : ℕ → ℕ → Bool → Type 0) (written : D → Option ℕ) (faults : D → ℕ) (kit : Kit) (at : ℕ) (answer : JobOutcome)
     (old new : CpuSide D) (seats seats' : Seats) : Type 0 where
   pub was : Post D
@@ -68,6 +70,7 @@ pub record HasTurned {D : Type 0} (told : ℕ → Type 0) (said : ℕ → ℕ �
   pub answers : FlusherAnswers was.flusher.plan kit true told said (HasRisen (faults was.flusher.disk) (faults is.flusher.disk)) turn
       (sight was.flusher.work seats old.log (written was.flusher.disk)) (sight is.flusher.work seats' new.log (written is.flusher.disk))
   pub one : IsOneTurn told said was.flusher.plan kit turn (sight was.flusher.work seats old.log (written was.flusher.disk)) (sight is.flusher.work seats' new.log (written is.flusher.disk))
+  pub steps : StepsInTurn (domains kit.throttle.layout) was.flusher.plan.cpu turn seats seats'
   pub answer_is : answer ≡ job_by turn
   pub stands : is.stand ≡ stand_by answer was.stand
   pub ends : new.end ≡ end_by answer old.end

@@ -8,7 +8,7 @@ ghost use Rattle.wbt_table.specs.Layout.{setting};
 ghost use Rattle.wbt_trace.specs.Lawful.{IsLawful};
 ghost use Rattle.wbt_run_drain.specs.Ends.{HaveEnded};
 ghost use Rattle.wbt_run_drain.specs.Standing.{AreAllCleaned, AreAllDone, AreStanding, NoneWaitsForAge, NothingWaits, WentOn};
-ghost use Rattle.wbt_run_drain.specs.Swept.{AreReopened, IsInodeCleaned, IsQueued, StepsUntold, reopened};
+ghost use Rattle.wbt_run_drain.specs.Swept.{AreReopened, IsInodeCleaned, IsNextPut, IsQueued, PutsInOrder, StepsUntold, WasPut, reopened};
 ghost use Rattle.std.specs.Prelude.{◌≡◌, ◌<◌, true, false, length, map};
 
 use crate::drain::drain;
@@ -41,6 +41,9 @@ pub fn sweep<R: Wait, C: Clock, G: Gate, D: Disk>(
     ensures cleaned { HaveEnded sides.new → AreAllCleaned trace.now seats.new }
     ensures emptied { HaveEnded sides.new → NothingWaits trace.now seats.new }
     ensures aged { HaveEnded sides.new → NoneWaitsForAge sides.new }
+
+    // What it put into queues were inodes of the trace in order, each into that of its own device.
+    ensures puts { PutsInOrder trace.now hands.now.kit.now (HaveEnded sides.new) seats.old.queue seats.new.queue }
 {
     'inodes: for inode in 0..trace.inodes.as_slice().len() as u32 {
         if !clean(hands, trace, seats, sides, inode) {
@@ -68,6 +71,7 @@ fn clean<R: Wait, C: Clock, G: Gate, D: Disk>(
     ensures done { result ≡ true → HaveEnded sides.new × AreAllDone sides.new }
     ensures cleaned { result ≡ true → IsInodeCleaned trace.now hands.now.kit.now inode seats.new }
     ensures ended { result ≡ false → HaveEnded sides.new → ⊥ }
+    ensures puts { WasPut trace.now hands.now.kit.now inode seats.old.queue seats.new.queue }
 {
     'marked: for _ in hands.rt.forever() {
         if look(hands, trace, seats, inode) {
@@ -114,6 +118,7 @@ fn turn_device<R: Wait, C: Clock, G: Gate, D: Disk>(
     ensures standing { AreStanding (C.told hands.now.clock.now) (G.said hands.now.gate.now) D.written D.faults trace.now hands.now.kit.now sides.new seats.new }
     ensures went { WentOn trace.now sides.old sides.new seats.old seats.new }
     ensures over { HaveEnded sides.new → AreAllDone sides.new }
+    ensures puts { IsNextPut hands.now.kit.now device inode seats.old.queue seats.new.queue }
 {
     open_flushers(sides, device);
     put_back(hands, seats, device, inode);

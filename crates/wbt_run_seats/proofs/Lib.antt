@@ -5,6 +5,7 @@ pub mod Parting
 pub mod Undoing
 pub mod Together
 pub mod Records
+pub mod Logs
 pub mod Rooming
 pub mod Noting
 pub mod Passing

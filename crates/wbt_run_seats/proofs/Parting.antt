@@ -1,5 +1,5 @@
 -- What the parts have, and what is left, CPU by CPU.
-use Rattle.std.proofs.Common.{◌≡◌, ◌≢◌, ⊎_elim, ℕ, zero, suc, ◌+◌, ◌-◌, ◌<◌, ◌≤◌, Bool, false, eqb, List, [], ◌∷◌, length, get_or, refl, sym, ap, ◌∙◌, subst, arith, eq-eqb, ne_eqb, length-append}
+use Rattle.std.proofs.Common.{◌≡◌, ◌≢◌, ⊎_elim, ℕ, zero, suc, ◌+◌, ◌-◌, ◌<◌, ◌≤◌, Bool, false, eqb, List, [], ◌∷◌, length, get_or, Some, None, refl, sym, ap, ◌∙◌, subst, arith, eq-eqb, ne_eqb, length-append}
 use Rattle.std.proofs.Math.Seq.{get_or-append_seam}
 use Rattle.std.proofs.lemmas.List.{get_or-map, get_or_append_left, length-map}
 use Rattle.std.proofs.lemmas.Bool.{cases_lt}
@@ -14,14 +14,16 @@ use Rattle.wbt_published.proofs.Turns.{left-at, handed-at}
 use Rattle.wbt_queue.specs.Known.{accompanied, handed, newcomer, nothing, opening as empty}
 use Rattle.wbt_queue.specs.declared.known.Known.{Known as Queued}
 use Rattle.wbt_queue.specs.Passes as queue
+use Rattle.wbt_table.specs.Calls.{left_seat}
+use Rattle.wbt_table.specs.Rule.{HasLog}
 use Rattle.wbt_table.specs.Seat.{IsHeld, as_cpu}
 use Rattle.wbt_kit.specs.Kit.{AreSeatsOf, HasOwners, HasCpu}
 use Rattle.wbt_kit.specs.declared.kit.Kit.{Kit}
 use Rattle.wbt_kit.specs.declared.kit.Seats.{Seats}
 use Rattle.wbt_kit.proofs.Joining.{cpus_split}
 use Rattle.wbt_kit.proofs.Seating.{own_cpus, seats_left, seats_right}
-use Rattle.wbt_run_seats.specs.Parts.{owner_of, without, own_of, rest_of, parts_of, IsPart, AreParts, IsLeft, with_fewer}
-use Rattle.wbt_run_seats.proofs.Cpus.{left_has, right_has, left_timer, right_timer}
+use Rattle.wbt_run_seats.specs.Parts.{owner_of, without, own_of, rest_of, parts_of, IsPart, AreParts, HasNoLog, IsLeft, with_fewer}
+use Rattle.wbt_run_seats.proofs.Cpus.{left_has, left_log_gone, left_log_there, left_timer_log, right_has, right_log, right_no_log, right_timer_log, left_timer, right_timer}
 use Rattle.wbt_run_seats.proofs.Shares.{left_notes, right_notes, share_left, share_right}
 
 -- seats from which some CPUs went, and which can be split more often
@@ -128,7 +130,10 @@ module _ (kit : Kit) (owners : HasOwners kit) where
       seats_are = can.seats_are;
       gone = λ c r low has. absurd (omega arith);
       stayed = λ c r high has. has;
+      logs_gone = λ c log low has. absurd (omega arith);
+      logs_stayed = λ c log high has. has;
       timer = refl;
+      timer_log = refl;
       notes = λ domain. refl;
       counted = refl;
       stakes = λ domain less. omega arith;
@@ -155,7 +160,15 @@ module _ (kit : Kit) (owners : HasOwners kit) where
               let other = had.0 in
               was.gone c r (omega arith) had.1;
           stayed = λ c r high has. (cpus_split n rest.cpu cpus).others c r (λ e. omega arith) (was.stayed c r (omega arith) has);
+          logs_gone = λ c log low has. dite (ℕ_discrete c n)
+              (λ same.
+              let mine = was.logs_stayed c log (omega arith) has in
+              subst (λ (k : ℕ). HasNoLog k (left_seat n rest.cpu).logs) (sym same)
+              (left_log_gone n rest.cpu there (Some log) (subst (λ (k : ℕ). HasLog rest.cpu.logs k log) same mine)))
+              (λ other. left_log_there n rest.cpu there c None other (was.logs_gone c log (let q : c ≢ n = other in omega arith) has));
+          logs_stayed = λ c log high has. left_log_there n rest.cpu there c (Some log) (λ e. omega arith) (was.logs_stayed c log (omega arith) has);
           timer = left_timer n rest.cpu there ∙ was.timer;
+          timer_log = left_timer_log n rest.cpu there ∙ was.timer_log;
           notes = λ domain. left_notes rest.share.domains domain ∙ was.notes domain;
           counted = was.counted;
           stakes = λ domain less. let one = (split.stakes domain less).0 in let all = was.stakes domain less in omega arith;
@@ -185,6 +198,12 @@ module _ (kit : Kit) (owners : HasOwners kit) where
           seats_are = own_seats n more rest mid;
           holds = record { held = (held.0, same held.0 held.1); alone = right_has n rest.cpu there; no_timer = right_timer n rest.cpu there };
           same = same;
+          log = λ log has. right_log n rest.cpu there log (was.logs_stayed n log (omega arith) has);
+          no_log = λ c log other has. ⊎_elim
+              (λ low. right_no_log n rest.cpu there c None other (was.logs_gone c log low has))
+              (λ high. right_no_log n rest.cpu there c (Some log) other (was.logs_stayed c log high has))
+              (cases_lt c n);
+          no_timer_log = right_timer_log n rest.cpu there;
           nothing_noted = λ domain. right_notes rest.share.domains domain;
           nothing_counted = refl;
           stakes = λ domain less. (split.stakes domain less).1;

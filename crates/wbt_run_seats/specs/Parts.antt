@@ -1,5 +1,7 @@
 -- The seats of a kit in parts: one for each CPU, with what is left, which has the timer.
 use Rattle.std.specs.Prelude.{◌-◌, ◌≡◌, ◌≢◌, ℕ, zero, suc, ◌+◌, ◌*◌, ◌^◌, ◌<◌, ◌≤◌, List, [], ◌∷◌, ◌++◌, length, map, get_or, replicate, slice_index_or, None}
+use mathlib.Core.Option.{some}
+use lib.ListN.{get_elem?}
 use Rattle.wbt_fraction.specs.Several.{left_of, right_of, total_left, total_right, room_in, stakes_in, no_seat, Seats as ShareSeats}
 use Rattle.wbt_fraction.specs.Totals.{room_of}
 use Rattle.wbt_fraction.specs.declared.domain.note.Note.{Note}
@@ -10,6 +12,8 @@ use Rattle.wbt_queue.specs.Known.{accompanied, newcomer, nothing}
 use Rattle.wbt_queue.specs.Passes as queue
 use Rattle.wbt_queue.specs.declared.known.Known.{Known as Queued}
 use Rattle.wbt_table.specs.Calls.{left_seat, right_seat}
+use Rattle.wbt_table.specs.Rule.{HasLog, Logs}
+use Rattle.wbt_table.specs.declared.rule.Logged.{Logged}
 use Rattle.wbt_kit.specs.Kit.{AreSeatsOf, HasCpu}
 use Rattle.wbt_kit.specs.declared.kit.Kit.{Kit}
 use Rattle.wbt_kit.specs.declared.kit.Seats.{Seats}
@@ -65,12 +69,19 @@ pub record HoldsOnly (cpu : ℕ) (seats : Seats) : Type 0 where
   pub alone : (c : ℕ) (r : CpuRecord) → HasCpu c r seats → c ≡ cpu
   pub no_timer : seats.cpu.timer ≡ None
 
--- the part of a CPU: its record as it was and no other, one stake and 2^33 of each room, no notes, and the right to publish for the
--- contexts that the CPU owns; and of each queue a stake, where the seats before it left two or more
+-- there is a place for the CPU's log, and it is empty
+abbrev pub HasNoLog : (cpu : ℕ) (logs : Logs) → Type 0
+HasNoLog cpu logs = get_elem? logs cpu ≡ some None
+
+-- the part of a CPU: its record and its log as they were and no other, one stake and 2^33 of each room, no notes, and the right to publish
+-- for the contexts that the CPU owns; and of each queue a stake, where the seats before it left two or more
 pub record IsPart (kit : Kit) (cpu : ℕ) (old part : Seats) : Type 0 where
   pub seats_are : AreSeatsOf kit part
   pub holds : HoldsOnly cpu part
   pub same : (r : CpuRecord) → HasCpu cpu r old → HasCpu cpu r part
+  pub log : (log : List Logged) → HasLog old.cpu.logs cpu log → HasLog part.cpu.logs cpu log
+  pub no_log : (c : ℕ) (log : List Logged) → c ≢ cpu → HasLog old.cpu.logs c log → HasNoLog c part.cpu.logs
+  pub no_timer_log : part.cpu.timer_log ≡ None
   pub nothing_noted : (domain : ℕ) → noted part.share domain ≡ []
   pub nothing_counted : part.share.totals.notes ≡ []
   pub stakes : (domain : ℕ) → domain < length kit.shares.domains → stakes_in domain part.share.domains ≡ 1
@@ -86,13 +97,16 @@ pub record AreParts (kit : Kit) (cpus : ℕ) (old : Seats) (parts : List Seats) 
   pub many : length parts ≡ cpus
   pub each : (cpu : ℕ) (other : Seats) → cpu < cpus → IsPart kit cpu old (get_or parts cpu other)
 
--- what is left where the first so many CPUs went: the other records, the notes, the other stakes, of queues too, the rest of each room,
--- and the right to publish for contexts that other CPUs own
+-- what is left where the first so many CPUs went: the other records and logs, the notes, the other stakes, of queues too, the rest of each
+-- room, and the right to publish for contexts that other CPUs own
 pub record IsLeft (kit : Kit) (cpus : ℕ) (old left : Seats) : Type 0 where
   pub seats_are : AreSeatsOf kit left
   pub gone : (c : ℕ) (r : CpuRecord) → c < cpus → HasCpu c r left → ⊥
   pub stayed : (c : ℕ) (r : CpuRecord) → cpus ≤ c → HasCpu c r old → HasCpu c r left
+  pub logs_gone : (c : ℕ) (log : List Logged) → c < cpus → HasLog old.cpu.logs c log → HasNoLog c left.cpu.logs
+  pub logs_stayed : (c : ℕ) (log : List Logged) → cpus ≤ c → HasLog old.cpu.logs c log → HasLog left.cpu.logs c log
   pub timer : left.cpu.timer ≡ old.cpu.timer
+  pub timer_log : left.cpu.timer_log ≡ old.cpu.timer_log
   pub notes : (domain : ℕ) → noted left.share domain ≡ noted old.share domain
   pub counted : left.share.totals.notes ≡ old.share.totals.notes
   pub stakes : (domain : ℕ) → domain < length kit.shares.domains → stakes_in domain left.share.domains + cpus ≡ stakes_in domain old.share.domains

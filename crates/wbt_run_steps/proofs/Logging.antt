@@ -90,6 +90,8 @@ module _ (cpu : ℕ) where
   comes_as P word old new so comes = record {
     logs = λ log has. let change = comes.logs in
         (change.0, subst (λ (l : Logs). HasLog l cpu change.0) (sym change.1) (put_log_here cpu change.0 log old.cpu.logs has), so log change.0 (change.2 log has));
+    others = λ other ne. let change = comes.logs in ap (λ (l : Logs). get_elem? l other) change.1 ∙ put_log_else cpu other change.0 old.cpu.logs ne;
+    timer = comes.timer_log;
   }
 
   -- one step
@@ -108,16 +110,13 @@ module _ (cpu : ℕ) where
   grant_as old new = comes_as (λ was is. (grants : Option Granted) × LogsGrant grants was is) [] old new
       (λ was is t. grant_kinds t.0 was is t.1 ∙ sym (append-nil (kinds_in was)))
 
-  -- nor is what another CPU makes
-  pub other_as : (other : ℕ) (P : List Logged → List Logged → Type 0) (old new : Seats) → cpu ≢ other → LogComes other P old.cpu new.cpu → StepsAs cpu [] old new
-  other_as other P old new ne comes = record {
-    logs = λ log has. let change = comes.logs in
-        (log, ap (λ (l : Logs). get_elem? l cpu) change.1 ∙ put_log_else other cpu change.0 old.cpu.logs ne ∙ has, sym (append-nil (kinds_in log)));
-  }
-
   -- nothing was made
   pub none_as : (old new : Seats) → new.cpu ≡ old.cpu → StepsAs cpu [] old new
-  none_as old new same = record { logs = λ log has. (log, subst (λ (s : Seated). HasLog s.logs cpu log) (sym same) has, sym (append-nil (kinds_in log))) }
+  none_as old new same = record {
+    logs = λ log has. (log, subst (λ (s : Seated). HasLog s.logs cpu log) (sym same) has, sym (append-nil (kinds_in log)));
+    others = λ other ne. ap (λ (s : Seated). get_elem? s.logs other) same;
+    timer = ap (λ (s : Seated). s.timer_log) same;
+  }
 
   -- ---- one after another
 
@@ -127,6 +126,8 @@ module _ (cpu : ℕ) where
         let first = p.logs log has in
         let second = q.logs first.0 first.1 in
         (second.0, second.1, second.2 ∙ ap (λ (l : List StepKind). l ++ b) first.2 ∙ append_assoc (kinds_in log) a b);
+    others = λ other ne. q.others other ne ∙ p.others other ne;
+    timer = q.timer ∙ p.timer;
   }
 
   pub as_still : (a : List StepKind) (old mid new : Seats) → StepsAs cpu a old mid → StepsAs cpu [] mid new → StepsAs cpu a old new

@@ -1,5 +1,6 @@
 -- Of which kinds the steps are that a CPU made, by the seats' log of it.
-use Rattle.std.specs.Prelude.{◌≡◌, ◌⊎◌, ℕ, Bool, true, false, List, [], ◌∷◌, ◌++◌, map}
+use Rattle.std.specs.Prelude.{◌≡◌, ◌≢◌, ◌⊎◌, ℕ, Bool, true, false, List, [], ◌∷◌, ◌++◌, map}
+use lib.ListN.{get_elem?}
 use Rattle.wbt_counter.specs.declared.record.Debt.{Debt}
 use Rattle.wbt_counter.specs.declared.record.Debt.TheVariants.{Free, Event, FoldDue, ClearDue}
 use Rattle.wbt_counter.specs.declared.record.Owed.{Owed}
@@ -23,9 +24,11 @@ kinds_in log = kinds_of (map (λ (logged : Logged). logged.made) log)
 abbrev pub LogsAfter : (cpu : ℕ) (word : List StepKind) (older : List Logged) (seats : Seats) → Type 0
 LogsAfter cpu word older seats = (log : List Logged) × HasLog seats.cpu.logs cpu log × (kinds_in log ≡ kinds_in older ++ word)
 
--- Between the old seats and the new ones the CPU made steps of just these kinds, in this order.
+-- Between the old seats and the new ones the CPU made steps of just these kinds, in this order; no other CPU made any, nor did the timer.
 pub record StepsAs (cpu : ℕ) (word : List StepKind) (old new : Seats) : Type 0 where
   pub logs : (log : List Logged) → HasLog old.cpu.logs cpu log → LogsAfter cpu word log new
+  pub others : (other : ℕ) → other ≢ cpu → get_elem? new.cpu.logs other ≡ get_elem? old.cpu.logs other
+  pub timer : new.cpu.timer_log ≡ old.cpu.timer_log
 
 -- they are such a word
 abbrev pub Steps : (cpu : ℕ) (IsWord : List StepKind → Type 0) (old new : Seats) → Type 0

@@ -13,6 +13,7 @@ pub mod Rotating
 pub mod Rounding
 pub mod Working
 pub mod Coursing
+pub mod Wording
 pub mod Speaking
 pub mod MadeRounds
 pub mod Ticks

@@ -13,6 +13,8 @@ use Rattle.wbt_kit.specs.declared.kit.Kit.{Kit}
 use Rattle.wbt_kit.specs.declared.kit.Seats.{Seats}
 use Rattle.wbt_kit.specs.declared.turn.Turn.{Turn}
 use Rattle.wbt_kit.specs.declared.turn.Turn.TheVariants as turn
+use Rattle.wbt_run_steps.specs.Kinds.{StepsInTurn}
+use Rattle.wbt_table.specs.Layout.{domains}
 use Rattle.wbt_writer.specs.Answers.{Idles, Turned, WriterAnswers}
 use Rattle.wbt_writer.specs.Desk.{Desk, Sight, sight}
 use Rattle.wbt_writer.specs.Exact.{WriterTakes}
@@ -46,6 +48,8 @@ module _ (told : ℕ → Type 0) (said : ℕ → ℕ → Bool → Type 0) (kit :
     answer = takes.answer;
     told_so = takes.told_so;
     takes = subst (λ (j : Job). TakesTurn told said kit j takes.answer old new seats seats') (sym same) takes.takes;
+    cpu = takes.cpu;
+    steps = takes.steps;
   }
 
   pub waits_as : (outcome : JobOutcome) → JobWaits told other outcome old new seats seats' → JobWaits told job outcome old new seats seats'
@@ -69,8 +73,15 @@ module _ (told : ℕ → Type 0) (said : ℕ → ℕ → Bool → Type 0) (kit :
   after = sight desk.work seats' log
 
   pub writers_take : (a : Turn) (outcome : JobOutcome) → outcome ≡ job_by a → Turned told said old.desk.trace old.desk.cpu kit a before after
-      → WriterTakes told said old.desk.trace kit old.desk.cpu a before after → JobTakes told said kit Writers outcome old new seats seats'
-  writers_take a outcome is turned takes = record { answer = a; told_so = is; takes = record { flushers = refl; turned = turned; did = takes } }
+      → WriterTakes told said old.desk.trace kit old.desk.cpu a before after → StepsInTurn (domains kit.throttle.layout) old.desk.cpu a seats seats'
+      → JobTakes told said kit Writers outcome old new seats seats'
+  writers_take a outcome is turned takes steps = record {
+    answer = a;
+    told_so = is;
+    takes = record { flushers = refl; turned = turned; did = takes };
+    cpu = fixed.1;
+    steps = steps;
+  }
 
   still : (put : Sight) → Idles before after → desk.work.tasks ≡ old.desk.work.tasks → put.work.fractions.items ≡ old.desk.work.fractions.items → after ≡ put
       → StandsStill old new seats seats'
@@ -127,13 +138,15 @@ module _ (told : ℕ → Type 0) (said : ℕ → ℕ → Bool → Type 0) (kit :
   flusher_did turn.Spent answers took halts fails spends waits = spends refl
   flusher_did turn.NoMemory answers took halts fails spends waits = answers
 
-  pub flusher_takes : (a : Turn) (outcome : JobOutcome) → outcome ≡ job_by a → FlusherDid told said d.plan kit a was now_is
-      → JobTakes told said kit (Flusher k) outcome old moved seats seats'
-  flusher_takes a outcome told_so did = record {
+  pub flusher_takes : (a : Turn) (outcome : JobOutcome) → outcome ≡ job_by a → FlusherDid told said d.plan kit a was now_is → d.plan.cpu ≡ old.desk.cpu
+      → StepsInTurn (domains kit.throttle.layout) d.plan.cpu a seats seats' → JobTakes told said kit (Flusher k) outcome old moved seats seats'
+  flusher_takes a outcome told_so did own steps = record {
     answer = a;
     told_so = told_so;
     takes = subst (λ (j : Job). TakesTurn told said kit j a old moved seats seats') (sym its_place)
         (record { was = d; is = q; there = there; its = is; others = refl; writers = refl; did = did });
+    cpu = refl;
+    steps = subst (λ (cpu : ℕ). StepsInTurn (domains kit.throttle.layout) cpu a seats seats') own steps;
   }
 
   stands : flusher.IsLeft was now_is → StandsStill old moved seats seats'

@@ -28,13 +28,14 @@ use Rattle.wbt_run_laws.proofs.Working.{timer_went_nowhere, timer_went_on}
 use Rattle.wbt_run_worker.specs.Ticking.{IsTold, MayTick, Ticks, ticking}
 
 pub stays_now : (seats : Seats) → SeatsStay seats seats
-stays_now seats = record { table = refl; layout = refl; cpus = refl; totals = refl; stakes = λ domain. refl; rooms = λ domain. refl; est = refl; queue = refl }
+stays_now seats = record { table = refl; layout = refl; cpus = refl; logs = refl; totals = refl; stakes = λ domain. refl; rooms = λ domain. refl; est = refl; queue = refl }
 
 pub stays_more : (old mid new : Seats) → SeatsStay old mid → SeatsStay mid new → SeatsStay old new
 stays_more old mid new p q = record {
   table = q.table ∙ p.table;
   layout = q.layout ∙ p.layout;
   cpus = q.cpus ∙ p.cpus;
+  logs = q.logs ∙ p.logs;
   totals = q.totals ∙ p.totals;
   stakes = λ domain. q.stakes domain ∙ p.stakes domain;
   rooms = λ domain. q.rooms domain ∙ p.rooms domain;

@@ -94,6 +94,10 @@ module _ (told : ℕ → Type 0) (said : ℕ → ℕ → Bool → Type 0) (kit :
   pub plan_suits : Suits d.plan kit
   plan_suits = mine.suits
 
+  -- it is the CPU's
+  pub same_cpu : d.plan.cpu ≡ cpu
+  same_cpu = mine.cpu_is
+
   module _ (moments : Moments) (all_told : flusher.AreTold told moments)
       (went : flusher.Went d.plan kit moments (sight d.work seats old.log d.written) (sight q.work seats' log' q.written)) where
     abbrev added : List Told

@@ -6,6 +6,7 @@ pub mod Ticking
 pub mod TimerTurns
 pub mod Rotation
 pub mod Rounds
+pub mod Words
 pub mod Course
 pub mod Voices
 pub mod MadeRounds

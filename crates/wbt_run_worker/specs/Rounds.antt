@@ -10,6 +10,8 @@ use Rattle.wbt_kit.specs.declared.kit.Kit.{Kit}
 use Rattle.wbt_kit.specs.declared.kit.Seats.{Seats}
 use Rattle.wbt_kit.specs.declared.turn.Turn.{Turn}
 use Rattle.wbt_kit.specs.declared.turn.Turn.TheVariants as turn
+use Rattle.wbt_run_steps.specs.Kinds.{StepsInTurn}
+use Rattle.wbt_table.specs.Layout.{domains}
 use Rattle.wbt_writer.specs.Answers.{Turned}
 use Rattle.wbt_writer.specs.Desk as writer
 use Rattle.wbt_writer.specs.Exact.{WriterTakes}
@@ -55,11 +57,13 @@ abbrev pub TakesTurn : (told : ℕ → Type 0) (said : ℕ → ℕ → Bool → 
 TakesTurn told said kit Writers answer old new seats seats' = WritersTurn told said kit answer old new seats seats'
 TakesTurn told said kit (Flusher place) answer old new seats seats' = FlusherTurn told said kit place answer old new seats seats'
 
--- a job's turn was told as this
+-- A job's turn was told as this. Its steps are those of a whole turn of the CPU; where it was halted, a first part of them.
 pub record JobTakes (told : ℕ → Type 0) (said : ℕ → ℕ → Bool → Type 0) (kit : Kit) (job : Job) (outcome : JobOutcome) (old new : Team) (seats seats' : Seats) : Type 0 where
   pub answer : Turn
   pub told_so : outcome ≡ job_by answer
   pub takes : TakesTurn told said kit (taker (length old.posts) job) answer old new seats seats'
+  pub cpu : new.desk.cpu ≡ old.desk.cpu
+  pub steps : StepsInTurn (domains kit.throttle.layout) old.desk.cpu answer seats seats'
 
 -- where it wasn't made it says why, and all stands where it stood
 abbrev pub JobWaits : (told : ℕ → Type 0) (job : Job) (outcome : JobOutcome) (old new : Team) (seats seats' : Seats) → Type 0

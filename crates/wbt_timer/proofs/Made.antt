@@ -64,7 +64,10 @@ module _ (set : Setting) (own : Past → List Logged) where
 -- ---- steps between seats
 
 pub steps_none : (old new : Seats) → new.cpu ≡ old.cpu → StepsAs [] old new
-steps_none old new same = record { logs = λ log is. (log, ap (λ (s : Seated). s.timer_log) same ∙ is, sym (append-nil (kinds_in log))) }
+steps_none old new same = record {
+  logs = λ log is. (log, ap (λ (s : Seated). s.timer_log) same ∙ is, sym (append-nil (kinds_in log)));
+  cpus = ap (λ (s : Seated). s.logs) same;
+}
 
 pub steps_more : (a b : List StepKind) (old mid new : Seats) → StepsAs a old mid → StepsAs b mid new → StepsAs (a ++ b) old new
 steps_more a b old mid new first second = record {
@@ -72,6 +75,7 @@ steps_more a b old mid new first second = record {
       let one = first.logs log is in
       let two = second.logs one.0 one.1 in
       (two.0, two.1, two.2 ∙ (ap (λ (w : List StepKind). w ++ b) one.2 ∙ append_assoc (kinds_in log) a b));
+  cpus = second.cpus ∙ first.cpus;
 }
 
 steps_as : (a b : List StepKind) (old new : Seats) → a ≡ b → StepsAs a old new → StepsAs b old new
@@ -81,11 +85,13 @@ module _ (set : Setting) where
   pub steps_one : (step : Step) (n : ℕ) (old new : Seats) → Times set step n old.cpu new.cpu → StepsAs (kind_made step n) old new
   steps_one step n old new times = record {
     logs = λ log is. let t = times.timer_log log is in (t.0, t.2, step_kinds set timer_log_of None step n log t.0 t.1);
+    cpus = times.logs;
   }
 
   steps_all : (said : ℕ → Bool → Type 0) (made : List Made) (old new : Seats) → TimesAll set said made old.cpu new.cpu → StepsAs (word_of made) old new
   steps_all said made old new times = record {
     logs = λ log is. let t = times.timer_log log is in (t.0, t.2, steps_kinds set timer_log_of made log t.0 t.1);
+    cpus = times.logs;
   }
 
 -- ---- publications that are behind

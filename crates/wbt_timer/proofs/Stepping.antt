@@ -67,10 +67,10 @@ module _ (set : Setting) (d : ℕ) (l : Limits) (said : ℕ → Bool → Type 0)
   last_put Last p r has = let last = p.1 r has in last_version (version_of d r.published) (is_sealed (stage_of d r.drafts)) (omega (arith, last))
 
   -- nothing else of the seat changes
-  pub put_kept : (put : Put) → Puts set d l said put old new → (new.table ≡ old.table) × (new.layout ≡ old.layout) × (new.cpus ≡ old.cpus)
-  put_kept Done p = (p.1.table, p.1.layout, p.1.cpus)
-  put_kept Stopped p = (p.1.table, p.1.layout, p.1.cpus)
-  put_kept Last p = (ap (λ (s : Seated). s.table) p.0, ap (λ (s : Seated). s.layout) p.0, ap (λ (s : Seated). s.cpus) p.0)
+  pub put_kept : (put : Put) → Puts set d l said put old new → (new.table ≡ old.table) × (new.layout ≡ old.layout) × (new.cpus ≡ old.cpus) × (new.logs ≡ old.logs)
+  put_kept Done p = (p.1.table, p.1.layout, p.1.cpus, p.1.logs)
+  put_kept Stopped p = (p.1.table, p.1.layout, p.1.cpus, p.1.logs)
+  put_kept Last p = (ap (λ (s : Seated). s.table) p.0, ap (λ (s : Seated). s.layout) p.0, ap (λ (s : Seated). s.cpus) p.0, ap (λ (s : Seated). s.logs) p.0)
 
   pub put_stopped : (put : Put) → put ≡ Stopped → Puts set d l said put old new → (r : TimerRecord) → new.timer ≡ Some r → said r.steps false
   put_stopped Done is p r has = absurd (let e = is in cc)
@@ -84,6 +84,7 @@ kept_more a b c p q = record {
   table = q.table ∙ p.table;
   layout = q.layout ∙ p.layout;
   cpus = q.cpus ∙ p.cpus;
+  logs = q.logs ∙ p.logs;
   share = q.share ∙ p.share;
   est = q.est ∙ p.est;
   queue = q.queue ∙ p.queue;
@@ -148,7 +149,7 @@ published_none machine now sides s log = record {
     each_domain = refl;
     global_is = refl;
     limits_are = refl;
-    kept = record { table = refl; layout = refl; cpus = refl; share = refl; est = refl; queue = refl };
+    kept = record { table = refl; layout = refl; cpus = refl; logs = refl; share = refl; est = refl; queue = refl };
     sides_are = refl;
     logged = sym (append-nil log);
     became = λ r has. record { held = r; has = has; readings_are = refl; published_are = refl; raised_are = refl };

@@ -155,6 +155,7 @@ module _ (now g : ℕ) (old new : Side) (sides1 : List DomainSide) (s0 s1 : Seat
       table = p.published.kept.table;
       layout = p.published.kept.layout;
       cpus = p.published.kept.cpus;
+      logs = p.published.kept.logs;
       totals = ap (λ (s : ShareSeats). s.totals) p.published.kept.share;
       stakes = λ d. ap (λ (s : ShareSeats). stakes_in d s.domains) p.published.kept.share;
       rooms = λ d. ap (λ (s : ShareSeats). room_in d s.domains) p.published.kept.share;
@@ -290,6 +291,7 @@ module _ (now come g : ℕ) (old new : Side) (sides1 sides2 : List DomainSide) (
       table = ap (λ (s : Seated). s.table) t.kept.cpu ∙ p.kept.table;
       layout = ap (λ (s : Seated). s.layout) t.kept.cpu ∙ p.kept.layout;
       cpus = ap (λ (s : Seated). s.cpus) t.kept.cpu ∙ p.kept.cpus;
+      logs = ap (λ (s : Seated). s.logs) t.kept.cpu ∙ p.kept.logs;
       totals = t.kept.totals ∙ ap (λ (s : ShareSeats). s.totals) p.kept.share;
       stakes = λ d. t.kept.stakes d ∙ ap (λ (s : ShareSeats). stakes_in d s.domains) p.kept.share;
       rooms = λ d. t.kept.rooms d ∙ ap (λ (s : ShareSeats). room_in d s.domains) p.kept.share;

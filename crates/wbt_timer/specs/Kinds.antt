@@ -23,9 +23,10 @@ kinds_in log = kinds_of (map (λ (logged : Logged). logged.made) log)
 abbrev pub LogsAfter : (word : List StepKind) (older : List Logged) (seats : Seats) → Type 0
 LogsAfter word older seats = (log : List Logged) × (seats.cpu.timer_log ≡ Some log) × (kinds_in log ≡ kinds_in older ++ word)
 
--- Between the old seats and the new ones the timer made steps of just these kinds, in this order.
+-- Between the old seats and the new ones the timer made steps of just these kinds, in this order, and no CPU made any.
 pub record StepsAs (word : List StepKind) (old new : Seats) : Type 0 where
   pub logs : (log : List Logged) → old.cpu.timer_log ≡ Some log → LogsAfter word log new
+  pub cpus : new.cpu.logs ≡ old.cpu.logs
 
 -- they are such a word
 abbrev pub Steps : (IsWord : List StepKind → Type 0) (old new : Seats) → Type 0

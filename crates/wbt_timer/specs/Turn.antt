@@ -153,6 +153,7 @@ pub record SeatsKept (old new : Seats) : Type 0 where
   pub table : new.cpu.table ≡ old.cpu.table
   pub layout : new.cpu.layout ≡ old.cpu.layout
   pub cpus : new.cpu.cpus ≡ old.cpu.cpus
+  pub logs : new.cpu.logs ≡ old.cpu.logs
   pub share : new.share ≡ old.share
   pub est : new.est ≡ old.est
   pub queue : new.queue ≡ old.queue
@@ -294,11 +295,12 @@ pub record TimerRests (old new : Side) (seats seats' : Seats) (log log' : List T
   pub seats_are : seats' ≡ seats
   pub log_is : log' ≡ log
 
--- nothing of the seats changed but the timer's record and the notes of shares
+-- nothing of the seats changed but the timer's record, its log, and the notes of shares
 pub record SeatsStay (seats seats' : Seats) : Type 0 where
   pub table : seats'.cpu.table ≡ seats.cpu.table
   pub layout : seats'.cpu.layout ≡ seats.cpu.layout
   pub cpus : seats'.cpu.cpus ≡ seats.cpu.cpus
+  pub logs : seats'.cpu.logs ≡ seats.cpu.logs
   pub totals : seats'.share.totals ≡ seats.share.totals
   pub stakes : KeepsStakes seats.share.domains seats'.share.domains
   pub rooms : KeepsRooms seats.share.domains seats'.share.domains

@@ -26,6 +26,7 @@ returns g c =
           waits = c.turn.ensures.waits;
           done = c.turn.ensures.done;
         };
+        steps = c.turn.ensures.kinds;
         answer_is = c.job_of-job.ensures;
         stands = c.stand_of-post.ensures;
         ends = c.end_of-side.ensures;

@@ -21,4 +21,4 @@ pub returns-clause-untold : goal.returns-clause-untold
 returns-clause-untold g c =
     let m = c.mark_inode.ensures.marks in
     let r = first_held c.args.trace.now c.args.hands.now.kit.now.published.moment c.args.hands.now.kit.now c.args.seats.now c.requires.lawful c.requires.kit c.requires.seats c.requires.all in
-    marked c.args.hands.now.kit.now 0 c.args.inode m.0 c.args.seats.now (with_cpu c.args.seats.now c.mark_inode.new.seat) r.0 c.requires.seats r.1 (only c.args.seats.now c.mark_inode.new.seat) m.2
+    marked c.args.hands.now.kit.now 0 c.args.inode m.0 c.args.seats.now (with_cpu c.args.seats.now c.mark_inode.new.seat) r.0 refl c.requires.seats r.1 (only c.args.seats.now c.mark_inode.new.seat) m.2

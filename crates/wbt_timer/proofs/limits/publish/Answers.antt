@@ -30,7 +30,7 @@ returns-clause-published g c =
     let s2 = c.publish.new.seat in
     let kept = put_kept set' d l said s1 s2 put two in
     record {
-      kept = record { table = kept.0 ∙ one.1.table; layout = kept.1 ∙ one.1.layout; cpus = kept.2 ∙ one.1.cpus; share = refl; est = refl; queue = refl };
+      kept = record { table = kept.0 ∙ one.1.table; layout = kept.1 ∙ one.1.layout; cpus = kept.2 ∙ one.1.cpus; logs = kept.3 ∙ one.1.logs; share = refl; est = refl; queue = refl };
       became = λ r has.
           let next = timer_after (peak d l.hard) one.0 r in
           let to = put_on set' d l said s1 s2 put two next (one.1.timer r has) in

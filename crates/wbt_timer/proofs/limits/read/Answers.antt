@@ -12,7 +12,7 @@ returns-clause-counted c =
     let d = c.args.domain in
     let load = c.load_count.ensures.loads in
     record {
-      kept = record { table = load.2.table; layout = load.2.layout; cpus = load.2.cpus; share = refl; est = refl; queue = refl };
+      kept = record { table = load.2.table; layout = load.2.layout; cpus = load.2.cpus; logs = load.2.logs; share = refl; est = refl; queue = refl };
       became = λ r has. record {
         held = timer_after (count Timer (Domain d)) load.0 r;
         has = load.2.timer r has;

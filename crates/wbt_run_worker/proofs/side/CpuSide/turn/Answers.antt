@@ -33,7 +33,7 @@ returns-in-Writers-clause-takes g c =
     let old = team_of g.D.Disk.written g.D.Disk.faults c.args.self.now in
     let e = c.turn.ensures in
     let takes = writers_take told said c.args.hands.now.kit.now old c.turn.new.self c.turn.new.log c.args.seats.now c.turn.new.seats e.fixed
-    c.turn.result c.job_of.result c.job_of.ensures e.turned e.took in
+    c.turn.result c.job_of.result c.job_of.ensures e.turned e.took e.kinds in
     takes_as told said c.args.hands.now.kit.now c.args.job Writers old (team_of g.D.Disk.written g.D.Disk.faults (record c.args.self.now { writers = c.turn.new.self; log = c.turn.new.log }))
     c.args.seats.now c.turn.new.seats (taken_by (λ (p : Post g.row.D.Denot). seen g.D.Disk.written g.D.Disk.faults p) c.args.self.now.posts.items c.args.job c.taker.result c.taker.ensures.taker ∙ c.in-Writers.is) c.job_of.result takes
 

@@ -11,7 +11,7 @@ use Rattle.wbt_run_worker.proofs.Answering.{answers_by, goes_by, waits_on}
 use Rattle.wbt_run_worker.proofs.Lists.{long_map, map_at}
 use Rattle.wbt_run_worker.proofs.Posts.{later_now}
 use Rattle.wbt_run_worker.proofs.Taking.{flusher_did, flusher_takes, flusher_waits}
-use Rattle.wbt_run_worker.proofs.Turning.{may_turn, plan_suits}
+use Rattle.wbt_run_worker.proofs.Turning.{may_turn, plan_suits, same_cpu}
 use Rattle.wbt_run_worker.proofs.side.CpuSide.turn_flusher.Goals as goal
 
 pub turn-requires-clause-suits : goal.turn-requires-clause-suits
@@ -98,8 +98,10 @@ returns-clause-takes g c =
     let e = c.turn.ensures in
     let did = flusher_did told said c.args.hands.now.kit.now old c.args.at (f post) (f next) c.args.seats.now c.turn.new.seats c.turn.new.log there is e.plan
     c.turn.result e.answers e.took e.halts e.fails e.spends e.waits in
+    let own = same_cpu told said c.args.hands.now.kit.now old c.args.at (f post) (f next) c.args.seats.now c.turn.new.seats c.turn.new.log there is e.plan
+    (record { faults = e.later; counted = e.counted }) c.requires.side in
     let all = flusher_takes told said c.args.hands.now.kit.now old c.args.at (f post) (f next) c.args.seats.now c.turn.new.seats c.turn.new.log there is e.plan
-    c.turn.result c.job_of.result c.job_of.ensures did in
+    c.turn.result c.job_of.result c.job_of.ensures did own e.kinds in
     subst (λ (posts : List Seen). JobTakes told said c.args.hands.now.kit.now (Flusher c.args.at) c.job_of.result old
     (record { desk = c.args.self.now.writers; posts = posts; log = c.turn.new.log }) c.args.seats.now c.turn.new.seats)
     (sym (map-set f c.args.self.now.posts.items c.args.at next)) all
