@@ -5,6 +5,7 @@ ghost use Rattle.atomic_table.specs.Seated.{TableId};
 ghost use Rattle.wbt_kit.specs.declared.kit.Kit.{Kit as AtKit};
 ghost use Rattle.wbt_journal.specs.Each.{Each};
 ghost use Rattle.wbt_run_worker.specs.Ticking.{MayTick, Ticks};
+ghost use Rattle.wbt_run_worker.specs.TimerTurns.{HasTakenTurns, HasTurnedToTheEnd};
 ghost use Rattle.wbt_run_worker.specs.Voices.{TimerSpeaks};
 ghost use Rattle.wbt_run_beside.specs.Beside.{AllDid, AllHaveGone, AllHaveWorked, AllMay, AllMayWork, HasEnded};
 
@@ -31,9 +32,11 @@ pub fn work_beside<'t, H: Threads + Wait + Sync, C: Clock + Sync, G: Gate + Sync
     requires voice { timer.old.voice.signals ≡ condition.now.signals }
     requires workers { AllMayWork condition.now.signals D.written D.faults hands.now.kit.now workers.old.items }
 
-    // The timer's log tells what it did, at moments that the clock told. It may go on, and rang the bell only where it was refused memory.
+    // The timer's log tells what it did, at moments that the clock told: turns, one at least. It may go on, and rang the bell only where it was
+    // refused memory.
     ensures ticks { Ticks (C.told hands.now.clock.now) timer.old.side timer.new.side seats.old seats.new timer.old.log.items timer.new.log.items }
     ensures may_tick { MayTick hands.now.kit.now timer.new.side seats.new }
+    ensures turned { HasTakenTurns (C.told hands.now.clock.now) (G.said hands.now.gate.now) hands.now.kit.now timer.old timer.new seats.old seats.new }
     ensures speaks { TimerSpeaks condition.now.signals timer.old.refused timer.new.refused timer.old.voice timer.new.voice }
 
     // There are as many workers. Each took its turns, and its side ended for its cause.
@@ -56,6 +59,7 @@ fn work_all<'t, H: Threads + Wait + Sync, C: Clock + Sync, G: Gate + Sync, D: Di
     requires workers { AllMayWork condition.now.signals D.written D.faults hands.now.kit.now workers.old }
     ensures ticks { Ticks (C.told hands.now.clock.now) timer.old.side timer.new.side seats.old seats.new timer.old.log.items timer.new.log.items }
     ensures may_tick { MayTick hands.now.kit.now timer.new.side seats.new }
+    ensures turned { HasTakenTurns (C.told hands.now.clock.now) (G.said hands.now.gate.now) hands.now.kit.now timer.old timer.new seats.old seats.new }
     ensures speaks { TimerSpeaks condition.now.signals timer.old.refused timer.new.refused timer.old.voice timer.new.voice }
     ensures worked { AllHaveWorked (C.told hands.now.clock.now) (G.said hands.now.gate.now) D.written D.faults hands.now.kit.now workers.old workers.new }
 {
@@ -154,6 +158,7 @@ fn join_workers<H: Threads + Wait + Sync, C: Clock + Sync, G: Gate + Sync, W: Tu
     requires workers { AllMay (W.may condition.now.signals hands.now.kit.now) workers.old }
     ensures ticks { Ticks (C.told hands.now.clock.now) timer.old.side timer.new.side seats.old seats.new timer.old.log.items timer.new.log.items }
     ensures may_tick { MayTick hands.now.kit.now timer.new.side seats.new }
+    ensures turned { HasTurnedToTheEnd (C.told hands.now.clock.now) (G.said hands.now.gate.now) hands.now.kit.now timer.old timer.new seats.old seats.new }
     ensures speaks { TimerSpeaks condition.now.signals timer.old.refused timer.new.refused timer.old.voice timer.new.voice }
     ensures worked { AllDid (W.did condition.now.signals (C.told hands.now.clock.now) (G.said hands.now.gate.now) hands.now.kit.now) workers.old workers.new }
 {
@@ -164,6 +169,7 @@ fn join_workers<H: Threads + Wait + Sync, C: Clock + Sync, G: Gate + Sync, W: Tu
             requires voice { timer.now.voice.signals ≡ condition.now.signals }
             ensures ticks { Ticks (C.told hands.entry.now.clock.now) timer.entry.now.side timer.exit.now.side seats.entry.now seats.exit.now timer.entry.now.log.items timer.exit.now.log.items }
             ensures may_tick { MayTick hands.entry.now.kit.now timer.exit.now.side seats.exit.now }
+            ensures turned { HasTurnedToTheEnd (C.told hands.entry.now.clock.now) (G.said hands.entry.now.gate.now) hands.entry.now.kit.now timer.entry.now timer.exit.now seats.entry.now seats.exit.now }
             ensures speaks { TimerSpeaks condition.entry.now.signals timer.entry.now.refused timer.exit.now.refused timer.entry.now.voice timer.exit.now.voice }
         { timer.tick(hands, seats, condition) },
         &mut ||

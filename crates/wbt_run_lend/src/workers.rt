@@ -24,8 +24,8 @@ use wbt_signals::Voice;
 use wbt_trace::Trace;
 
 /// A worker for each CPU in order, with the CPU's part of `seats`, which are as `Kit::make` gave them for the trace and the moment
-/// `now`, in ticks. What is left in `seats` has the timer. Where memory is refused the seats are as they were, and the disks are
-/// given back.
+/// `now`, in ticks. What is left in `seats` has the timer. `voice` speaks for as many workers as there are CPUs, and hands each of them its own. Where
+/// memory is refused the seats are as they were, and the disks are given back.
 pub fn make_workers<'t, H: Wait, C, G, R: Rack>(
     hands: &Hands<H, C, G>,
     trace: &'t Trace,
@@ -41,9 +41,11 @@ pub fn make_workers<'t, H: Wait, C, G, R: Rack>(
     requires owners { HasOwners hands.now.kit.now }
     requires seats { AreSeatsOf hands.now.kit.now seats.old }
     requires first { AreFirst hands.now.kit.now seats.old }
-    requires voice { (voice.old.signals ≡ condition.now.signals) × (voice.old.stakes ≡ 2 ^ 32) × (voice.old.rings ≡ 0) × (trace.now.cpus ≤ voice.old.writes) × (trace.now.cpus ≤ voice.old.there) }
+    requires voice { (voice.old.signals ≡ condition.now.signals) × (voice.old.stakes ≡ 2 ^ 32) × (voice.old.rings ≡ 0) }
+    requires counted { (voice.old.writes ≡ trace.now.cpus) × (voice.old.there ≡ trace.now.cpus) }
     ensures made { IfOk result (λ workers. AreFirstWorkers R.D.written R.D.faults trace.now now hands.now.kit.now seats.old workers.items) }
     ensures voiced { IfOk result (λ workers. AreVoiced condition.now.signals voice.new workers.items) }
+    ensures handed { IfOk result (λ _. (voice.new.writes ≡ 0) × (voice.new.there ≡ 0)) }
     ensures left { IfOk result (λ _. IsLeft hands.now.kit.now trace.now.cpus seats.old seats.new) }
     ensures back { IfErr result (λ _. AreBack seats.old seats.new) }
     ensures written { Grows (Some 0) (R.written rack.old) (R.written rack.new) }

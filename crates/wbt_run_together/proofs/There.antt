@@ -1,7 +1,6 @@
 -- A CPU's turns, where numbers that no flusher of the trace has stay as they are at first.
 use Rattle.std.proofs.Common.{◌≡◌, ◌≢◌, ⊎_elim, ℕ, ◌≤◌, Bool, true, false, ◌==◌, nat_lt, if◌then◌else◌, List, [], ◌∷◌, length, Option, Some, None, IfSome, refl, sym, ap, ◌∙◌, subst, ne_eqb}
 use Rattle.std.proofs.lemmas.Bool.{cases_lt, lt-ltb, le-ltb}
-use Rattle.std.proofs.lemmas.Option.{slice_get_past}
 use Rattle.wbt_journal.specs.Each.{Each}
 use Rattle.wbt_journal.specs.Effects.{Flight, Wait, effect, of_part}
 use Rattle.wbt_journal.specs.Flights.{MayMove, ToldFlusher, is_own_flusher, moved}
@@ -11,7 +10,6 @@ use Rattle.wbt_journal.specs.Told.{Told}
 use Rattle.wbt_journal.specs.Waits.{MayWait, waited}
 use Rattle.wbt_journal.specs.Walk.{Along, after}
 use Rattle.wbt_expiry.specs.declared.due.Due.{Due}
-use Rattle.wbt_trace.specs.declared.trace.FlusherLine.{FlusherLine}
 use Rattle.wbt_trace.specs.declared.trace.Trace.{Trace}
 use Rattle.wbt_run_laws.specs.Owns.{IsOwn, IsOwnFlight}
 use Rattle.wbt_run_laws.specs.Phases.{FliesInTurn, Flew, flusher_after}

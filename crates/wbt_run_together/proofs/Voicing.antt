@@ -1,15 +1,16 @@
 -- The voices of all workers together: who was told to stop has another's cause.
-use Rattle.std.proofs.Common.{◌≡◌, ◌⊎◌, inl, inr, ⊎_elim, ℕ, zero, suc, ◌+◌, ◌-◌, ◌^◌, ◌<◌, ◌≤◌, Bool, true, false, ◌||◌, List, [], ◌∷◌, map, length, get_or, Option, Some, None, refl, sym, ap, ◌∙◌, subst, arith}
+use Rattle.std.proofs.Common.{◌≡◌, ◌⊎◌, inl, inr, ⊎_elim, ℕ, zero, suc, ◌+◌, ◌^◌, ◌<◌, ◌≤◌, Bool, true, false, cond, ◌||◌, List, [], ◌∷◌, length, get_or, Option, Some, None, refl, sym, ap, ◌∙◌, subst, arith}
 use Rattle.atomic_table.specs.Seated.{TableId}
 use Rattle.wbt_journal.specs.Each.{Each}
 use Rattle.wbt_kit.specs.declared.kit.Kit.{Kit}
 use Rattle.wbt_signals.specs.Signals.{Known, both_voices}
-use Rattle.wbt_run_worker.specs.Voices.{HasLeft, HasSpoken, TimerSpeaks, rings_for}
+use Rattle.wbt_run_worker.specs.Voices.{HasLeft, HasSpoken, HasWritten, TimerSpeaks, rings_for}
 use Rattle.wbt_run_worker.specs.declared.side.CpuSide.{CpuSide}
 use Rattle.wbt_run_worker.specs.declared.side.End.{End}
 use Rattle.wbt_run_worker.specs.declared.side.End.TheVariants.{Ended, Halted, Faulted, Spent, Refused, Stopped}
 use Rattle.wbt_run_worker.specs.declared.worker.Worker.{Worker}
-use Rattle.wbt_run_drain.specs.Ends.{Any, EndsSo, SomeEnds}
+use Rattle.wbt_run_drain.specs.Ends.{SomeEnds}
+use Rattle.wbt_run_drain.specs.Standing.{NoneStopped}
 use Rattle.wbt_run_beside.specs.Beside.{AllHaveWorked, HasWorked}
 use Rattle.wbt_run_together.specs.Gather.{sides_of}
 use Rattle.wbt_run_first.specs.Voiced.{AreVoiced, IsVoiced, StopsForCause, all_voices, voices_of}
@@ -37,6 +38,7 @@ record IsLast (old new : Known) : Type 0 where
   stakes : new.stakes ≡ old.stakes
   rings : new.rings ≡ old.rings
   heard : new.heard ≡ old.heard
+  writes : new.writes ≡ old.writes
 
 left_so : (end : Option End) (old new : Known) → HasLeft end old new → IsLast old new
 left_so None old new is = record {
@@ -44,12 +46,14 @@ left_so None old new is = record {
   stakes = ap (λ (known : Known). known.stakes) is;
   rings = ap (λ (known : Known). known.rings) is;
   heard = ap (λ (known : Known). known.heard) is;
+  writes = ap (λ (known : Known). known.writes) is;
 }
 left_so (Some end) old new left = record {
   its = ap (λ (known : Known). known.signals) left.0;
   stakes = ap (λ (known : Known). known.stakes) left.0;
   rings = ap (λ (known : Known). known.rings) left.0;
   heard = ap (λ (known : Known). known.heard) left.0;
+  writes = ap (λ (known : Known). known.writes) left.0;
 }
 
 its_still : {signals : TableId} {writes : Bool} {end : Option End} {old new : Known} → HasSpoken signals writes end old new → new.signals ≡ signals
@@ -59,6 +63,17 @@ record IsSpoken {D : Type 0} (worker : Worker D) : Type 0 where
   stakes : worker.voice.stakes ≡ 1
   rings : worker.voice.rings ≡ rings_for worker.side.end
   heard : worker.side.end ≡ Stopped → worker.voice.heard ≡ true
+  there : worker.voice.there ≡ 0
+  writes : (worker.side.end ≡ Stopped → ⊥) → worker.voice.writes ≡ 0
+
+-- a worker that wasn't told to stop has said that it writes no more
+wrote_all : (end : End) (writes : Bool) → HasWritten (Some end) writes → (end ≡ Stopped → ⊥) → writes ≡ false
+wrote_all Ended writes said so = said
+wrote_all Halted writes said so = said
+wrote_all Faulted writes said so = said
+wrote_all Spent writes said so = said
+wrote_all Refused writes said so = said
+wrote_all Stopped writes said so = absurd (so refl)
 
 abbrev all_rings : {D : Type 0} (workers : List (Worker D)) → ℕ
 all_rings [] = 0
@@ -84,6 +99,21 @@ module _ {D : Type 0} where
   rings_together : (workers : List (Worker D)) (into : Known) → (all_voices into (voices_of workers)).rings ≡ into.rings + all_rings workers
   rings_together [] into = omega arith
   rings_together (worker ∷ more) into = let rest = rings_together more (both_voices into worker.voice) in omega (arith, rest)
+
+  there_together : (workers : List (Worker D)) (into : Known) → Each IsSpoken workers → (all_voices into (voices_of workers)).there ≡ into.there
+  there_together [] into all = refl
+  there_together (worker ∷ more) into all =
+      let rest = there_together more (both_voices into worker.voice) all.1 in let one = all.0.there in omega (arith, rest, one)
+
+  writes_together : (workers : List (Worker D)) (into : Known) → Each IsSpoken workers → Each (λ (worker : Worker D). worker.side.end ≡ Stopped → ⊥) workers
+      → (all_voices into (voices_of workers)).writes ≡ into.writes
+  writes_together [] into all none = refl
+  writes_together (worker ∷ more) into all none =
+      let rest = writes_together more (both_voices into worker.voice) all.1 none.1 in let one = all.0.writes none.0 in omega (arith, rest, one)
+
+  each_goes : (workers : List (Worker D)) → NoneStopped (sides_of workers) → Each (λ (worker : Worker D). worker.side.end ≡ Stopped → ⊥) workers
+  each_goes [] none = tt
+  each_goes (worker ∷ more) none = (none 0 worker.side (omega arith), each_goes more (λ cpu other less. none (suc cpu) other (omega arith)))
 
   heard_still : (workers : List (Worker D)) (into : Known) → into.heard ≡ true → (all_voices into (voices_of workers)).heard ≡ true
   heard_still [] into heard = heard
@@ -128,6 +158,8 @@ module _ {D : Type 0} (told : ℕ → Type 0) (said : ℕ → ℕ → Bool → T
         stakes = same.stakes ∙ worked.speaks.speaks.stakes ∙ ap (λ (known : Known). known.stakes) voiced.voice;
         rings = let said = says.0 in let last = same.rings in omega (arith, said, silent, last);
         heard = λ stopped. same.heard ∙ says.1 stopped;
+        there = let may = worked.speaks.speaks.may.there in let left = ap (λ (known : Known). known.there) worked.speaks.left.0 in omega (arith, may, left);
+        writes = λ so. same.writes ∙ worked.speaks.speaks.may.leave ∙ ap (λ (b : Bool). cond b 1 0) (wrote_all new.side.end new.writes worked.speaks.speaks.written so);
       }
 
   all_spoken : (old new : List (Worker D)) → length new ≡ length old → Each (IsVoiced signals) old → AllHaveWorked told said written faults kit old new → Each IsSpoken new
@@ -164,3 +196,13 @@ module _ {D : Type 0} (told : ℕ → Type 0) (said : ℕ → ℕ → Bool → T
       (λ (silent : (mid.rings ≡ first.rings) × (refused ≡ false)).
       inr (subst (λ (l : List (CpuSide D)). SomeCause l) (sym are) (some_rang new all (let none_first = voiced.rings in omega (arith, rang, sum, silent.0, none_first)))))
       (λ (was_refused : refused ≡ true). inl was_refused) timer.rings
+
+  -- the voices together speak for no worker any more, as each spoke for itself
+  module _ (first mid last : Known) (old new : List (Worker D)) (refused : Bool) (voiced : Each (IsVoiced signals) old) (many : length new ≡ length old)
+      (worked : AllHaveWorked told said written faults kit old new) (timer : TimerSpeaks signals false refused first mid) (is : last ≡ all_voices mid (voices_of new)) where
+    pub all_left : first.there ≡ 0 → last.there ≡ 0
+    all_left none = ap (λ (known : Known). known.there) is ∙ there_together new mid (all_spoken old new many voiced worked) ∙ timer.there ∙ none
+
+    pub all_written : first.writes ≡ 0 → (sides : List (CpuSide D)) → sides ≡ sides_of new → NoneStopped sides → last.writes ≡ 0
+    all_written none sides are goes = ap (λ (known : Known). known.writes) is
+        ∙ writes_together new mid (all_spoken old new many voiced worked) (each_goes new (subst (λ (l : List (CpuSide D)). NoneStopped l) are goes)) ∙ timer.writes ∙ none

@@ -3,7 +3,7 @@
 ghost use Rattle.std.specs.Prelude.{◌≡◌, ◌≤◌, false, []};
 ghost use Rattle.std.specs.Vec.{vec_capacity, vec_len};
 ghost use Rattle.wbt_run_seats.specs.Apart.{IsApart};
-ghost use Rattle.wbt_run_drain.specs.Standing.{AreStanding};
+ghost use Rattle.wbt_run_drain.specs.Standing.{AreStanding, NoneStopped};
 ghost use Rattle.wbt_kit.specs.Kit.{IsKitOf};
 ghost use Rattle.wbt_trace.specs.Lawful.{IsLawful};
 ghost use Rattle.wbt_run_first.specs.Voiced.{AreVoiced, StopsForCause};
@@ -25,7 +25,7 @@ use wbt_trace::Trace;
 /// alone.
 ///
 /// Requires: a lawful trace with its kit; the timer's worker and those of all CPUs before their first turn, with all voices of the
-/// condition; no sides, and room for those of all.
+/// condition, of which the timer's speaks for no worker; no sides, and room for those of all.
 pub fn work_together<'t, H: Threads + Wait + Sync, C: Clock + Sync, G: Gate + Sync, D: Disk + Send>(
     hands: &Hands<H, C, G>,
     trace: &Trace,
@@ -41,6 +41,7 @@ pub fn work_together<'t, H: Threads + Wait + Sync, C: Clock + Sync, G: Gate + Sy
     requires seated { AreSeated D.written D.faults trace.now now hands.now.kit.now workers.items seats.old }
     requires timer { IsFirstTimer trace.now now timer.old.side timer.old.log.items }
     requires voiced { AreVoiced condition.now.signals timer.old.voice workers.items }
+    requires counted { (timer.old.voice.writes ≡ 0) × (timer.old.voice.there ≡ 0) }
     requires not_refused { timer.old.refused ≡ false }
     requires none { sides.old.items ≡ [] }
     requires room { vec_len workers ≤ vec_capacity sides.old }
@@ -51,6 +52,10 @@ pub fn work_together<'t, H: Threads + Wait + Sync, C: Clock + Sync, G: Gate + Sy
 
     // Where a side was told to stop, another or the timer has the cause.
     ensures stopped { StopsForCause timer.new.refused sides.new.items }
+
+    // Each worker said once that it leaves, and where no side was told to stop each said once that it writes no more; nobody else did.
+    ensures left { timer.new.voice.there ≡ 0 }
+    ensures written { NoneStopped sides.new.items → timer.new.voice.writes ≡ 0 }
 
     // The timer's notes stand apart, with no right to publish. Once they take in the CPUs' all notes are there.
     ensures apart { IsApart hands.now.kit.now result }

@@ -1,5 +1,6 @@
 use Rattle.std.proofs.Common.{◌≡◌, length}
 use Rattle.wbt_run_worker.specs.Ticking.{MayTick, Ticks}
+use Rattle.wbt_run_worker.specs.TimerTurns.{HasTakenTurns}
 use Rattle.wbt_run_worker.specs.Voices.{TimerSpeaks}
 use Rattle.wbt_run_beside.specs.Beside.{AllHaveGone}
 use Rattle.wbt_run_beside.proofs.beside.work_all.Given as goal
@@ -12,3 +13,4 @@ invariant-turns g l =
     × (length l.workers ≡ length l.fn.workers)
     × AllHaveGone l.condition.signals (g.C.Clock.told l.hands.clock.now) (g.G.Gate.said l.hands.gate.now) g.D.Disk.written g.D.Disk.faults l.hands.kit.now l.fn.workers l.workers
     × TimerSpeaks l.condition.signals l.fn.timer.refused l.timer.refused l.fn.timer.voice l.timer.voice
+    × HasTakenTurns (g.C.Clock.told l.hands.clock.now) (g.G.Gate.said l.hands.gate.now) l.hands.kit.now l.fn.timer l.timer l.fn.seats l.seats

@@ -1,8 +1,9 @@
-use Rattle.std.proofs.Common.{ap}
+use Rattle.std.proofs.Common.{ap, arith}
 use Rattle.wbt_run_seats.proofs.Firsts.{first_held}
 use Rattle.wbt_grant.specs.State.{no_record}
 use Rattle.wbt_num.specs.declared.limits.Limits.{Limits}
 use Rattle.wbt_run_drain.specs.Teams.{teams_of, written_by_all}
+use Rattle.wbt_signals.specs.Signals.{Known}
 use Rattle.wbt_run_lend.proofs.First.{workers_first}
 use Rattle.wbt_run_first.proofs.Giving.{fallen_given, fallen_none, grows_nothing, grows_still}
 use Rattle.wbt_run_lend.proofs.workers.make_workers.Goals as goal
@@ -26,3 +27,15 @@ returns-in-Ok-split_each-clause-made g c =
     c.in-Ok-split_each.ensures.parts
     (c.in-Ok.ensures.made c.args.now (ap (λ (l : Limits). l.thresh) c.first_limits.ensures.value))
     c.seat_each.ensures.put
+
+pub returns-in-Ok-split_each-clause-handed : goal.returns-in-Ok-split_each-clause-handed
+returns-in-Ok-split_each-clause-handed g c =
+    let made = workers_first g.R.D.Disk.written g.R.D.Disk.faults c.args.trace.now c.args.now c.args.hands.now.kit.now c.args.seats.now c.requires.lawful c.requires.kit c.requires.seats c.requires.first
+    c.in-Ok-split_each.parts.items c.in-Ok.sides.items c.seat_each.result.items
+    c.in-Ok-split_each.ensures.parts
+    (c.in-Ok.ensures.made c.args.now (ap (λ (l : Limits). l.thresh) c.first_limits.ensures.value))
+    c.seat_each.ensures.put in
+    let many = made.many in
+    let writes = ap (λ (v : Known). v.writes) c.seat_each.ensures.voice in
+    let there = ap (λ (v : Known). v.there) c.seat_each.ensures.voice in
+    (omega (arith, many, writes, c.requires.counted), omega (arith, many, there, c.requires.counted))

@@ -7,7 +7,7 @@ use Rattle.wbt_run_first.specs.Seated.{HasTicked, MakeAll}
 use Rattle.wbt_run_together.proofs.Leaving.{all_at, all_may, came_at, comes, has_ticked, may_begin, publishes_none, some_work}
 use Rattle.wbt_signals.specs.Signals.{Known}
 use Rattle.wbt_run_worker.specs.Voices.{TimerSpeaks}
-use Rattle.wbt_run_together.proofs.Voicing.{signals_of, signals_stay, stops_for}
+use Rattle.wbt_run_together.proofs.Voicing.{all_left, all_written, signals_of, signals_stay, stops_for}
 use Rattle.wbt_run_together.proofs.together.work_together.Goals as goal
 
 pub work_beside-requires-clause-timer : goal.work_beside-requires-clause-timer
@@ -76,6 +76,8 @@ returns g c =
     c.work_beside.new.workers.items c.part_workers-cpus.result after all c.work_beside.ensures.many c.work_beside.ensures.worked c.part_workers-cpus.ensures.together
     ticks.stay may.seats_are may.held
     (record { seats_are = e.seats; records = e.records; came = e.came; stayed = e.stayed; share = e.notes.0; est = e.notes.1; queue = e.queue }) in
+    let spoke = subst (λ (refused : Bool). TimerSpeaks c.args.condition.now.signals refused c.work_beside.new.timer.refused c.args.timer.now.voice c.work_beside.new.timer.voice)
+    c.requires.not_refused c.work_beside.ensures.speaks in
     let sides = c.part_workers-cpus.ensures.sides ∙ ap (λ (l : List (CpuSide g.row.D.Denot)). l ++ sides_of c.work_beside.new.workers.items) c.requires.none in
     record {
       standing = subst (λ (l : List (CpuSide g.row.D.Denot)). AreStanding told said g.D.Disk.written g.D.Disk.faults c.args.trace.now c.args.hands.now.kit.now l all) (sym {A = List (CpuSide g.row.D.Denot)} sides) came.standing;
@@ -86,9 +88,14 @@ returns g c =
       stopped = stops_for (g.C.Clock.told c.args.hands.now.clock.now) (g.G.Gate.said c.args.hands.now.gate.now) g.D.Disk.written g.D.Disk.faults c.args.hands.now.kit.now c.args.condition.now.signals c.args.timer.now.voice c.work_beside.new.timer.voice c.part_workers-cpus.new.voice
           c.args.workers.items c.work_beside.new.workers.items c.work_beside.new.timer.refused c.part_workers-cpus.new.sides.items c.requires.voiced c.work_beside.ensures.many
           c.work_beside.ensures.worked
-          (subst (λ (refused : Bool). TimerSpeaks c.args.condition.now.signals refused c.work_beside.new.timer.refused c.args.timer.now.voice c.work_beside.new.timer.voice)
-          c.requires.not_refused c.work_beside.ensures.speaks)
+          spoke
           c.part_workers-cpus.ensures.voice c.learn.ensures.cause sides;
+      left = ap (λ (v : Known). v.there) c.learn.ensures.same ∙ all_left (g.C.Clock.told c.args.hands.now.clock.now) (g.G.Gate.said c.args.hands.now.gate.now) g.D.Disk.written g.D.Disk.faults c.args.hands.now.kit.now c.args.condition.now.signals c.args.timer.now.voice c.work_beside.new.timer.voice c.part_workers-cpus.new.voice
+          c.args.workers.items c.work_beside.new.workers.items c.work_beside.new.timer.refused c.requires.voiced.each c.work_beside.ensures.many c.work_beside.ensures.worked spoke c.part_workers-cpus.ensures.voice c.requires.counted.1;
+      written = λ none. ap (λ (v : Known). v.writes) c.learn.ensures.same
+          ∙ all_written (g.C.Clock.told c.args.hands.now.clock.now) (g.G.Gate.said c.args.hands.now.gate.now) g.D.Disk.written g.D.Disk.faults c.args.hands.now.kit.now c.args.condition.now.signals c.args.timer.now.voice c.work_beside.new.timer.voice c.part_workers-cpus.new.voice
+          c.args.workers.items c.work_beside.new.workers.items c.work_beside.new.timer.refused c.requires.voiced.each c.work_beside.ensures.many c.work_beside.ensures.worked spoke c.part_workers-cpus.ensures.voice c.requires.counted.0
+          c.part_workers-cpus.new.sides.items sides none;
       apart = e.apart;
       rights = publishes_none (g.C.Clock.told c.args.hands.now.clock.now) (g.G.Gate.said c.args.hands.now.gate.now) g.D.Disk.written g.D.Disk.faults c.args.trace.now c.args.now c.args.hands.now.kit.now
           c.requires.lawful c.requires.kit c.args.workers.items c.args.seats.now c.requires.seated
