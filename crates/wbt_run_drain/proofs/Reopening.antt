@@ -247,6 +247,7 @@ module _ {D : Type 0} (told : ℕ → Type 0) (said : ℕ → ℕ → Bool → T
   went_again = record {
     desks = alike (λ (side : CpuSide D). side.writers) old new again.many (λ cpu other less. (again.each cpu other less).writers);
     timer = refl;
+    timer_log = refl;
     stakes = λ domain. refl;
     total_stakes = refl;
     cleaned = λ page cleaned. cleaned;

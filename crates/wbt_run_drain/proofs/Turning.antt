@@ -30,17 +30,18 @@ use Rattle.wbt_run_drain.proofs.Queued.{queued_now}
 use Rattle.wbt_run_drain.proofs.Showing.{cleaned_now, in_sides, told_now}
 use Rattle.wbt_run_drain.proofs.Summing.{backed_now, disks_now, moments_now}
 use Rattle.wbt_run_drain.proofs.Taking.{TakesTurn, d, has_now, mine, others_keep, went}
-use Rattle.wbt_run_drain.proofs.Wording.{others_stay, tells_else, turned_more}
+use Rattle.wbt_run_drain.proofs.Wording.{others_stay, tells_else, timer_stays, turned_more}
 
 -- ---- one turn after another
 
 pub went_nowhere : {D : Type 0} (trace : Trace) (sides : List (CpuSide D)) (seats : Seats) → WentOn trace sides sides seats seats
-went_nowhere trace sides seats = record { desks = refl; timer = refl; stakes = λ domain. refl; total_stakes = refl; cleaned = λ page cleaned. cleaned; stopped = λ none_stopped. none_stopped; puts = λ device. puts_none (known_of device seats.queue) (known_of device seats.queue) refl }
+went_nowhere trace sides seats = record { desks = refl; timer = refl; timer_log = refl; stakes = λ domain. refl; total_stakes = refl; cleaned = λ page cleaned. cleaned; stopped = λ none_stopped. none_stopped; puts = λ device. puts_none (known_of device seats.queue) (known_of device seats.queue) refl }
 
 pub went_more : {D : Type 0} (trace : Trace) (a b c : List (CpuSide D)) (s t u : Seats) → WentOn trace a b s t → WentOn trace b c t u → WentOn trace a c s u
 went_more trace a b c s t u p q = record {
   desks = q.desks ∙ p.desks;
   timer = q.timer ∙ p.timer;
+  timer_log = q.timer_log ∙ p.timer_log;
   stakes = λ domain. q.stakes domain ∙ p.stakes domain;
   total_stakes = q.total_stakes ∙ p.total_stakes;
   cleaned = λ page cleaned. q.cleaned page (p.cleaned page cleaned);
@@ -138,6 +139,7 @@ module _ {D : Type 0} {told : ℕ → Type 0} {said : ℕ → ℕ → Bool → T
   went_behind = record {
     desks = desks_same;
     timer = (went t).did.apart.timer;
+    timer_log = timer_stays (limits_of kit.throttle.layout) c t.turned.turn seats seats' steps_now;
     stakes = (went t).did.stakes;
     total_stakes = (went t).did.total_stakes;
     cleaned = cleaned_now t;

@@ -257,6 +257,7 @@ module _ {D : Type 0} (told : ℕ → Type 0) (said : ℕ → ℕ → Bool → T
   went_untold puts = record {
     desks = refl;
     timer = untold.apart.timer;
+    timer_log = untold.kinds.2.timer;
     stakes = λ domain. ap (λ (s : fraction.Seats). fraction.stakes_in domain s.domains) untold.share;
     total_stakes = ap (λ (s : fraction.Seats). s.totals.stakes) untold.share;
     cleaned = cleaned_still;

@@ -95,3 +95,12 @@ others_stay n cpu turn.Halted old new steps other ne = steps.2.others other ne
 others_stay n cpu turn.Faulted old new steps other ne = steps.2.others other ne
 others_stay n cpu turn.Spent old new steps other ne = steps.2.others other ne
 others_stay n cpu turn.NoMemory old new steps other ne = steps.2.others other ne
+
+pub timer_stays : (n cpu : ℕ) (answer : Turn) (old new : Seats) → StepsInTurn n cpu answer old new → new.cpu.timer_log ≡ old.cpu.timer_log
+timer_stays n cpu turn.Stepped old new steps = steps.2.timer
+timer_stays n cpu (turn.Resting now until) old new steps = steps.2.timer
+timer_stays n cpu turn.Done old new steps = steps.2.timer
+timer_stays n cpu turn.Halted old new steps = steps.2.timer
+timer_stays n cpu turn.Faulted old new steps = steps.2.timer
+timer_stays n cpu turn.Spent old new steps = steps.2.timer
+timer_stays n cpu turn.NoMemory old new steps = steps.2.timer

@@ -188,6 +188,7 @@ NoneStopped {D} sides = (cpu : ℕ) (other : CpuSide D) → cpu < length sides �
 pub record WentOn {D : Type 0} (trace : Trace) (old new : List (CpuSide D)) (seats seats' : Seats) : Type 0 where
   pub desks : desks_of new ≡ desks_of old
   pub timer : seats'.cpu.timer ≡ seats.cpu.timer
+  pub timer_log : seats'.cpu.timer_log ≡ seats.cpu.timer_log
   pub stakes : KeepsStakes seats.share.domains seats'.share.domains
   pub total_stakes : seats'.share.totals.stakes ≡ seats.share.totals.stakes
   pub cleaned : (page : ℕ) → IsCleanedIn trace seats page → IsCleanedIn trace seats' page

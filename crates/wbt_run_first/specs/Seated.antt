@@ -17,7 +17,9 @@ use Rattle.wbt_timer.specs.Side.{IsFirstSide, IsTimerOf, Side}
 use Rattle.wbt_trace.specs.declared.trace.Trace.{Trace}
 use Rattle.wbt_run_laws.specs.Closed.{opening_lines}
 use Rattle.wbt_run_laws.specs.Ticks.{Ticked}
+use Rattle.wbt_table.specs.Layout.{domains as limits_of}
 use Rattle.wbt_run_drain.specs.Whole.{TimerWorked}
+use Rattle.wbt_run_drain.specs.Words.{TimerTellsTurns}
 use Rattle.wbt_run_first.specs.Lent.{AreFirstWorkers}
 
 -- ---- before the first turn
@@ -38,8 +40,8 @@ pub record IsFirstTimer (trace : Trace) (now : ℕ) (side : Side) (log : List Ti
 
 -- ---- after the last one
 
--- The timer's log tells what it did since the opening, at moments that were told, and the seats have its record; what it noted of shares stands
--- apart.
+-- The timer's log tells what it did since the opening, at moments that were told, and the seats have its record, and a log of its turns; what it
+-- noted of shares stands apart.
 pub record HasTicked (told : ℕ → Type 0) (trace : Trace) (now : ℕ) (kit : Kit) (log : List TimerEntry) (apart : ShareSeats) (seats : Seats) : Type 0 where
   pub last : Ticked
   pub worked : TimerWorked trace now kit log last seats
@@ -47,6 +49,7 @@ pub record HasTicked (told : ℕ → Type 0) (trace : Trace) (now : ℕ) (kit : 
   pub ticks : List TimerEntry
   pub logged : log ≡ opening_lines trace now (first_limits trace now) ++ ticks
   pub moments : Each (IsTold told) ticks
+  pub turns : TimerTellsTurns (limits_of kit.throttle.layout) seats
 
 -- the timer's notes that take in those of the CPUs are all that were ever made, where the CPUs kept their stakes up to then
 abbrev pub MakeAll : (kit : Kit) (timer cpus : ShareSeats) → Type 0

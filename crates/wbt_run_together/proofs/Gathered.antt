@@ -1,5 +1,6 @@
 -- The workers' seats together again: where all sides stand, and what is known of the notes.
 use Rattle.std.proofs.Common.{◌≡◌, ⊎_elim, ℕ, zero, suc, ◌+◌, ◌<◌, ◌≤◌, Bool, true, List, [], ◌∷◌, length, map, get_or, Option, Some, None, refl, sym, ap, ◌∙◌, subst, arith}
+use lib.ListN.{get_elem?}
 use Rattle.std.specs.List.{sum_by}
 use Rattle.std.specs.Option.{IfSome}
 use Rattle.std.proofs.lemmas.Bool.{cases_lt}
@@ -7,11 +8,12 @@ use Rattle.std.proofs.lemmas.List.Sums.{sum_by-cons}
 use Rattle.wbt_counter.specs.Sums.{total}
 use Rattle.wbt_run_seats.specs.Gathered.{AreGathered, AreGatheredIn, AreNotesOf, HasOneStake, no_notes}
 use Rattle.wbt_run_seats.specs.Opened.{IsOpened, first_notes}
-use Rattle.wbt_run_seats.specs.Parts.{HoldsOnly, IsLeft, owner_of}
+use Rattle.wbt_run_seats.specs.Parts.{HasNoLog, HoldsOnly, IsLeft, owner_of}
 use Rattle.wbt_run_seats.specs.Rooms.{AreBacked}
 use Rattle.wbt_run_seats.specs.Together.{AreTogether, HoldsAllOf, InOrder}
 use Rattle.wbt_run_seats.proofs.Firsts.{left_is_first}
 use Rattle.wbt_run_seats.proofs.Gathering.{first_is_gathered, more_are_gathered}
+use Rattle.wbt_run_seats.proofs.Logs.{HasLogs, IsOwnLog, all_logs, first_log, log_at as own_log_at, log_held, logs_taken, timer_log_stays}
 use Rattle.wbt_run_seats.proofs.Opening.{kit_is_opened}
 use Rattle.wbt_run_seats.proofs.Records.{records_come_together}
 use Rattle.wbt_run_seats.proofs.Rooming.{taken_are_backed, together_are_backed}
@@ -32,6 +34,8 @@ use Rattle.wbt_published.specs.Passes.{known_of, Seats as EstPass}
 use Rattle.wbt_published.specs.declared.known.Known.{Known}
 use Rattle.wbt_run_worker.specs.Team.{AnyOf, Seen, Team, both_told, owed_in, owed_totals, flusher_at, team_of, written_by}
 use Rattle.wbt_run_worker.specs.Went.{IsTold}
+use Rattle.wbt_run_worker.specs.Words.{AreWordsBy}
+use Rattle.wbt_run_worker.specs.declared.side.End.{End}
 use Rattle.wbt_run_worker.specs.declared.side.CpuSide.{CpuSide}
 use Rattle.wbt_run_worker.specs.declared.side.Post.{Post}
 use Rattle.wbt_run_worker.specs.declared.side.Stand.TheVariants.{Open}
@@ -41,8 +45,11 @@ use Rattle.wbt_run_steps.specs.Queues.{HasAllStakes}
 use Rattle.wbt_run_steps.specs.Records.{firsts_of, record_of}
 use Rattle.wbt_run_steps.proofs.Changing.{record_is}
 use Rattle.wbt_table.specs.Calls.{HoldsAll, joined_seat}
-use Rattle.wbt_table.specs.Layout.{setting}
-use Rattle.wbt_table.specs.Rule.{Has}
+use Rattle.wbt_run_steps.specs.Kinds.{kinds_in}
+use Rattle.wbt_table.specs.Layout.{setting, domains as limits_of}
+use Rattle.wbt_table.specs.Rule.{Has, HasLog, Logs}
+use Rattle.wbt_table.specs.Seat.{Seated}
+use Rattle.wbt_table.specs.declared.rule.Logged.{Logged}
 use Rattle.wbt_table.specs.declared.layout.Layout.{Layout}
 use Rattle.wbt_timer.specs.Turn.{SeatsStay}
 use Rattle.wbt_trace.specs.Lawful.{IsLawful}
@@ -53,7 +60,8 @@ use Rattle.wbt_run_laws.specs.Shown.{Shown, first_shown}
 use Rattle.wbt_run_laws.specs.Worker.{empty_log}
 use Rattle.wbt_run_drain.specs.Whole.{CpuWorked, CpusWorked, log_at}
 use Rattle.wbt_writer.specs.Desk.{shown_of, sight}
-use Rattle.wbt_run_drain.specs.Standing.{AreQueued, AreStanding, HasFlusher, HaveTold, SideStands}
+use Rattle.wbt_run_drain.specs.Standing.{AreQueued, AreStanding, HasFlusher, HaveTold, SideStands, TellTurns}
+use Rattle.wbt_run_drain.specs.Words.{IsTurnOrLook, TellsTurns}
 use Rattle.wbt_run_drain.specs.Teams.{handed_over, logs_of, shown_at, shown_there, teams_of, worker_there, written_by_all}
 use Rattle.wbt_run_beside.specs.Beside.{AllHaveWorked, HasWorked, team_in}
 use Rattle.wbt_run_together.specs.Gather.{seats_of, sides_of}
@@ -63,7 +71,7 @@ use Rattle.wbt_run_first.proofs.Lists.{each_made, made_at, made_long, made_sum}
 use Rattle.wbt_run_together.proofs.Served.{any_at, not_yet_done, serves_first, still_serves}
 use Rattle.wbt_run_together.proofs.Stood.{HasOf, side_stands, still_open}
 use Rattle.wbt_run_together.proofs.Worked as worked
-use Rattle.wbt_run_together.proofs.Worked.{worker_by}
+use Rattle.wbt_run_together.proofs.Worked.{first_log_of, worker_by}
 
 -- ---- lists
 
@@ -446,6 +454,64 @@ module _ {D : Type 0} (told : ℕ → Type 0) (said : ℕ → ℕ → Bool → T
     emptied = λ device low all_done. absurd (not_yet_done written faults device (sides_of done) all_open all_done (flushers device low));
   }
 
+  -- ---- logs
+
+  abbrev cpus : ℕ
+  cpus = first.cpu.layout.cpus
+
+  cpus_same : cpus ≡ trace.cpus
+  cpus_same = ap (λ (l : Layout). l.cpus) first_at.cpu.layout ∙ opened.cpus
+
+  abbrev log_of : (cpu : ℕ) → List Logged
+  log_of cpu = own_log_at (its cpu).seats.cpu.logs cpu
+
+  tells_at : (cpu : ℕ) → cpu < trace.cpus → TellsTurns (limits_of kit.throttle.layout) cpu (its cpu).side.end (its cpu).seats
+  tells_at cpu less = worked.tells_turns told said written faults trace now kit first cpu (before cpu) (its cpu) (is_first cpu less) (has_worked cpu less) are
+      (subst (λ (n : ℕ). cpu < n) (sym cpus_same) less)
+
+  its_log : (cpu : ℕ) → cpu < trace.cpus → HasLog (its cpu).seats.cpu.logs cpu (log_of cpu)
+  its_log cpu less = let tells = tells_at cpu less in
+      subst (λ (log : List Logged). HasLog (its cpu).seats.cpu.logs cpu log) (sym (log_held (its cpu).seats.cpu.logs cpu tells.0 tells.1)) tells.1
+
+  own_log : (cpu : ℕ) → cpu < trace.cpus → IsOwnLog log_of cpus cpu (its cpu).seats.cpu
+  own_log cpu less = worked.own_log told said written faults trace now kit first cpu (before cpu) (its cpu) (is_first cpu less) (has_worked cpu less) are
+      (subst (λ (n : ℕ). cpu < n) (sym cpus_same) less) log_of (its_log cpu less)
+
+  others_log : (n : ℕ) (part : Seats) → n < length (seats_of more) → IsOwnLog log_of cpus (1 + n) (get_or (seats_of more) n part).cpu
+  others_log n part less =
+      let low : n < length more = omega (arith, made_long (λ (w : Worker D). w.seats) more) in
+      subst (λ (s : Seats). IsOwnLog log_of cpus (1 + n) s.cpu) (sym (made_at (λ (w : Worker D). w.seats) more n part one low))
+      (subst (λ (c : ℕ). IsOwnLog log_of cpus c (get_or more n one).seats.cpu) (sym (from_one n)) (own_log (suc n) (omega (arith, all_cpus))))
+
+  many_cpus : 1 + length (seats_of more) ≡ cpus
+  many_cpus = omega (arith, all_cpus, cpus_same, made_long (λ (w : Worker D). w.seats) more)
+
+  logs_mid : HasLogs log_of cpus cpus mid.cpu
+  logs_mid = subst (λ (n : ℕ). HasLogs log_of cpus n mid.cpu) many_cpus
+      (subst (λ (s : Seated). HasLogs log_of cpus (1 + length (seats_of more)) s) (sym came.cpu)
+      (all_logs log_of cpus (seats_of more) 1 one.seats.cpu (omega (arith, many_cpus)) (first_log log_of cpus one.seats.cpu (own_log 0 first_less)) others_log))
+
+  none_left : (c : ℕ) → c < cpus → HasNoLog c after.cpu.logs
+  none_left c less = ap (λ (logs : Logs). get_elem? logs c) stay.logs ∙ left_is.logs_gone c [] (subst (λ (n : ℕ). c < n) cpus_same less) (first_log_of first.cpu are.cpu c less)
+
+  logs_all : (cpu : ℕ) → cpu < trace.cpus → HasLog all.cpu.logs cpu (log_of cpu)
+  logs_all cpu less = subst (λ (s : Seated). HasLog s.logs cpu (log_of cpu)) (sym taken.records)
+      (logs_taken log_of cpus after.cpu mid.cpu none_left logs_mid cpu (subst (λ (n : ℕ). cpu < n) (sym cpus_same) less))
+
+  pub timer_log_there : all.cpu.timer_log ≡ after.cpu.timer_log
+  timer_log_there = ap (λ (s : Seated). s.timer_log) taken.records ∙ timer_log_stays log_of cpus after.cpu mid.cpu logs_mid
+
+  turns : TellTurns kit trace.cpus (sides_of done) all
+  turns cpu other less =
+      let tells = tells_at cpu less in
+      let end_is : (its cpu).side.end ≡ (get_or (sides_of done) cpu other).end =
+      ap (λ (s : CpuSide D). s.end) (sym (made_at (λ (w : Worker D). w.side) done cpu other one (omega (arith, less, all_cpus)))) in
+      subst (λ (e : End). TellsTurns (limits_of kit.throttle.layout) cpu e all) end_is (
+        log_of cpu,
+        logs_all cpu less,
+        subst (λ (log : List Logged). AreWordsBy (IsTurnOrLook (limits_of kit.throttle.layout) cpu) (its cpu).side.end (kinds_in log)) (sym (log_held (its cpu).seats.cpu.logs cpu tells.0 tells.1)) tells.2,
+      )
+
   pub all_standing : AreStanding told said written faults trace kit (sides_of done) all
   all_standing = record {
     many = made_long (λ (w : Worker D). w.side) done ∙ many ∙ firsts.many;
@@ -457,6 +523,7 @@ module _ {D : Type 0} (told : ℕ → Type 0) (said : ℕ → ℕ → Bool → T
     moments = moments;
     disks = disks;
     queued = queued;
+    turns = turns;
   }
 
   one_each : (n : ℕ) (part : Seats) → n < length (seats_of more) → HasOneStake kit (get_or (seats_of more) n part)

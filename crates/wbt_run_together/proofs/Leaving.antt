@@ -1,5 +1,5 @@
 -- What the workers and the timer leave, from their first turns on.
-use Rattle.std.proofs.Common.{◌≡◌, ℕ, zero, suc, ◌≤◌, Bool, cond, List, [], ◌∷◌, ◌++◌, length, get_or, Option, refl, sym, ap, ◌∙◌, arith, length-append}
+use Rattle.std.proofs.Common.{◌≡◌, ℕ, zero, suc, ◌≤◌, Bool, true, false, cond, List, [], ◌∷◌, ◌++◌, length, get_or, Option, refl, sym, ap, ◌∙◌, subst, arith, length-append}
 use Rattle.wbt_run_seats.specs.Opened.{IsFirstLeft}
 use Rattle.wbt_run_seats.proofs.Firsts.{left_is_first}
 use Rattle.wbt_run_seats.proofs.Opening.{kit_is_opened}
@@ -13,12 +13,19 @@ use Rattle.wbt_published.specs.Passes.{known_of, Seats as EstPass}
 use Rattle.wbt_run_worker.specs.Ticking.{MayTick, Ticks}
 use Rattle.wbt_run_worker.specs.declared.worker.Worker.{Worker}
 use Rattle.wbt_run_worker.proofs.Going.{own_side}
+use Rattle.wbt_table.specs.Layout.{domains as limits_of}
+use Rattle.wbt_turns.specs.Words.{IsCutOff, IsTimerTurn}
+use Rattle.wbt_turns.proofs.Following.{timer_turns_follow}
+use Rattle.wbt_run_worker.specs.TimerTurns.{StepsSo}
+use Rattle.wbt_timer.specs.Kinds.{HasSealed}
+use Rattle.wbt_timer.proofs.Made.{sealed_at_first}
 use Rattle.wbt_timer.specs.Side.{Side, first_side, first_sides, ticked}
 use Rattle.wbt_timer.specs.Turn.{SeatsStay}
 use Rattle.wbt_timer.specs.declared.side.DomainSide.{DomainSide}
 use Rattle.wbt_trace.specs.Lawful.{IsLawful}
 use Rattle.wbt_trace.specs.declared.trace.Trace.{Trace}
 use Rattle.wbt_run_drain.specs.Standing.{AreStanding}
+use Rattle.wbt_run_drain.specs.Words.{TimerTellsTurns}
 use Rattle.wbt_run_beside.specs.Beside.{AllHaveWorked, AllMayWork, team_in}
 use Rattle.atomic_table.specs.Seated.{TableId}
 use Rattle.wbt_journal.specs.Each.{Each}
@@ -28,7 +35,7 @@ use Rattle.wbt_run_first.specs.Voiced.{IsVoiced}
 use Rattle.wbt_run_together.specs.Gather.{AllAtKit, CameTogether, sides_of}
 use Rattle.wbt_run_first.specs.Seated.{AreSeated, HasTicked, IsFirstTimer, MakeAll, PublishesNone}
 use Rattle.wbt_run_together.proofs.Worked as worked
-use Rattle.wbt_run_together.proofs.Gathered.{AreTaken, all_standing, makes_all, timer_there}
+use Rattle.wbt_run_together.proofs.Gathered.{AreTaken, all_standing, makes_all, timer_log_there, timer_there}
 
 -- all sides stand, all notes are told to be there once they come together, and the timer's record is there
 pub record Comes {D : Type 0} (told : ℕ → Type 0) (said : ℕ → ℕ → Bool → Type 0) (written : D → Option ℕ) (faults : D → ℕ) (trace : Trace) (kit : Kit) (done : List (Worker D))
@@ -36,6 +43,7 @@ pub record Comes {D : Type 0} (told : ℕ → Type 0) (said : ℕ → ℕ → Bo
   pub standing : AreStanding told said written faults trace kit (sides_of done) all
   pub complete : MakeAll kit after.share all.share
   pub timer : all.cpu.timer ≡ after.cpu.timer
+  pub timer_log : all.cpu.timer_log ≡ after.cpu.timer_log
 
 sides_long : (trace : Trace) (now count : ℕ) → length (first_sides trace now count) ≡ count
 sides_long trace now zero = refl
@@ -80,6 +88,8 @@ module _ {D : Type 0} (told : ℕ → Type 0) (said : ℕ → ℕ → Bool → T
         mid after all came stay after_at timer taken;
     complete = makes_all told said written faults trace now kit lawful is seated.first left seated.first_at seated.are_first seated.left_is old seated.workers_are one more worked_all many
         mid after all came stay after_at timer taken;
+    timer_log = timer_log_there told said written faults trace now kit lawful is seated.first left seated.first_at seated.are_first seated.left_is old seated.workers_are one more worked_all many
+        mid after all came stay after_at timer taken;
     timer = timer_there told said written faults trace now kit lawful is seated.first left seated.first_at seated.are_first seated.left_is old seated.workers_are one more worked_all many
         mid after all came stay after_at timer taken;
   }
@@ -96,9 +106,21 @@ module _ {D : Type 0} (told : ℕ → Type 0) (said : ℕ → ℕ → Bool → T
         held = (left_first.timer.0, left_first.timer.1);
       }
 
-  pub has_ticked : (side side' : Side) (log log' : List TimerEntry) (after all : Seats) → IsFirstTimer trace now side log → Ticks told side side' left after log log'
-      → all.cpu.timer ≡ after.cpu.timer → HasTicked told trace now kit log' after.share all
-  has_ticked side side' log log' after all begins ticks there =
+  -- no publication is under way, and its log is empty
+  pub left_sealed : HasSealed left
+  left_sealed = let h = sealed_at_first kit seated.first seated.are_first in (h.0, seated.left_is.timer ∙ h.1, h.2)
+
+  tells : (halted : Bool) (after : Seats) → StepsSo (limits_of kit.throttle.layout) halted left after → TimerTellsTurns (limits_of kit.throttle.layout) after
+  tells false after so =
+      let log = so.0.2.logs [] (seated.left_is.timer_log ∙ seated.are_first.cpu.timer_log) in
+      (log.0, log.1, subst (IsCutOff (IsTimerTurn (limits_of kit.throttle.layout))) (sym log.2) ((timer_turns_follow (limits_of kit.throttle.layout)).ended so.0.0 so.0.1))
+  tells true after so =
+      let log = so.2.logs [] (seated.left_is.timer_log ∙ seated.are_first.cpu.timer_log) in
+      (log.0, log.1, subst (IsCutOff (IsTimerTurn (limits_of kit.throttle.layout))) (sym log.2) so.1)
+
+  pub has_ticked : (side side' : Side) (log log' : List TimerEntry) (after all : Seats) (halted : Bool) → IsFirstTimer trace now side log → Ticks told side side' left after log log'
+      → StepsSo (limits_of kit.throttle.layout) halted left after → all.cpu.timer_log ≡ after.cpu.timer_log → all.cpu.timer ≡ after.cpu.timer → HasTicked told trace now kit log' after.share all
+  has_ticked side side' log log' after all halted begins ticks steps log_there there =
       let w = ticks.went trace now left_first.timer.0 begins.its left_first.timer.1 in
       record {
         last = ticked w.0 side' after.share;
@@ -119,6 +141,7 @@ module _ {D : Type 0} (told : ℕ → Type 0) (said : ℕ → ℕ → Bool → T
         ticks = ticks.added;
         logged = ticks.logged ∙ ap (λ (l : List TimerEntry). l ++ ticks.added) begins.logged;
         moments = ticks.moments;
+        turns = let its = tells halted after steps in (its.0, log_there ∙ its.1, its.2);
       }
 
   pub publishes_none : (est : EstPass) (after : Seats) → est ≡ after.est → SeatsStay left after → PublishesNone trace est

@@ -1,5 +1,7 @@
 -- What one worker did, from its first turn on.
-use Rattle.std.proofs.Common.{◌≡◌, ⊎_elim, ℕ, ◌-◌, ◌≤◌, Bool, List, [], ◌∷◌, ◌++◌, length, Option, Some, None, unwrap_or, refl, sym, ap, ◌∙◌, subst, arith}
+use Rattle.std.proofs.Common.{◌≡◌, ⊎_elim, ℕ, zero, suc, ◌-◌, ◌<◌, ◌≤◌, Bool, List, [], ◌∷◌, ◌++◌, length, replicate, Option, Some, None, unwrap_or, refl, sym, ap, ◌∙◌, subst, arith}
+use mathlib.Core.Option.{some}
+use lib.ListN.{get_elem?}
 use Rattle.std.specs.List.{count_by, sum_by}
 use Rattle.std.proofs.lemmas.List.Sums.{sum_by-cons}
 use Rattle.std.specs.Option.{IfSome}
@@ -8,6 +10,7 @@ use Rattle.wbt_run_seats.specs.Gathered.{AreNotesOf, HasOneStake}
 use Rattle.wbt_run_seats.specs.Opened.{first_notes}
 use Rattle.wbt_run_seats.specs.Parts.{HoldsOnly, owner_of}
 use Rattle.wbt_run_seats.proofs.Gathering.{grown_are_notes}
+use Rattle.wbt_run_seats.proofs.Logs.{IsOwnLog}
 use Rattle.wbt_run_seats.proofs.Staking.{HasOneOfEach, part_has_one}
 use Rattle.wbt_flusher.specs.Did.{handed}
 use Rattle.wbt_io.specs.Faults.{HasRisenBy}
@@ -21,10 +24,19 @@ use Rattle.wbt_kit.specs.Kit.{AreFirst}
 use Rattle.wbt_kit.specs.declared.kit.Kit.{Kit}
 use Rattle.wbt_kit.specs.declared.kit.Seats.{Seats}
 use Rattle.wbt_run_worker.specs.Answers.{EndsSo, Goes}
+use Rattle.wbt_run_steps.specs.Kinds.{LogsAfter, Steps}
+use Rattle.wbt_table.specs.Calls.{IsFirst}
+use Rattle.wbt_table.specs.Layout.{domains as limits_of}
+use Rattle.wbt_table.specs.Rule.{HasLog, Logs}
+use Rattle.wbt_table.specs.Seat.{Seated}
+use Rattle.wbt_table.specs.declared.rule.Logged.{Logged}
+use Rattle.wbt_turns.specs.Words.{IsTurn}
+use Rattle.wbt_run_worker.specs.Words.{AreWordsBy}
 use Rattle.wbt_run_worker.specs.Team.{Seen, failed_in, worker_of, written_by}
 use Rattle.wbt_run_worker.specs.Went.{AreStill, IsTold}
 use Rattle.wbt_run_worker.specs.declared.worker.Worker.{Worker}
 use Rattle.wbt_run_worker.proofs.Going.{as_named}
+use Rattle.wbt_run_worker.proofs.Wording.{run_steps}
 use Rattle.wbt_trace.specs.declared.trace.Trace.{Trace}
 use Rattle.wbt_run_laws.specs.Notes.{EstimatesGrew, Notes, SharesGrew}
 use Rattle.wbt_run_laws.specs.Worker as turns
@@ -32,11 +44,22 @@ use Rattle.wbt_run_laws.specs.Worker.{WholeLog}
 use Rattle.wbt_run_laws.proofs.Working.{log_is_whole}
 use Rattle.wbt_run_drain.specs.Standing.{FaultsAreTold}
 use Rattle.wbt_run_drain.specs.Teams.{worker_there}
+use Rattle.wbt_run_drain.specs.Words.{IsTurnOrLook, TellsTurns}
+use Rattle.wbt_run_drain.proofs.Wording.{turns_or_looks}
 use Rattle.wbt_run_first.specs.Back.{IsNothing}
-use Rattle.wbt_run_beside.specs.Beside.{HasWorked, team_in}
+use Rattle.wbt_run_beside.specs.Beside.{HasWorked, stance_in, team_in}
 use Rattle.wbt_run_first.specs.Lent.{IsFirstPost, IsFirstWorker, first_worker}
 use Rattle.wbt_run_first.proofs.Giving.{posts_nothing}
 use Rattle.wbt_run_together.proofs.There.{went_there}
+
+-- before the first turn a CPU's log is empty
+pub first_log_of : (seat : Seated) → IsFirst seat → (c : ℕ) → c < seat.layout.cpus → HasLog seat.logs c []
+first_log_of seat first c low = ap (λ (logs : Logs). get_elem? logs c) first.logs ∙ empty_at seat.layout.cpus c low
+  where
+    empty_at : (n c : ℕ) → c < n → get_elem? (replicate {A = Option (List Logged)} n (Some [])) c ≡ some (Some [])
+    empty_at zero c low = absurd (omega arith)
+    empty_at (suc n) zero low = refl
+    empty_at (suc n) (suc c) low = empty_at n c (omega arith)
 
 -- what its notes are to the laws of turns
 abbrev pub worker_by : {D : Type 0} (written : D → Option ℕ) (faults : D → ℕ) (trace : Trace) (cpu : ℕ) (worker : Worker D) → turns.Worker
@@ -86,6 +109,31 @@ module _ {D : Type 0} (told : ℕ → Type 0) (said : ℕ → ℕ → Bool → T
     alone = λ c r has. ⊎_elim (λ is. is) (λ ne. is_first.part.holds.alone c r (goes.went.keeps.apart.no_more c r ne has)) (cases_eq c cpu);
     no_timer = goes.went.keeps.apart.timer ∙ is_first.part.holds.no_timer;
   }
+
+  -- its own log tells its turns, and it has no other
+  cpu_is : (team_in written faults old).desk.cpu ≡ cpu
+  cpu_is = is_first.side.stands.desk.cpu_is
+
+  steps : Steps cpu (AreWordsBy (IsTurn (limits_of kit.throttle.layout)) new.side.end) old.seats new.seats
+  steps = run_steps told said kit cpu (stance_in written faults old) (stance_in written faults new) cpu_is new.side.end worked.run
+
+  module _ (are : AreFirst kit first) (low : cpu < first.cpu.layout.cpus) where
+    after : LogsAfter cpu steps.0 [] new.seats
+    after = steps.2.logs [] (is_first.part.log [] (first_log_of first.cpu are.cpu cpu low))
+
+    pub tells_turns : TellsTurns (limits_of kit.throttle.layout) cpu new.side.end new.seats
+    tells_turns = (
+      after.0,
+      after.1,
+      subst (AreWordsBy (IsTurnOrLook (limits_of kit.throttle.layout) cpu) new.side.end) (sym after.2) (turns_or_looks (limits_of kit.throttle.layout) cpu new.side.end steps.0 steps.1),
+    )
+
+    pub own_log : (logs : ℕ → List Logged) → HasLog new.seats.cpu.logs cpu (logs cpu) → IsOwnLog logs first.cpu.layout.cpus cpu new.seats.cpu
+    own_log logs has = record {
+      own = has;
+      none = λ c ne less. steps.2.others c ne ∙ is_first.part.no_log c [] ne (first_log_of first.cpu are.cpu c less);
+      no_timer = steps.2.timer ∙ is_first.part.no_timer_log;
+    }
 
   pub one_stake : HasOneStake kit new.seats
   one_stake domain low = goes.went.keeps.stakes domain ∙ is_first.part.stakes domain low

@@ -43,6 +43,7 @@ pub fn work_together<'t, H: Threads + Wait + Sync, C: Clock + Sync, G: Gate + Sy
     requires voiced { AreVoiced condition.now.signals timer.old.voice workers.items }
     requires counted { (timer.old.voice.writes ≡ 0) × (timer.old.voice.there ≡ 0) }
     requires not_refused { timer.old.refused ≡ false }
+    requires not_halted { timer.old.halted ≡ false }
     requires none { sides.old.items ≡ [] }
     requires room { vec_len workers ≤ vec_capacity sides.old }
 

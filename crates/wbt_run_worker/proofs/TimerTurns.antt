@@ -6,7 +6,13 @@ use Rattle.wbt_kit.specs.declared.kit.Kit.{Kit}
 use Rattle.wbt_kit.specs.declared.kit.Seats.{Seats}
 use Rattle.wbt_kit.specs.declared.turn.Turn.{Turn}
 use Rattle.wbt_kit.specs.declared.turn.Turn.TheVariants.{Stepped, Resting, Done, Halted, Faulted, Spent, NoMemory}
-use Rattle.wbt_run_worker.specs.TimerTurns.{AreTurns, GoesOnAfter, HasTakenTurns, HasTurnedOnce, HasTurnedToTheEnd, IsTurn, TakesATurn, TakesTurn, TimerStance, is_refused, is_stopped, timer_stance}
+use Rattle.std.proofs.lemmas.List.{append-nil}
+use Rattle.wbt_grant.specs.declared.who.StepKind.{StepKind}
+use Rattle.wbt_table.specs.Layout.{domains}
+use Rattle.wbt_timer.specs.Kinds.{HasSealed, Steps, StepsAs, StepsBy}
+use Rattle.wbt_timer.proofs.Made.{steps_more as timer_more, turns_follow}
+use Rattle.wbt_turns.specs.Words.{IsTimerTurn, IsWhole}
+use Rattle.wbt_run_worker.specs.TimerTurns.{AreTurns, EndBy, GoesOnAfter, HasTakenTurns, HasTurned, HasTurnedOnce, IsOneTurn, StepsSo, HasTurnedToTheEnd, IsTurn, TakesATurn, TakesTurn, TimerStance, is_refused, is_stopped, timer_stance}
 use Rattle.wbt_run_worker.specs.Voices.{LeavesFor}
 use Rattle.wbt_run_worker.specs.declared.ticking.TimerWorker.{TimerWorker}
 
@@ -49,6 +55,10 @@ may_go NoMemory so = absurd (let no : false ≡ true = so in cc)
 
 pub rang_once : (a b : Known) → b ≡ record a { rings = a.rings + 1; notes = b.notes } → b.rings ≡ a.rings + 1
 rang_once a b is = ap (λ (v : Known). v.rings) is
+
+-- where no step was made after whole turns
+none_more : (n : ℕ) (a b c : Seats) → Steps (IsWhole (IsTimerTurn n)) a b → StepsAs [] b c → HasSealed c → StepsSo n false a c
+none_more n a b c all none has = ((all.0, all.1, subst (λ (w : List StepKind). StepsAs w a c) (append-nil all.0) (timer_more all.0 [] a b c all.2 none)), has)
 
 module _ (told : ℕ → Type 0) (said : ℕ → ℕ → Bool → Type 0) (kit : Kit) where
   turn_more : (turns : List Turn) (last : Turn) (a b c : TimerStance) → AreTurns told said kit turns a b → IsTurn told said kit last b c → AreTurns told said kit (turns ++ last ∷ []) a c
@@ -229,8 +239,8 @@ module _ (told : ℕ → Type 0) (said : ℕ → ℕ → Bool → Type 0) (kit :
     }
 
     pub one_turn : (answer : Turn) → IsTurn told said kit answer (timer_stance old seats) (timer_stance new seats') → GoesOnAfter answer → new.refused ≡ old.refused → new.halted ≡ old.halted
-        → new.voice.rings ≡ old.voice.rings → HasTurnedOnce told said kit old new seats seats'
-    one_turn answer one goes refused halted rings = record {
+        → new.voice.rings ≡ old.voice.rings → old.halted ≡ false → HasTurnedOnce told said kit old new seats seats'
+    one_turn answer one goes refused halted rings on = record {
       turned = record {
         turns = answer ∷ [];
         are = (timer_stance new seats', one, refl);
@@ -241,12 +251,12 @@ module _ (told : ℕ → Type 0) (said : ℕ → ℕ → Bool → Type 0) (kit :
         halted = halted;
         rings = omega (arith, rings);
       };
-      once = tt;
+      once = on;
     }
 
     pub out_at_once : IsTurn told said kit NoMemory (timer_stance old seats) (timer_stance new seats') → new.refused ≡ true → new.halted ≡ old.halted → new.voice.rings ≡ old.voice.rings + 1
-        → HasTurnedOnce told said kit old new seats seats'
-    out_at_once one refused halted rings = record {
+        → old.halted ≡ false → HasTurnedOnce told said kit old new seats seats'
+    out_at_once one refused halted rings on = record {
       turned = record {
         turns = NoMemory ∷ [];
         are = (timer_stance new seats', one, refl);
@@ -257,12 +267,12 @@ module _ (told : ℕ → Type 0) (said : ℕ → ℕ → Bool → Type 0) (kit :
         halted = halted;
         rings = rings;
       };
-      once = tt;
+      once = on;
     }
 
     pub stopped_at_once : IsTurn told said kit Halted (timer_stance old seats) (timer_stance new seats') → new.refused ≡ old.refused → new.halted ≡ true → new.voice.rings ≡ old.voice.rings
-        → HasTurnedOnce told said kit old new seats seats'
-    stopped_at_once one refused halted rings = record {
+        → old.halted ≡ false → HasTurnedOnce told said kit old new seats seats'
+    stopped_at_once one refused halted rings on = record {
       turned = record {
         turns = Halted ∷ [];
         are = (timer_stance new seats', one, refl);
@@ -273,30 +283,107 @@ module _ (told : ℕ → Type 0) (said : ℕ → ℕ → Bool → Type 0) (kit :
         halted = halted;
         rings = omega (arith, rings);
       };
-      once = tt;
+      once = on;
     }
 
-    once_so : (answer : Turn) → GoesOnAfter answer → TakesTurn told said kit answer old new seats seats' → HasTurnedOnce told said kit old new seats seats'
-    once_so answer goes takes =
-        let all = (gone_further answer old old new seats seats seats' (gone_nowhere old seats) takes goes).gone in one_turn answer takes.is goes all.refused all.halted all.rings
+    once_so : (answer : Turn) → GoesOnAfter answer → TakesTurn told said kit answer old new seats seats' → old.halted ≡ false → HasTurnedOnce told said kit old new seats seats'
+    once_so answer goes takes on =
+        let all = (gone_further answer old old new seats seats seats' (gone_nowhere old seats) takes goes).gone in one_turn answer takes.is goes all.refused all.halted all.rings on
 
-    taken_once : (answer : Turn) → TakesTurn told said kit answer old new seats seats' → HasTurnedOnce told said kit old new seats seats'
-    taken_once Halted takes = let rung : new.voice.rings ≡ old.voice.rings + 0 = takes.rings in stopped_at_once takes.is takes.refused takes.halted (omega (arith, rung))
-    taken_once NoMemory takes = out_at_once takes.is takes.refused takes.halted takes.rings
-    taken_once Stepped takes = once_so Stepped tt takes
-    taken_once (Resting now until) takes = once_so (Resting now until) tt takes
-    taken_once Done takes = once_so Done tt takes
-    taken_once Faulted takes = once_so Faulted tt takes
-    taken_once Spent takes = once_so Spent tt takes
+    taken_once : (answer : Turn) → TakesTurn told said kit answer old new seats seats' → old.halted ≡ false → HasTurnedOnce told said kit old new seats seats'
+    taken_once Halted takes on = let rung : new.voice.rings ≡ old.voice.rings + 0 = takes.rings in stopped_at_once takes.is takes.refused takes.halted (omega (arith, rung)) on
+    taken_once NoMemory takes on = out_at_once takes.is takes.refused takes.halted takes.rings on
+    taken_once Stepped takes on = once_so Stepped tt takes on
+    taken_once (Resting now until) takes on = once_so (Resting now until) tt takes on
+    taken_once Done takes on = once_so Done tt takes on
+    taken_once Faulted takes on = once_so Faulted tt takes on
+    taken_once Spent takes on = once_so Spent tt takes on
 
     -- after a look, by which it rang no bell
-    pub looked_once : (voice : Known) (answer : Turn) → voice.rings ≡ old.voice.rings → TakesTurn told said kit answer (record old { voice = voice }) new seats seats' → HasTurnedOnce told said kit old new seats seats'
-    looked_once voice answer same takes = taken_once answer (record {
+    pub looked_once : (voice : Known) (answer : Turn) → old.halted ≡ false → voice.rings ≡ old.voice.rings → TakesTurn told said kit answer (record old { voice = voice }) new seats seats' → HasTurnedOnce told said kit old new seats seats'
+    looked_once voice answer on same takes = taken_once answer (record {
       is = takes.is;
       refused = takes.refused;
       halted = takes.halted;
       rings = subst (λ (n : ℕ). new.voice.rings ≡ n + cond (is_refused answer) 1 0) same takes.rings;
-    })
+    }) on
+
+  -- ---- the kinds of their steps
+
+  abbrev pub n : ℕ
+  n = domains kit.throttle.layout
+
+  -- a turn that it goes on after was whole, or made no step
+  steps_more : (answer : Turn) (a b c : Seats) → GoesOnAfter answer → StepsSo n false a b → StepsBy n answer b c → StepsSo n false a c
+  steps_more Stepped a b c goes so steps = ((turns_follow n).more a b c so.0 steps, steps.sealed)
+  steps_more (Resting now until) a b c goes so steps = none_more n a b c so.0 steps.0 steps.1
+  steps_more Done a b c goes so steps = none_more n a b c so.0 steps.0 steps.1
+  steps_more Halted a b c goes so steps = absurd goes
+  steps_more Faulted a b c goes so steps = none_more n a b c so.0 steps.0 steps.1
+  steps_more Spent a b c goes so steps = none_more n a b c so.0 steps.0 steps.1
+  steps_more NoMemory a b c goes so steps = absurd goes
+
+  all_whole : (turns : List Turn) (first : Seats) (a c : TimerStance) → AreTurns told said kit turns a c → Each GoesOnAfter turns → StepsSo n false first a.seats → StepsSo n false first c.seats
+  all_whole [] first a c are each so = subst (λ (s : TimerStance). StepsSo n false first s.seats) (sym are) so
+  all_whole (t ∷ turns) first a c are each so =
+      all_whole turns first are.0 c are.2 each.1 (steps_more t first a.seats are.0.seats each.0 so (are.1.steps so.1))
+
+  parted : (before : List Turn) (last : Turn) (a c : TimerStance) → AreTurns told said kit (before ++ last ∷ []) a c
+      → (mid : TimerStance) × AreTurns told said kit before a mid × IsTurn told said kit last mid c
+  parted [] last a c are = (a, refl, subst (λ (s : TimerStance). IsTurn told said kit last a s) (sym are.2) are.1)
+  parted (t ∷ before) last a c are = let rest = parted before last are.0 c are.2 in (rest.0, (are.0, are.1, rest.1), rest.2)
+
+  or_not : (halted : Bool) (a b : Seats) → StepsSo n false a b → StepsSo n halted a b
+  or_not false a b so = so
+  or_not true a b so = (turns_follow n).ended a b so.0
+
+  turns_steps : (out stopped : Bool) (turns : List Turn) (first : Seats) (a c : TimerStance) → AreTurns told said kit turns a c → EndBy out stopped turns → StepsSo n false first a.seats
+      → StepsSo n stopped first c.seats
+  turns_steps false false turns first a c are ends so = all_whole turns first a c are ends so
+  turns_steps false true turns first a c are ends so =
+      let all = parted ends.0 Halted a c (subst (λ (l : List Turn). AreTurns told said kit l a c) ends.1 are) in
+      let whole = all_whole ends.0 first a all.0 all.1 ends.2 so in
+      (turns_follow n).cut first all.0.seats c.seats whole.0 (all.2.steps whole.1)
+  turns_steps true stopped turns first a c are ends so =
+      let all = parted ends.0 NoMemory a c (subst (λ (l : List Turn). AreTurns told said kit l a c) ends.1 are) in
+      let whole = all_whole ends.0 first a all.0 all.1 ends.2 so in
+      let none = all.2.steps whole.1 in
+      or_not stopped first c.seats (none_more n first all.0.seats c.seats whole.0 none.0 none.1)
+
+  or_false : (a b : Bool) → b ≡ false → (a || b) ≡ a
+  or_false a b is = ap (λ (c : Bool). a || c) is ∙ by a
+    where
+      by : (a : Bool) → (a || false) ≡ a
+      by true = refl
+      by false = refl
+
+  or_true : (a b : Bool) → b ≡ true → (a || b) ≡ true
+  or_true a b is = ap (λ (c : Bool). a || c) is ∙ by a
+    where
+      by : (a : Bool) → (a || true) ≡ true
+      by true = refl
+      by false = refl
+
+  turned_steps : (old new : TimerWorker) (first s t : Seats) → HasTurned told said kit old new s t → old.halted ≡ false → StepsSo n false first s → StepsSo n new.halted first t
+  turned_steps old new first s t turned on so =
+      subst (λ (h : Bool). StepsSo n h first t) (sym (turned.halted ∙ or_false turned.stopped old.halted on))
+      (turns_steps turned.out turned.stopped turned.turns first (timer_stance old s) (timer_stance new t) turned.are turned.ends so)
+
+  first_steps : (seats : Seats) → HasSealed seats → StepsSo n false seats seats
+  first_steps seats has = ((turns_follow n).none seats, has)
+
+  -- where it was halted it takes no turn
+  no_seats : (turns : List Turn) (halted : Bool) (voice : Known) (a c : TimerStance) → IsOneTurn turns halted voice → halted ≡ true → AreTurns told said kit turns a c → c.seats ≡ a.seats
+  no_seats [] halted voice a c one was are = ap (λ (s : TimerStance). s.seats) are
+  no_seats (t ∷ []) halted voice a c one was are = absurd (let no : false ≡ true = sym one ∙ was in cc)
+  no_seats (t ∷ u ∷ turns) halted voice a c one was are = absurd one
+
+  once_more : (was : Bool) (old new : TimerWorker) (first s t : Seats) → HasTurnedOnce told said kit old new s t → old.halted ≡ was → StepsSo n was first s → StepsSo n new.halted first t
+  once_more false old new first s t once is so = turned_steps old new first s t once.turned is so
+  once_more true old new first s t once is so =
+      let same = no_seats once.turned.turns old.halted new.voice (timer_stance old s) (timer_stance new t) once.once is once.turned.are in
+      subst (λ (h : Bool). StepsSo n h first t) (sym (once.turned.halted ∙ or_true once.turned.stopped old.halted is))
+      (subst (λ (seats : Seats). StepsSo n true first seats) (sym same) so)
 
   -- ---- turns beside others, and then in turn
 
@@ -305,11 +392,12 @@ module _ (told : ℕ → Type 0) (said : ℕ → ℕ → Bool → Type 0) (kit :
   turns_more (t ∷ some) more a b c are then = (are.0, are.1, turns_more some more are.0 b c are.2 then)
 
   pub turned_some : (old new : TimerWorker) (s t : Seats) → HasTurnedToTheEnd told said kit old new s t → HasTakenTurns told said kit old new s t
-  turned_some old new s t turned = record { turns = turned.turned.turns; are = turned.turned.are; some = turned.some }
+  turned_some old new s t turned = record { turns = turned.turned.turns; are = turned.turned.are; some = turned.some; steps = λ on has. turned_steps old new s s t turned.turned on (first_steps s has) }
 
   pub turned_more : (old mid new : TimerWorker) (s t u : Seats) → HasTakenTurns told said kit old mid s t → HasTurnedOnce told said kit mid new t u → HasTakenTurns told said kit old new s u
   turned_more old mid new s t u before once = record {
     turns = before.turns ++ once.turned.turns;
     are = turns_more before.turns once.turned.turns (timer_stance old s) (timer_stance mid t) (timer_stance new u) before.are once.turned.are;
     some = let many = before.some in omega (arith, many, length-append before.turns once.turned.turns);
+    steps = λ on has. once_more mid.halted mid new s t u once refl (before.steps on has);
   }

@@ -7,7 +7,10 @@ use Rattle.wbt_kit.specs.declared.kit.Kit.{Kit}
 use Rattle.wbt_kit.specs.declared.kit.Seats.{Seats}
 use Rattle.wbt_kit.specs.declared.turn.Turn.{Turn}
 use Rattle.wbt_kit.specs.declared.turn.Turn.TheVariants.{Halted, NoMemory}
+use Rattle.wbt_table.specs.Layout.{domains}
+use Rattle.wbt_turns.specs.Words.{IsCutOff, IsTimerTurn, IsWhole}
 use Rattle.wbt_timer.specs.Gate.{AskedBeforePublishing}
+use Rattle.wbt_timer.specs.Kinds.{HasSealed, Steps, StepsBy}
 use Rattle.wbt_timer.specs.Side.{Side}
 use Rattle.wbt_timer.specs.Turn.{IsTimerStopped, TimerAnswers}
 use Rattle.wbt_run_worker.specs.declared.ticking.TimerWorker.{TimerWorker}
@@ -26,10 +29,12 @@ pub record IsLetOn (said : ℕ → Bool → Type 0) (kit : Kit) (answer : Turn) 
   pub asked : AskedBeforePublishing kit said old new
   pub stopped : answer ≡ Halted → IsTimerStopped said new
 
--- a turn with this answer; the timer's number comes after the last CPU's
+-- A turn with this answer; the timer's number comes after the last CPU's. It is known of which kinds its steps were, where no publication was
+-- under way.
 pub record IsTurn (told : ℕ → Type 0) (said : ℕ → ℕ → Bool → Type 0) (kit : Kit) (answer : Turn) (old new : TimerStance) : Type 0 where
   pub answers : TimerAnswers told answer old.side new.side old.seats new.seats old.log new.log
   pub let_on : IsLetOn (said kit.throttle.layout.cpus) kit answer old.seats new.seats
+  pub steps : HasSealed old.seats → StepsBy (domains kit.throttle.layout) answer old.seats new.seats
 
 -- turns, one after another, the first one first; from one to the next nothing changes
 abbrev pub AreTurns : (told : ℕ → Type 0) (said : ℕ → ℕ → Bool → Type 0) (kit : Kit) (turns : List Turn) (old new : TimerStance) → Type 0
@@ -96,16 +101,23 @@ pub record HasTurnedToTheEnd (told : ℕ → Type 0) (said : ℕ → ℕ → Boo
   pub some : 1 ≤ length turned.turns
   pub cause : EndFor turned.out turned.stopped new.in_turn new.voice
 
+-- The steps of the timer's turns: those of whole turns, after which no publication is under way; where the gate stopped it, those of whole turns
+-- and perhaps of a last one that was cut off.
+abbrev pub StepsSo : (domains : ℕ) (halted : Bool) (old new : Seats) → Type 0
+StepsSo domains false old new = Steps (IsWhole (IsTimerTurn domains)) old new × HasSealed new
+StepsSo domains true old new = Steps (IsCutOff (IsTimerTurn domains)) old new
+
 -- turns, one at least, and nothing else
 pub record HasTakenTurns (told : ℕ → Type 0) (said : ℕ → ℕ → Bool → Type 0) (kit : Kit) (old new : TimerWorker) (seats seats' : Seats) : Type 0 where
   pub turns : List Turn
   pub are : AreTurns told said kit turns (timer_stance old seats) (timer_stance new seats')
   pub some : 1 ≤ length turns
+  pub steps : old.halted ≡ false → HasSealed seats → StepsSo (domains kit.throttle.layout) new.halted seats seats'
 
--- one turn; or none, where it found that no task writes any more, or was halted before
+-- one turn, where it hadn't been halted; or none, where it found that no task writes any more, or was halted before
 abbrev pub IsOneTurn : (turns : List Turn) (halted : Bool) (voice : Known) → Type 0
 IsOneTurn [] halted voice = (voice.quiet ≡ true) ⊎ (halted ≡ true)
-IsOneTurn (answer ∷ []) halted voice = Unit {0}
+IsOneTurn (answer ∷ []) halted voice = halted ≡ false
 IsOneTurn (answer ∷ next ∷ more) halted voice = ⊥
 
 pub record HasTurnedOnce (told : ℕ → Type 0) (said : ℕ → ℕ → Bool → Type 0) (kit : Kit) (old new : TimerWorker) (seats seats' : Seats) : Type 0 where

@@ -4,7 +4,7 @@ use Rattle.wbt_fraction.specs.Several.{Seats as ShareSeats}
 use Rattle.wbt_run_worker.specs.declared.side.CpuSide.{CpuSide}
 use Rattle.wbt_run_together.specs.Gather.{sides_of}
 use Rattle.wbt_run_first.specs.Seated.{HasTicked, MakeAll}
-use Rattle.wbt_run_together.proofs.Leaving.{all_at, all_may, came_at, comes, has_ticked, may_begin, publishes_none, some_work}
+use Rattle.wbt_run_together.proofs.Leaving.{all_at, all_may, came_at, comes, has_ticked, left_sealed, may_begin, publishes_none, some_work}
 use Rattle.wbt_signals.specs.Signals.{Known}
 use Rattle.wbt_run_worker.specs.Voices.{TimerSpeaks}
 use Rattle.wbt_run_together.proofs.Voicing.{all_left, all_written, signals_of, signals_stay, stops_for}
@@ -76,6 +76,8 @@ returns g c =
     c.work_beside.new.workers.items c.part_workers-cpus.result after all c.work_beside.ensures.many c.work_beside.ensures.worked c.part_workers-cpus.ensures.together
     ticks.stay may.seats_are may.held
     (record { seats_are = e.seats; records = e.records; came = e.came; stayed = e.stayed; share = e.notes.0; est = e.notes.1; queue = e.queue }) in
+    let sealed = left_sealed told said g.D.Disk.written g.D.Disk.faults c.args.trace.now c.args.now c.args.hands.now.kit.now
+    c.requires.lawful c.requires.kit c.args.workers.items c.args.seats.now c.requires.seated in
     let spoke = subst (λ (refused : Bool). TimerSpeaks c.args.condition.now.signals refused c.work_beside.new.timer.refused c.args.timer.now.voice c.work_beside.new.timer.voice)
     c.requires.not_refused c.work_beside.ensures.speaks in
     let sides = c.part_workers-cpus.ensures.sides ∙ ap (λ (l : List (CpuSide g.row.D.Denot)). l ++ sides_of c.work_beside.new.workers.items) c.requires.none in
@@ -84,7 +86,8 @@ returns g c =
       timer = subst (λ (s : ShareSeats). HasTicked told c.args.trace.now c.args.now c.args.hands.now.kit.now c.work_beside.new.timer.log.items s all) (sym {A = ShareSeats} e.timer.0)
           (has_ticked (g.C.Clock.told c.args.hands.now.clock.now) (g.G.Gate.said c.args.hands.now.gate.now) g.D.Disk.written g.D.Disk.faults c.args.trace.now c.args.now c.args.hands.now.kit.now
           c.requires.lawful c.requires.kit c.args.workers.items c.args.seats.now c.requires.seated
-          c.args.timer.now.side c.work_beside.new.timer.side c.args.timer.now.log.items c.work_beside.new.timer.log.items after all c.requires.timer ticks came.timer);
+          c.args.timer.now.side c.work_beside.new.timer.side c.args.timer.now.log.items c.work_beside.new.timer.log.items after all c.work_beside.new.timer.halted c.requires.timer ticks
+          (c.work_beside.ensures.turned.steps c.requires.not_halted sealed) came.timer_log came.timer);
       stopped = stops_for (g.C.Clock.told c.args.hands.now.clock.now) (g.G.Gate.said c.args.hands.now.gate.now) g.D.Disk.written g.D.Disk.faults c.args.hands.now.kit.now c.args.condition.now.signals c.args.timer.now.voice c.work_beside.new.timer.voice c.part_workers-cpus.new.voice
           c.args.workers.items c.work_beside.new.workers.items c.work_beside.new.timer.refused c.part_workers-cpus.new.sides.items c.requires.voiced c.work_beside.ensures.many
           c.work_beside.ensures.worked

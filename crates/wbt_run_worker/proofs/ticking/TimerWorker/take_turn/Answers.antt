@@ -16,7 +16,7 @@ returns-in-Halted g c =
     record {
       ticks = both.1;
       may = both.0;
-      turn = record { is = record { answers = e.answers; let_on = record { asked = e.asked; stopped = e.stopped } }; refused = refl; halted = refl; rings = omega arith };
+      turn = record { is = record { answers = e.answers; let_on = record { asked = e.asked; stopped = e.stopped }; steps = e.steps }; refused = refl; halted = refl; rings = omega arith };
       speaks = timer_now c.args.condition.now.signals c.args.self.now.refused c.args.self.now.voice c.requires.voice;
     }
 
@@ -33,7 +33,7 @@ returns-in-NoMemory g c =
       ticks = both.1;
       may = both.0;
       turn = record {
-        is = record { answers = e.answers; let_on = record { asked = e.asked; stopped = e.stopped } };
+        is = record { answers = e.answers; let_on = record { asked = e.asked; stopped = e.stopped }; steps = e.steps };
         refused = refl;
         halted = refl;
         rings = rang_once c.args.self.now.voice c.ring.new.voice c.ring.ensures.rang;
@@ -55,6 +55,6 @@ returns-in_default g c =
       ticks = both.1;
       may = both.0;
       turn = takes_on told (g.G.Gate.said c.args.hands.now.gate.now) kit c.turn.result was (record { side = c.turn.new.self; log = c.turn.new.log; refused = was.refused; halted = was.halted; in_turn = was.in_turn; voice = was.voice })
-          seats c.turn.new.seats (record { answers = e.answers; let_on = record { asked = e.asked; stopped = e.stopped } }) (goes_after c.turn.result c.in_default.not-NoMemory c.in_default.not-Halted) refl refl refl;
+          seats c.turn.new.seats (record { answers = e.answers; let_on = record { asked = e.asked; stopped = e.stopped }; steps = e.steps }) (goes_after c.turn.result c.in_default.not-NoMemory c.in_default.not-Halted) refl refl refl;
       speaks = timer_now c.args.condition.now.signals was.refused was.voice c.requires.voice;
     }

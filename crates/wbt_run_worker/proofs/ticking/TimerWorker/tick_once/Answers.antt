@@ -36,7 +36,7 @@ returns-clause-ready g c = λ trace was. ready_still (g.C.Clock.told c.args.hand
 
 pub returns-clause-turns : goal.returns-clause-turns
 returns-clause-turns g c = looked_once (g.C.Clock.told c.args.hands.now.clock.now) (g.G.Gate.said c.args.hands.now.gate.now) c.args.hands.now.kit.now c.args.self.now c.take_turn-turn.new.self c.args.seats.now c.take_turn-turn.new.seats
-    c.is_quiet.new.voice c.take_turn-turn.result (ap (λ (v : Known). v.rings) c.is_quiet.ensures.quiet) c.take_turn-turn.ensures.turn
+    c.is_quiet.new.voice c.take_turn-turn.result (search rules) (ap (λ (v : Known). v.rings) c.is_quiet.ensures.quiet) c.take_turn-turn.ensures.turn
 
 pub returns-clause-speaks : goal.returns-clause-speaks
 returns-clause-speaks g c = timer_more c.args.condition.now.signals c.args.self.now.refused c.args.self.now.refused c.take_turn-turn.new.self.refused c.args.self.now.voice c.is_quiet.new.voice c.take_turn-turn.new.self.voice
