@@ -119,6 +119,7 @@ fn finish<'t, H: Threads + Wait + Sync, C: Clock + Sync, G: Gate + Sync, D: Disk
     requires seated { AreSeated D.written D.faults trace.now now hands.now.kit.now workers.items seats.old }
     requires timer { IsFirstTimer trace.now now timer.old.side timer.old.log.items }
     requires voiced { AreVoiced condition.now.signals timer.old.voice workers.items }
+    requires counted { (timer.old.voice.writes ≡ 0) × (timer.old.voice.there ≡ 0) }
     requires not_refused { timer.old.refused ≡ false }
     requires none { sides.old.items ≡ [] }
     requires room { vec_len workers ≤ vec_capacity sides.old }
