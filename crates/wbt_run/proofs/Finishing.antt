@@ -1,5 +1,5 @@
 -- From where the sides of all CPUs stand, with all notes together: the workers have worked as a lawful journal asks.
-use Rattle.std.proofs.Common.{◌≡◌, ℕ, zero, suc, ◌<◌, ◌≤◌, min, Bool, true, false, List, [], ◌∷◌, ◌++◌, Option, Ok, sym, ap, ◌∙◌, subst}
+use Rattle.std.proofs.Common.{◌≡◌, ℕ, zero, suc, ◌<◌, ◌≤◌, min, Bool, true, false, List, [], ◌∷◌, ◌++◌, get_or, Option, Ok, sym, ap, ◌∙◌, subst}
 use Rattle.std.proofs.Math.Path.{fun_ext}
 use Rattle.wbt_run_seats.specs.Gathered.{AreGathered, no_notes}
 use Rattle.wbt_run_seats.specs.Parts.{noted, owner_of}
@@ -26,8 +26,12 @@ use Rattle.wbt_run_worker.specs.Ticking.{IsTold as IsToldLine}
 use Rattle.wbt_run_worker.specs.Went.{IsTold}
 use Rattle.wbt_run_worker.specs.declared.side.CpuSide.{CpuSide}
 use Rattle.wbt_run_steps.specs.Records.{record_of}
-use Rattle.wbt_table.specs.Layout.{setting}
-use Rattle.wbt_table.specs.Rule.{Has}
+use Rattle.wbt_run_seats.proofs.Opening.{kit_is_opened}
+use Rattle.wbt_run_steps.specs.Kinds.{kinds_in}
+use Rattle.wbt_table.specs.Layout.{setting, domains as limits_of}
+use Rattle.wbt_table.specs.Rule.{Has, HasLog}
+use Rattle.wbt_table.specs.declared.rule.Logged.{Logged}
+use Rattle.wbt_turns.specs.Words.{IsCutOff, IsTimerTurn}
 use Rattle.wbt_table.specs.Seat.{Seated}
 use Rattle.wbt_table.specs.declared.layout.Layout.{Layout}
 use Rattle.wbt_trace.specs.Lawful.{IsLawful}
@@ -39,12 +43,14 @@ use Rattle.wbt_run_drain.specs.Whole.{CpusWorked, EndsSo, HaveWorked, NoneIsDue,
 use Rattle.wbt_run_drain.specs.Ends.{EndingIs, HaveEnded}
 use Rattle.wbt_run_drain.specs.Standing.{AreAllCleaned, AreAllDone, AreStanding, WasStopped}
 use Rattle.wbt_run_drain.specs.Teams.{logs_of}
+use Rattle.wbt_run_drain.specs.Words.{IsTurnOrLook}
+use Rattle.wbt_run_drain.proofs.Wording.{may_be_cut}
 use Rattle.wbt_run_drain.proofs.Aged.{none_age}
 use Rattle.wbt_run_drain.proofs.Queued.{nothing_waits}
 use Rattle.wbt_run.specs.Finished.{HasFinished}
-use Rattle.wbt_run.specs.Running.{AreHalted, TellMoments}
+use Rattle.wbt_run.specs.Running.{AreHalted, HaveTakenTurns, TellMoments}
 use Rattle.wbt_run_first.specs.Seated.{HasTicked, MakeAll}
-use Rattle.wbt_run.proofs.Causes.{all_faults, eight_told, have_ended, last, none_failed, some_failed, some_spent}
+use Rattle.wbt_run.proofs.Causes.{all_faults, eight_told, have_ended, last, none_failed, side_at, some_failed, some_spent}
 use Rattle.wbt_run.proofs.Pausing.{all_pause_short}
 use Rattle.wbt_run.proofs.Told.{all_written, are_cleaned, are_halted, none_due, none_waits}
 
@@ -72,6 +78,7 @@ pub record Comes {D : Type 0} (told : ℕ → Type 0) (said : ℕ → ℕ → Bo
   pub makes_all : MakeAll kit timer before.share
   pub stakes : KeepsStakes before.share.domains cleaned.share.domains
   pub same_timer : cleaned.cpu.timer ≡ before.cpu.timer
+  pub same_timer_log : cleaned.cpu.timer_log ≡ before.cpu.timer_log
   pub records : behind.cpu ≡ cleaned.cpu
   pub queue : behind.queue ≡ cleaned.queue
   pub behind_at : AreSeatsOf kit behind
@@ -188,6 +195,28 @@ module _ {D : Type 0} (told : ℕ → Type 0) (said : ℕ → ℕ → Bool → T
     each = λ task of on few. stopped_behind of (are.each task of on few);
   }
 
+  -- their logs are the same
+  cpu_turns : (cpu : ℕ) → cpu < trace.cpus → (log : List Logged) × HasLog behind.cpu.logs cpu log × IsCutOff (IsTurnOrLook (domains trace) cpu) (kinds_in log)
+  cpu_turns cpu less =
+      let n : ℕ = limits_of kit.throttle.layout in
+      let other : CpuSide D = (side_at told said written faults trace kit sides cleaned comes.standing cpu less).side in
+      let tells = comes.standing.turns cpu other less in (
+        tells.0,
+        subst (λ (s : Seated). HasLog s.logs cpu tells.0) (sym comes.records) tells.1,
+        subst (λ (m : ℕ). IsCutOff (IsTurnOrLook m cpu) (kinds_in tells.0)) (kit_is_opened trace now kit comes.lawful comes.of).limits_are
+            (may_be_cut n cpu (get_or sides cpu other).end (kinds_in tells.0) tells.2),
+      )
+
+  took_turns : HaveTakenTurns trace behind
+  took_turns = record {
+    cpus = cpu_turns;
+    timer = let its = comes.ticked.turns in (
+      its.0,
+      ap (λ (s : Seated). s.timer_log) comes.records ∙ comes.same_timer_log ∙ its.1,
+      subst (λ (m : ℕ). IsCutOff (IsTimerTurn m) (kinds_in its.0)) (kit_is_opened trace now kit comes.lawful comes.of).limits_are its.2,
+    );
+  }
+
   -- where the timer was refused memory nothing was cleaned, and nothing is said of how it ended
   pub finished : (refused : Bool) → (refused ≡ false → (HaveEnded sides → AreAllDone sides) × (HaveEnded sides → AreAllCleaned trace cleaned))
       → HasFinished told said written faults trace now kit sides lines refused behind
@@ -203,4 +232,5 @@ module _ {D : Type 0} (told : ℕ → Type 0) (said : ℕ → ℕ → Bool → T
         let all = have_ended told said written faults trace kit sides cleaned comes.standing is.0 is.1 is.2 is.3 is.4 in
         subst AreAllTaken (sym (ap (λ (s : queue.Seats). queue.known_of device s) comes.queue))
         (nothing_waits told said written faults trace kit sides cleaned comes.standing ((cleans not).0 all) device low);
+    turns = took_turns;
   }

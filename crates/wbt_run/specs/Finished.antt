@@ -13,7 +13,7 @@ use Rattle.wbt_run_drain.specs.Whole.{HaveWorked}
 use Rattle.wbt_run_drain.specs.Ends.{EndingIs}
 use Rattle.wbt_run_drain.specs.Standing.{NothingWaits}
 use Rattle.wbt_run_drain.specs.Teams.{faults_by_all, faults_told, handed_over, logs_of, teams_of, written_by_all}
-use Rattle.wbt_run.specs.Running.{AreHalted, PauseShortly, TellMoments}
+use Rattle.wbt_run.specs.Running.{AreHalted, HaveTakenTurns, PauseShortly, TellMoments}
 
 -- The sides and the timer's log, on seats that have all records and all notes. Unless the timer was refused memory the workers have worked so as
 -- the sides' ending asks. No check pauses longer than 200 ticks; the clock told each moment; where all disks tell it they have written just the pages of the batches; they
@@ -28,3 +28,4 @@ pub record HasFinished {D : Type 0} (told : ℕ → Type 0) (said : ℕ → ℕ 
   pub faulted : EndingIs sides (Ok ending.Faulted) → MOST_FAULTS ≤ faults_told (logs_of sides)
   pub halted : EndingIs sides (Ok ending.Halted) → AreHalted said trace seats (logs_of sides)
   pub emptied : EndingIs sides (Ok ending.Done) → refused ≡ false → NothingWaits trace seats
+  pub turns : HaveTakenTurns trace seats

@@ -9,7 +9,7 @@ use Rattle.wbt_journal.specs.Forms.{HasForm}
 use Rattle.wbt_journal.specs.Items.{all_told, parts_of}
 use Rattle.wbt_journal.specs.Lawful.{DirtiedWereCompleted, FoundWereDirtied, IsLawful}
 use Rattle.wbt_journal.specs.Leaves.{WroteAll, a_flusher_failed, has_all_steps, writes_of}
-use Rattle.wbt_journal.specs.Machine.{pages_of_task, task_cpu}
+use Rattle.wbt_journal.specs.Machine.{domains, pages_of_task, task_cpu}
 use Rattle.wbt_journal.specs.Text.{journal_lines}
 use Rattle.wbt_journal.specs.Told.{Told, told as told_by}
 use Rattle.wbt_journal.specs.declared.entry.CheckEntry.{CheckEntry}
@@ -20,6 +20,10 @@ use Rattle.wbt_journal.specs.declared.timer.TimerEntry.{TimerEntry}
 use Rattle.wbt_kit.specs.declared.kit.Kit.{Kit}
 use Rattle.wbt_kit.specs.declared.kit.Seats.{Seats}
 use Rattle.wbt_rules.specs.declared.moments.TheConstants.{MOST_FAULTS}
+use Rattle.wbt_run_steps.specs.Kinds.{kinds_in}
+use Rattle.wbt_table.specs.Rule.{HasLog}
+use Rattle.wbt_table.specs.declared.rule.Logged.{Logged}
+use Rattle.wbt_turns.specs.Words.{IsCutOff}
 use Rattle.wbt_run_worker.specs.Ticking.{IsTold as IsToldLine}
 use Rattle.wbt_run_worker.specs.Went.{IsTold}
 use Rattle.wbt_trace.specs.declared.trace.Trace.{Trace}
@@ -27,6 +31,7 @@ use Rattle.wbt_run_laws.specs.Laws.{NoneWaitsWhenDone}
 use Rattle.wbt_run_drain.specs.Whole.{HaveWorked, log_at}
 use Rattle.wbt_run_drain.specs.Standing.{WasStopped}
 use Rattle.wbt_run_drain.specs.Teams.{faults_told, handed_over}
+use Rattle.wbt_run_drain.specs.Words.{IsTurnOrLook, TimerTellsTurns}
 
 -- ---- moments
 
@@ -62,11 +67,27 @@ pub record AreHalted (said : ℕ → ℕ → Bool → Type 0) (trace : Trace) (s
 abbrev pub NeverStops : (said : ℕ → ℕ → Bool → Type 0) → Type 0
 NeverStops said = (cpu steps : ℕ) → said cpu steps false → ⊥
 
+-- ---- turns
+
+-- The seats' log of each CPU tells turns, one after another, each made of the steps that its kind asks for, in their order; the last one may be
+-- cut off. Between the turns of the first CPU stand the looks of the sweep. The timer's log tells turns of the timer.
+pub record HaveTakenTurns (trace : Trace) (seats : Seats) : Type 0 where
+  pub cpus : (cpu : ℕ) → cpu < trace.cpus → (log : List Logged) × HasLog seats.cpu.logs cpu log × IsCutOff (IsTurnOrLook (domains trace) cpu) (kinds_in log)
+  pub timer : TimerTellsTurns (domains trace) seats
+
+-- The CPUs and the timer took turns, by their logs on the seats that the workers left, of which the journal's parts tell what they made.
+pub record TookTurns (trace : Trace) (j : Journal) : Type 0 where
+  pub opened : ℕ
+  pub kit : Kit
+  pub seats : Seats
+  pub worked : HaveWorked trace opened kit j.cpus j.timer j.ending seats
+  pub turns : HaveTakenTurns trace seats
+
 -- ---- the journal of a run
 
 -- It is lawful for the trace, and has no steps and no lines of strict devices; its numbers are in the ranges of their fields; each page that a write found dirty was dirtied by a write that it tells, and each that was dirtied was completed or is left; where all is done no inode waits for its age; no check in it
--- pauses longer than 200 ticks; the clock told each moment in it; the disks that were given back have written just the pages of its batches; and the rack's count of faults has risen by as
--- many faults as it tells at least.
+-- pauses longer than 200 ticks; the clock told each moment in it; the disks that were given back have written just the pages of its batches; the rack's count of faults has risen by as
+-- many faults as it tells at least; and each CPU and the timer took turns, one after another.
 pub record IsRunOf (told : ℕ → Type 0) (trace : Trace) (before now : Option ℕ) (faults faults' : ℕ) (j : Journal) : Type 0 where
   pub lawful : IsLawful trace j
   pub found : FoundWereDirtied j
@@ -78,6 +99,7 @@ pub record IsRunOf (told : ℕ → Type 0) (trace : Trace) (before now : Option 
   pub moments : TellMoments told j.cpus j.timer
   pub disks : Grows (Some (handed_over j.cpus)) before now
   pub failures : HasRisenBy (faults_told j.cpus) faults faults'
+  pub turns : TookTurns trace j
 
 -- every page of every action was written, and no page is left
 pub record IsDone (trace : Trace) (j : Journal) : Type 0 where

@@ -33,7 +33,8 @@ pub enum RunEnd {
 }
 
 /// Runs a trace over threads: all is made for it, workers do what it tells, and what they told becomes the journal, with what is left. The
-/// opening is at the clock's first answer. It returns only if its workers do.
+/// opening is at the clock's first answer. It returns only if its workers do. By their logs each CPU and the timer took turns, one after
+/// another, each of the steps that `wbt_turns` has for it, and the first CPU the looks of the sweep besides.
 pub fn run<H: Threads + Wait + Sync, C: Clock + Sync, G: Gate + Sync, R: Rack>(
     rt: &H,
     alloc: Global,

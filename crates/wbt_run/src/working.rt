@@ -15,7 +15,7 @@ ghost use Rattle.wbt_trace.specs.Lawful.{IsLawful};
 ghost use Rattle.wbt_run_drain.specs.Whole.{HaveWorked};
 ghost use Rattle.wbt_run_first.specs.Back.{NotFallen, WereGiven};
 ghost use Rattle.wbt_run.specs.Finished.{HasFinished};
-ghost use Rattle.wbt_run.specs.Running.{AreHalted, PauseShortly, TellMoments};
+ghost use Rattle.wbt_run.specs.Running.{AreHalted, HaveTakenTurns, PauseShortly, TellMoments};
 ghost use Rattle.wbt_run_first.specs.Seated.{AreSeated, IsFirstTimer};
 ghost use Rattle.wbt_run_first.specs.Voiced.{AreVoiced, OutForCause, StopsForCause};
 
@@ -73,6 +73,9 @@ pub fn work<H: Threads + Wait + Sync, C: Clock + Sync, G: Gate + Sync, R: Rack>(
 
     // Where all is done each number that was ever put into a device's queue was taken, just as often.
     ensures emptied { IfOk result (λ worked. worked.ending ≡ EndingValue.Done → NothingWaits trace.now seats.new) }
+
+    // Each CPU and the timer took turns, one after another, of which the last one may be cut off.
+    ensures turns { IfOk result (λ _. HaveTakenTurns trace.now seats.new) }
 {
     let (condition, voice) = Condition::make(hands.alloc, trace.cpus)?;
     let mut lines = Vec::new(hands.alloc);
@@ -121,6 +124,7 @@ fn finish<'t, H: Threads + Wait + Sync, C: Clock + Sync, G: Gate + Sync, D: Disk
     requires voiced { AreVoiced condition.now.signals timer.old.voice workers.items }
     requires counted { (timer.old.voice.writes ≡ 0) × (timer.old.voice.there ≡ 0) }
     requires not_refused { timer.old.refused ≡ false }
+    requires not_halted { timer.old.halted ≡ false }
     requires none { sides.old.items ≡ [] }
     requires room { vec_len workers ≤ vec_capacity sides.old }
     ensures stopped { StopsForCause timer.new.refused sides.new.items }

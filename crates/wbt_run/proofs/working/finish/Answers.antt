@@ -24,6 +24,7 @@ returns-clause-finished g c =
       makes_all = c.work_together-apart.ensures.complete;
       stakes = c.clean_up.ensures.went.stakes;
       same_timer = c.clean_up.ensures.went.timer;
+      same_timer_log = c.clean_up.ensures.went.timer_log;
       records = c.gather_notes.ensures.records;
       queue = c.gather_notes.ensures.queue;
       behind_at = c.gather_notes.ensures.seats;
