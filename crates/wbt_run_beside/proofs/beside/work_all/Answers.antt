@@ -38,8 +38,7 @@ turns-preserved g c =
 
 pub turns-init : goal.turns-init
 turns-init g c =
-    let e = c.join_workers.ensures in
-    (
+    let e = c.join_workers.ensures in (
       tt,
       tt,
       e.may_tick,
