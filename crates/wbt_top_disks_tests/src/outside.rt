@@ -1,12 +1,13 @@
-//! What a run asks of disks and clocks, which no clause sees: the rate of each disk, how long the drain rests, and the unit of the machine's clock.
+//! What a run asks of disks and clocks, which no clause sees: the rate of each disk, how long workers and the drain rest, and the unit of the machine's clock.
 
 use super::lines::{Batch, batches_of};
 use std::alloc::Global;
 use std::sync::Wait;
+use std::sync::atomic::{AtomicU64, Ordering};
 use std::test::Fail;
 use std::thread::Threads;
 use std::time::Instant;
-use top_in_use::{call, calm};
+use top_in_use::{SlowClock, TWO_PAGES, call, calm};
 use wbt_io::{Clock, FaultyRack, FreeGate, HandClock, ModelRack, RealClock};
 use wbt_top_plain::Status;
 
@@ -15,16 +16,21 @@ use wbt_top_plain::Status;
 const SLOW_AND_FAST: &str =
     "cpus 2\navail 0 100000\ndevice 0 20 0 100\ndevice 1 1000 0 100\ncontext 0 0 0\ncontext 1 1 0\ninode 0 0 1\ninode 1 1 1\ninode 2 1 1\ntask 0 0\ntask 1 1\nflusher 0 1 0\nflusher 1 0 1\nwrite 0 0 0 1\nwrite 1 1 0 1\nwrite 1 2 0 1\n";
 
+// Device 0 writes 100 pages in a tick, and device 1 a page in a second. So few pages are written in the drain alone, those of each device at once.
+const FASTER_AND_SLOWER: &str =
+    "cpus 1\navail 0 100000\ndevice 0 100000 0 100\ndevice 1 1 0 100\ncontext 0 0 0\ncontext 1 1 0\ninode 0 0 100\ninode 1 1 2\ntask 0 0\nflusher 0 0 0\nflusher 1 1 0\nwrite 0 0 0 100\nwrite 0 1 0 2\n";
+
 // The batches of a flusher in a run over threads, by a clock that moves by rests alone.
 fn run_batches<H: Threads + Wait + Sync>(
     rt: &H,
     alloc: Global,
+    text: &str,
     flusher: u64,
 ) -> Result<Vec<Batch>, Fail> {
     let done = call(
         rt,
         alloc,
-        &calm(&["run"], SLOW_AND_FAST),
+        &calm(&["run"], text),
         &HandClock::make(1),
         &FreeGate,
         &mut ModelRack::make(),
@@ -38,7 +44,7 @@ fn run_batches<H: Threads + Wait + Sync>(
 #[test]
 fn each_disk_has_the_rate_of_its_device(rt: HostRuntime) -> Result<(), Fail> {
     for (flusher, ticks, batches) in [(0, 1, 2), (1, 50, 1)] {
-        let told = run_batches(&rt, rt.alloc(), flusher)?;
+        let told = run_batches(&rt, rt.alloc(), SLOW_AND_FAST, flusher)?;
         assert_eq!(rt; told.len(), batches, "flusher {flusher}");
         for batch in told.as_slice() {
             assert_eq!(rt;
@@ -52,8 +58,64 @@ fn each_disk_has_the_rate_of_its_device(rt: HostRuntime) -> Result<(), Fail> {
 }
 
 #[test]
+fn a_batch_takes_as_long_as_its_disk_says(rt: HostRuntime) -> Result<(), Fail> {
+    for (flusher, ticks) in [(0, 1), (1, 2000)] {
+        let told = run_batches(&rt, rt.alloc(), FASTER_AND_SLOWER, flusher)?;
+        assert_eq!(rt; told.len(), 1, "flusher {flusher}");
+        for batch in told.as_slice() {
+            assert_eq!(rt;
+                batch.until.saturating_sub(batch.now),
+                ticks,
+                "flusher {flusher}"
+            );
+        }
+    }
+    Ok(())
+}
+
+// A clock that moves slowly, and keeps the longest rest that it was asked for.
+#[derive(Drop)]
+struct RestClock {
+    slow: SlowClock,
+    longest: AtomicU64,
+}
+
+impl Clock for RestClock {
+    ghost told = { λ _ _. Unit {0} };
+
+    fn now(&self) -> u64 {
+        self.slow.now()
+    }
+
+    fn rest(&self, ticks: u64) {
+        self.longest.fetch_max(ticks, Ordering::SeqCst);
+        self.slow.rest(ticks);
+    }
+}
+
+// The disk writes both pages within a tick, so the drain rests no longer either.
+#[test]
+fn a_worker_rests_ten_ticks_at_most(rt: HostRuntime) -> Result<(), Fail> {
+    let clock = RestClock {
+        slow: SlowClock::make(),
+        longest: AtomicU64::new(0),
+    };
+    let done = call(
+        &rt,
+        rt.alloc(),
+        &calm(&["run"], TWO_PAGES),
+        &clock,
+        &FreeGate,
+        &mut ModelRack::make(),
+    )?;
+    assert_eq!(rt; done.status, Status::Good);
+    assert!(rt; clock.longest.load(Ordering::SeqCst) <= 10);
+    Ok(())
+}
+
+#[test]
 fn the_drain_rests_until_the_first_flusher_is_ready(rt: HostRuntime) -> Result<(), Fail> {
-    let told = run_batches(&rt, rt.alloc(), 0)?;
+    let told = run_batches(&rt, rt.alloc(), SLOW_AND_FAST, 0)?;
     assert_eq!(rt; told.len(), 2);
     if let (Some(first), Some(second)) = (told.first(), told.get(1)) {
         assert_eq!(rt; second.now, first.until);

@@ -212,19 +212,25 @@ fn what_fails_is_told_and_nothing_more_is_written(rt: HostRuntime) -> Result<(),
     Ok(())
 }
 
+// The same trace on five CPUs, two of which have nothing to do: six workers, with the timer's.
+const FIVE_CPUS: &str =
+    "cpus 5\navail 0 100000\ndevice 0 25600 0 100\ncontext 0 0 0\ninode 0 0 64\ntask 0 0\ntask 1 1\nflusher 0 0 2\nwrite 0 0 0 32\nwrite 1 0 32 32\n";
+
 #[test]
 fn workers_are_beside_each_other(rt: HostRuntime) -> Result<(), Fail> {
-    let gate = MeetingGate::make();
-    let done = call(
-        &rt,
-        rt.alloc(),
-        &calm(&["run"], THREE_CPUS),
-        &SlowClock::make(),
-        &gate,
-        &mut ModelRack::make(),
-    )?;
-    assert!(rt; gate.has_met());
-    assert_eq!(rt; done.status, Status::Good);
-    assert!(rt; done.held.ends_with(b"census 0 0\ntotals 64 64\nend done\n"));
+    for text in [THREE_CPUS, FIVE_CPUS] {
+        let gate = MeetingGate::make();
+        let done = call(
+            &rt,
+            rt.alloc(),
+            &calm(&["run"], text),
+            &SlowClock::make(),
+            &gate,
+            &mut ModelRack::make(),
+        )?;
+        assert!(rt; gate.has_met());
+        assert_eq!(rt; done.status, Status::Good);
+        assert!(rt; done.held.ends_with(b"census 0 0\ntotals 64 64\nend done\n"));
+    }
     Ok(())
 }

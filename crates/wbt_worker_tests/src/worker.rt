@@ -1,6 +1,8 @@
 //! What workers tell each other, and what a turn is to its worker.
 
+use std::sync::atomic::{AtomicU64, Ordering};
 use std::test::Fail;
+use wbt_io::Clock;
 use wbt_kit::Turn;
 use wbt_run_worker::{Condition, JobOutcome, job_of};
 
@@ -35,6 +37,36 @@ fn all_hear_the_bell(rt: HostRuntime) -> Result<(), Fail> {
     assert!(rt; !condition.signals.is_rung(&mut first));
     condition.signals.ring(&mut second);
     assert!(rt; condition.signals.is_rung(&mut first));
+    Ok(())
+}
+
+// A clock that begins at 0 and shows a tick more at each look.
+#[derive(Drop)]
+struct LookClock {
+    looks: AtomicU64,
+}
+
+impl Clock for LookClock {
+    ghost told = { λ _ _. Unit {0} };
+
+    fn now(&self) -> u64 {
+        self.looks.fetch_add(1, Ordering::SeqCst)
+    }
+
+    fn rest(&self, _ticks: u64) {}
+}
+
+// The timer's worker doesn't come. Its first look at the clock is at 0, and the last one at 2000.
+#[test]
+fn a_worker_waits_two_seconds_for_the_others(rt: HostRuntime) -> Result<(), Fail> {
+    let (condition, _first) = Condition::make(rt.alloc(), 1)?;
+    let clock = LookClock {
+        looks: AtomicU64::new(0),
+    };
+    assert!(rt; !condition.is_in_turns());
+    condition.meet(&clock);
+    assert!(rt; condition.is_in_turns());
+    assert_eq!(rt; clock.looks.load(Ordering::SeqCst), 2001);
     Ok(())
 }
 
