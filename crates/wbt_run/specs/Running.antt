@@ -21,7 +21,6 @@ use Rattle.wbt_kit.specs.declared.kit.Kit.{Kit}
 use Rattle.wbt_kit.specs.declared.kit.Seats.{Seats}
 use Rattle.wbt_rules.specs.declared.moments.TheConstants.{MOST_FAULTS}
 use Rattle.wbt_run_steps.specs.Kinds.{kinds_in}
-use Rattle.wbt_table.specs.Census.{Closes, Counted}
 use Rattle.wbt_table.specs.Rule.{HasLog}
 use Rattle.wbt_table.specs.declared.rule.Logged.{Logged}
 use Rattle.wbt_turns.specs.Words.{IsCutOff}
@@ -76,14 +75,12 @@ pub record HaveTakenTurns (trace : Trace) (seats : Seats) : Type 0 where
   pub cpus : (cpu : ℕ) → cpu < trace.cpus → (log : List Logged) × HasLog seats.cpu.logs cpu log × IsCutOff (IsTurnOrLook (domains trace) cpu) (kinds_in log)
   pub timer : TimerTellsTurns (domains trace) seats
 
--- The CPUs and the timer took turns, by their logs on the seats that the workers left. These logs have all that was made from the opening on:
--- allowed steps, which led to the seats' records; and of these the journal's parts tell what the CPUs made.
+-- The CPUs and the timer took turns, by their logs on the seats that the workers left, of which the journal's parts tell what they made.
 pub record TookTurns (trace : Trace) (j : Journal) : Type 0 where
   pub opened : ℕ
   pub kit : Kit
   pub seats : Seats
   pub worked : HaveWorked trace opened kit j.cpus j.timer j.ending seats
-  pub closed : (census : Counted) × Closes seats.cpu census
   pub turns : HaveTakenTurns trace seats
 
 -- ---- the journal of a run

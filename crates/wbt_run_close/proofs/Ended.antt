@@ -1,5 +1,5 @@
 -- A journal whose parts are known.
-use Rattle.std.proofs.Common.{◌≡◌, List, Result, Ok, Err, sym, subst}
+use Rattle.std.proofs.Common.{◌≡◌, List, Result, Ok, sym, subst}
 use Rattle.std.specs.Result.{IfOk}
 use Rattle.wbt_journal.specs.declared.entry.CpuJournal.{CpuJournal}
 use Rattle.wbt_journal.specs.declared.journal.Ending.{Ending}
@@ -15,8 +15,3 @@ of_parts P result logs logs' timer timer' left left' ended is same_logs same_tim
     (subst (λ (x : List CpuJournal). P (journal_of x timer' left' ended)) (sym same_logs)
     (subst (λ (x : List TimerEntry). P (journal_of logs x left' ended)) (sym same_timer)
     (subst (λ (x : List Left). P (journal_of logs timer x ended)) (sym same_left) holds)))
-
--- what holds anyway
-pub of_any : {A B : Type 0} (answer : Result A B) (P : Type 0) → P → IfOk answer (λ _. P)
-of_any (Ok a) P holds = holds
-of_any (Err e) P holds = tt

@@ -4,7 +4,6 @@ ghost use Rattle.std.specs.Prelude.{◌≡◌, ◌≤◌, [], IfOk};
 ghost use Rattle.wbt_journal.specs.Lawful as journal;
 ghost use Rattle.wbt_kit.specs.Kit.{AreSeatsOf, IsKitOf};
 ghost use Rattle.wbt_table.specs.Calls.{HoldsAll};
-ghost use Rattle.wbt_table.specs.Census.{Closes, Counted};
 ghost use Rattle.wbt_num.specs.declared.most.TheConstants.{MOST_PAGES};
 ghost use Rattle.wbt_trace.specs.Lawful.{IsLawful};
 ghost use Rattle.wbt_trace.specs.Sofar.{pages_in};
@@ -52,9 +51,6 @@ pub fn close(
     ensures completed { IfOk result (λ j. journal.DirtiedWereCompleted trace.now j) }
     ensures none_waits { IfOk result (λ j. NoneWaitsWhenDone trace.now j) }
     ensures parts { IfOk result (λ j. (j.cpus ≡ worked.cpus) × (j.timer ≡ worked.timer) × (j.ending ≡ worked.ending)) }
-
-    // The seats' logs have all that the CPUs and the timer made: allowed steps, which led from the opening to the records that the seats have.
-    ensures closed { IfOk result (λ _. (census : Counted) × Closes seats.cpu census) }
     ensures no_steps { IfOk result (λ j. (j.steps ≡ []) × (j.bases ≡ []) × (j.homes ≡ []) × (j.strict ≡ [])) }
 {
     work_is_lawful();

@@ -8,7 +8,7 @@ use Rattle.wbt_run_laws.specs.Laws.{NoneWaitsWhenDone}
 use Rattle.wbt_run_laws.specs.Throttle.{left_from}
 use Rattle.wbt_run_seats.specs.Left.{book_of}
 use Rattle.wbt_run_seats.proofs.Opening.{kit_is_opened}
-use Rattle.wbt_run_close.proofs.Ended.{of_any, of_parts}
+use Rattle.wbt_run_close.proofs.Ended.{of_parts}
 use Rattle.wbt_run_close.proofs.closing.close.Goals as goal
 
 pub left_in-requires : goal.left_in-requires
@@ -51,6 +51,3 @@ returns-clause-none_waits c =
     c.merge.ensures c.into_vec.ensures c.into_vec-2.ensures c.into_vec-3.ensures
     (c.work_is_lawful.ensures.none_waits c.args.trace.now c.args.now c.args.kit c.args.seats c.close.result c.args.worked.cpus c.args.worked.timer c.in_ok-left.left c.args.worked.ending
     c.requires.lawful c.requires.kit c.requires.seats c.requires.worked c.close.ensures left_is)
-
-pub returns-clause-closed : goal.returns-clause-closed
-returns-clause-closed c = of_any c.merge.result _ (c.close.result, c.close.ensures)
