@@ -3,11 +3,13 @@ use Rattle.std.proofs.Common.{◌≡◌, ℕ, zero, suc, ◌+◌, ◌<◌, ◌�
 use Rattle.std.specs.List.{slice_get, list_all}
 use Rattle.std.proofs.lemmas.Bool.{cases_eq, cases_lt}
 use Rattle.std.proofs.lemmas.Grind.{flat_map-append}
-use Rattle.std.proofs.lemmas.List.{length-replicate, get_or-replicate}
+use Rattle.std.proofs.lemmas.List.{length-map, length-replicate, get_or-replicate}
 use Rattle.std.proofs.lemmas.Option.{slice_get-get_or, slice_get_past, get_or_from_slice_get}
-use Rattle.wbt_estimate.specs.Estimate.{first_at}
 use Rattle.wbt_estimate.specs.declared.estimate.Estimate.{Estimate}
+use Rattle.wbt_trace.specs.declared.trace.Context.{Context}
 use Rattle.wbt_trace.specs.declared.trace.Trace.{Trace}
+use Rattle.wbt_rules.proofs.Openings.{first_in_range}
+use Rattle.wbt_rules.specs.First.{first_by, first_estimate, first_estimates}
 use Rattle.wbt_journal.specs.Effects.{effect, of_part}
 use Rattle.wbt_journal.specs.Estimates.{Named, Sight, decision_at, estimate_fault, estimate_in, estimates_of, follows, is_no_newer, name_fault, newest_of, next_fault, sight_after}
 use Rattle.wbt_journal.specs.Items.{begins, tells}
@@ -67,25 +69,25 @@ first_of-none (Some line) = refl
 
 -- ---- an estimate
 
-newest_other : (opened x : ℕ) (est : EstEntry) (seen : List EstEntry) (b : Bool) → (est.context == x) ≡ b
-    → newest_of opened x (est ∷ seen) ≡ (if b then est.estimate else newest_of opened x seen)
-newest_other opened x est seen b is = ap (λ t. if t then est.estimate else newest_of opened x seen) is
+newest_other : (trace : Trace) (opened x : ℕ) (est : EstEntry) (seen : List EstEntry) (b : Bool) → (est.context == x) ≡ b
+    → newest_of trace opened x (est ∷ seen) ≡ (if b then est.estimate else newest_of trace opened x seen)
+newest_other trace opened x est seen b is = ap (λ t. if t then est.estimate else newest_of trace opened x seen) is
 
 module _ (trace : Trace) (opened : ℕ) (all : List Told) (old : Estimates) (s : Sight) (keeps : KeepsEstimates trace opened all old s) (est : EstEntry) where
   pub no_context : (new : Estimates) → slice_get old.last.items est.context ≡ None → IsNext trace opened all new s est (Some 0)
   no_context new none = record {
     answer =
         ap (λ b. unless b 0)
-        (no_left (nat_lt est.context (contexts trace)) (follows (newest_of opened est.context s.estimates) est.estimate)
-        (none_is (nat_lt est.context (contexts trace)) (newest_of opened est.context s.estimates) (sym (keeps.last est.context) ∙ none)));
+        (no_left (nat_lt est.context (contexts trace)) (follows (newest_of trace opened est.context s.estimates) est.estimate)
+        (none_is (nat_lt est.context (contexts trace)) (newest_of trace opened est.context s.estimates) (sym (keeps.last est.context) ∙ none)));
     keeps = λ e. absurd (none_some 0 (sym e));
   }
 
   next_test : (last : Estimate) → slice_get old.last.items est.context ≡ Some last
-      → (nat_lt est.context (contexts trace) && follows (newest_of opened est.context s.estimates) est.estimate) ≡ follows last est.estimate
+      → (nat_lt est.context (contexts trace) && follows (newest_of trace opened est.context s.estimates) est.estimate) ≡ follows last est.estimate
   next_test last is =
-      let found = found_is (nat_lt est.context (contexts trace)) (newest_of opened est.context s.estimates) last (sym (keeps.last est.context) ∙ is) in
-      ap (λ b. b && follows (newest_of opened est.context s.estimates) est.estimate) found.0 ∙ ap (λ l. follows l est.estimate) found.1
+      let found = found_is (nat_lt est.context (contexts trace)) (newest_of trace opened est.context s.estimates) last (sym (keeps.last est.context) ∙ is) in
+      ap (λ b. b && follows (newest_of trace opened est.context s.estimates) est.estimate) found.0 ∙ ap (λ l. follows l est.estimate) found.1
 
   pub no_next : (new : Estimates) (last : Estimate) → slice_get old.last.items est.context ≡ Some last → follows last est.estimate ≡ false
       → IsNext trace opened all new s est (Some 0)
@@ -95,17 +97,17 @@ module _ (trace : Trace) (opened : ℕ) (all : List Told) (old : Estimates) (s :
   }
 
   last_at : (last : Estimate) → slice_get old.last.items est.context ≡ Some last → (x : ℕ) → (x ≡ est.context) ⊎ (x ≡ est.context → ⊥)
-      → slice_get (set old.last.items est.context est.estimate) x ≡ (if nat_lt x (contexts trace) then Some (newest_of opened x (est ∷ s.estimates)) else None)
+      → slice_get (set old.last.items est.context est.estimate) x ≡ (if nat_lt x (contexts trace) then Some (newest_of trace opened x (est ∷ s.estimates)) else None)
   last_at last is x (inl e) =
-      let found = found_is (nat_lt est.context (contexts trace)) (newest_of opened est.context s.estimates) last (sym (keeps.last est.context) ∙ is) in
+      let found = found_is (nat_lt est.context (contexts trace)) (newest_of trace opened est.context s.estimates) last (sym (keeps.last est.context) ∙ is) in
       ap (slice_get (set old.last.items est.context est.estimate)) e
       ∙ slice_get-set_same old.last.items est.context last est.estimate is
-      ∙ ap Some (sym (newest_other opened x est s.estimates true (is_eq est.context x (sym e))))
-      ∙ sym (ap (λ t. if t then Some (newest_of opened x (est ∷ s.estimates)) else None) (ap (λ y. nat_lt y (contexts trace)) e ∙ found.0))
+      ∙ ap Some (sym (newest_other trace opened x est s.estimates true (is_eq est.context x (sym e))))
+      ∙ sym (ap (λ t. if t then Some (newest_of trace opened x (est ∷ s.estimates)) else None) (ap (λ y. nat_lt y (contexts trace)) e ∙ found.0))
   last_at last is x (inr apart) =
       slice_get-set_other old.last.items est.context x est.estimate apart
       ∙ keeps.last x
-      ∙ ap (λ l. if nat_lt x (contexts trace) then Some l else None) (sym (newest_other opened x est s.estimates false (is_apart est.context x (λ e. apart (sym e)))))
+      ∙ ap (λ l. if nat_lt x (contexts trace) then Some l else None) (sym (newest_other trace opened x est s.estimates false (is_apart est.context x (λ e. apart (sym e)))))
 
   pub is_next : (new : Estimates) (last : Estimate) → slice_get old.last.items est.context ≡ Some last → follows last est.estimate ≡ true
       → new.counts.items ≡ old.counts.items → new.last.items ≡ set old.last.items est.context est.estimate → new.named ≡ old.named → IsNext trace opened all new s est None
@@ -255,8 +257,20 @@ slice_get-replicate n v b (inr le) =
     slice_get_past (replicate n b) v (rw (length-replicate n b) le)
     ∙ sym (ap (λ t. if t then Some b else None) (lt_not v n le))
 
-pub last_first : (trace : Trace) (opened : ℕ) (last : List Estimate) → last ≡ replicate (contexts trace) (first_at opened) → AreLast trace opened [] last
-last_first trace opened last is x = ap (λ l. slice_get l x) is ∙ slice_get-replicate (contexts trace) x (first_at opened) (cases_lt x (contexts trace))
+-- the estimate that the context at a place begins with, and none where there is no context
+first_at_place : (trace : Trace) (opened x : ℕ) → (x < contexts trace) ⊎ (contexts trace ≤ x)
+    → slice_get (first_estimates trace opened) x ≡ (if nat_lt x (contexts trace) then Some (first_estimate trace x opened) else None)
+first_at_place trace opened x (inl lt) =
+    let first = first_estimate trace x opened in
+    slice_get-get_or (first_estimates trace opened) x first (rw (length-map trace.contexts (λ (line : Context). first_by line.estimate opened)) lt)
+    ∙ ap Some (first_in_range trace x opened first lt)
+    ∙ sym (ap (λ t. if t then Some first else None) (lt_is x (contexts trace) lt))
+first_at_place trace opened x (inr le) =
+    slice_get_past (first_estimates trace opened) x (rw (length-map trace.contexts (λ (line : Context). first_by line.estimate opened)) le)
+    ∙ sym (ap (λ t. if t then Some (first_estimate trace x opened) else None) (lt_not x (contexts trace) le))
+
+pub last_first : (trace : Trace) (opened : ℕ) (last : List Estimate) → last ≡ first_estimates trace opened → AreLast trace opened [] last
+last_first trace opened last is x = ap (λ l. slice_get l x) is ∙ first_at_place trace opened x (cases_lt x (contexts trace))
 
 pub named_first : (trace : Trace) (named : List ℕ) → named ≡ replicate (contexts trace) 0 → AreNamed trace [] named
 named_first trace named is = subst (AreNamed trace []) (sym is) (nothing_named trace)

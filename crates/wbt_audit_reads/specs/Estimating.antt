@@ -43,7 +43,7 @@ abbrev pub Counts : (act : Option Act) (old new : List ℕ) → Type 0
 Counts act old new = (contexts : ℕ) (entries : List Told) → AreCounts contexts entries old → AreCounts contexts (entries ++ told_by act) new
 
 abbrev pub AreLast : (trace : Trace) (opened : ℕ) (seen : List EstEntry) (last : List Estimate) → Type 0
-AreLast trace opened seen last = (x : ℕ) → slice_get last x ≡ (if nat_lt x (contexts trace) then Some (newest_of opened x seen) else None)
+AreLast trace opened seen last = (x : ℕ) → slice_get last x ≡ (if nat_lt x (contexts trace) then Some (newest_of trace opened x seen) else None)
 
 abbrev pub AreNamed : (trace : Trace) (seen : List Named) (newest : List ℕ) → Type 0
 AreNamed trace seen newest =

@@ -1,23 +1,24 @@
 //! Estimates: those of a context follow one another, and a check names one of them, no older than its CPU had named.
 
-ghost use Rattle.std.specs.Prelude.{◌≡◌, ◌<◌, ◌^◌, IfOk, option_copied, replicate, slice_get};
+ghost use Rattle.std.specs.Prelude.{◌≡◌, ◌<◌, ◌^◌, IfOk, length, option_copied, slice_get};
 ghost use Rattle.wbt_trace.specs.Lawful.{IsLawful};
 ghost use Rattle.wbt_journal.specs.Estimates.{opened_at as opening, no_sight, decision_at as last_line};
 ghost use Rattle.wbt_journal.specs.Items.{all_told};
 ghost use Rattle.wbt_journal.specs.Machine.{contexts};
 ghost use Rattle.wbt_journal.specs.Verdict as verdict;
+ghost use Rattle.wbt_rules.specs.First.{first_estimates};
 ghost use Rattle.wbt_audit_reads.specs.Estimating as spec;
 ghost use Rattle.wbt_audit_walk.specs.Walks.{item_of};
 
 use crate::follows::follows;
 use std::alloc::Global;
 use wbt_audit_walk::act::Act;
-use wbt_audit_walk::first::first_at;
 use wbt_audit_walk::newest::{Newest, zeros};
 use wbt_audit_walk::walk::{Step, Walk};
 use wbt_estimate::Estimate;
 use wbt_journal::{CheckEntry, EstEntry, Journal, TimerEntry};
 use wbt_num::NoMemory;
+use wbt_rules::first_by;
 use wbt_trace::Trace;
 
 /// The first line at fault, which tells an estimate or a check.
@@ -54,9 +55,9 @@ impl Estimates {
         ensures { IfOk result (λ kept. spec.KeepsEstimates trace.now (opening journal.now.timer) (all_told journal.now) kept no_sight) }
     {
         let contexts = contexts_of(trace);
-        let first = first_at(opened_at(journal.timer.as_slice()));
+        let opened = opened_at(journal.timer.as_slice());
         let counts = counts_of(alloc, contexts, journal)?;
-        let last = first_of(alloc, contexts, first)?;
+        let last = firsts_of(alloc, trace, opened)?;
         let named = Newest::make(alloc, contexts)?;
         Ok(Estimates {
             counts,
@@ -178,13 +179,13 @@ fn contexts_of(trace: &Trace) -> usize
     trace.contexts.as_slice().len()
 }
 
-// So many times an estimate.
-fn first_of(alloc: Global, contexts: usize, first: Estimate) -> Result<Vec<Estimate>, NoMemory>
-    ensures { IfOk result (λ last. last.items ≡ replicate contexts first) }
+// The estimate that each context begins with.
+fn firsts_of(alloc: Global, trace: &Trace, opened: u64) -> Result<Vec<Estimate>, NoMemory>
+    ensures { IfOk result (λ last. last.items ≡ first_estimates trace.now opened) }
 {
-    let mut last = Vec::with_capacity(alloc, contexts)?;
-    for _ in 0..contexts {
-        last.push(first)?;
+    let mut last = Vec::with_capacity(alloc, contexts_of(trace))?;
+    for context in trace.contexts.as_slice() {
+        last.push(first_by(context.estimate, opened))?;
     }
     Ok(last)
 }

@@ -95,6 +95,32 @@ fn a_hard_limit_that_does_not_follow_is_told_with_its_line(rt: HostRuntime) -> R
     Ok(())
 }
 
+// The same where the disk failed to write the two pages at first.
+const FAILED_ONCE_TEXT: &str =
+    "timer\nlimits 0 1 19995 9985 19995\ncpu 0\nwrite 0 0 fresh\nwrite 0 1 fresh\nclaim 0 0\nclaim 0 1\nfault 0 2\nback 0 0 dirty\nback 0 1 dirty\nclaim 0 0\nclaim 0 1\nbatch 0 2 1001 1002\ndone 0 0\ndone 0 1\nshare 0 0 2\ncensus 0 0\ntotals 2 2\nend done\n";
+
+#[test]
+fn a_batch_has_no_more_pages_than_its_devices_line_says(rt: HostRuntime) -> Result<(), Fail> {
+    for (line, text, wanted) in [
+        ("chunk 0 2\n", TWO_PAGES_TEXT, LAWFUL),
+        ("chunk 0 2\n", FAILED_ONCE_TEXT, LAWFUL),
+        (
+            "chunk 0 1\n",
+            TWO_PAGES_TEXT,
+            unlawful("broken clause 14 line 8\n"),
+        ),
+        (
+            "chunk 0 1\n",
+            FAILED_ONCE_TEXT,
+            unlawful("broken clause 14 line 8\n"),
+        ),
+    ] {
+        let pieces = [EMPTY, line, WRITES_TWO, "journal\n", text];
+        assert!(rt; is_judged(rt.alloc(), &pieces, wanted)?);
+    }
+    Ok(())
+}
+
 // The journal of a page that stood first in its flusher's list, but for the moment of its notice.
 const NOTICED: &str = "timer\nlimits 0 1 19995 9985 19995\ncpu 0\nwrite 0 0 fresh\nnotice 0 0 ";
 

@@ -1,11 +1,11 @@
 -- The walk over a journal's checks, each with the mark that its line calls for.
 use Rattle.std.proofs.Common.{◌≡◌, ℕ, ◌+◌, Bool, true, false, not, ◌&&◌, ◌||◌, Option, Some, None, List, [], ◌∷◌, ◌++◌, length, map, replicate, zero, suc, refl, sym, ap, ◌∙◌}
 use Rattle.std.specs.List.{list_all}
-use Rattle.wbt_estimate.specs.Estimate.{first_at}
 use Rattle.wbt_estimate.specs.declared.estimate.Estimate.{Estimate}
 use Rattle.wbt_task.specs.Allowance.{first}
 use Rattle.wbt_task.specs.History.{new_cpu, new_writer}
 use Rattle.wbt_trace.specs.declared.trace.Trace.{Trace}
+use Rattle.wbt_rules.specs.First.{first_estimate}
 use Rattle.wbt_journal.specs.Checks.{decides_by, decision_fault, is_writer_quiet, nth_estimate, none_due, stands_fault, with_marks}
 use Rattle.wbt_journal.specs.Effects.{effect, of_part}
 use Rattle.wbt_journal.specs.Estimates.{decision_at, estimates_of, opened_at}
@@ -110,7 +110,7 @@ module _ (trace : Trace) (j : Journal) where
   -- where these are the estimates of a context
   abbrev asked_of : (estimates : ℕ → List Estimate) (s : spec.Side) (cpu : ℕ) (check : CheckEntry) → Option ℕ
   asked_of estimates s cpu check =
-      unless (not (is_own_task trace cpu check.task) || decides_by trace s check (nth_estimate check.estimate (first_at opened ∷ estimates check.context))) (decision_at check)
+      unless (not (is_own_task trace cpu check.task) || decides_by trace s check (nth_estimate check.estimate (first_estimate trace check.context opened ∷ estimates check.context))) (decision_at check)
 
   decision_same : (s : spec.Side) (x : Item) → decision_fault trace opened (all_told (with_marks trace j)) s x ≡ decision_fault trace opened (all_told j) s x
   decision_same s (begins cpu) = refl

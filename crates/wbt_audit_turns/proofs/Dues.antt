@@ -17,6 +17,6 @@ due_soon trace context fits = by_line (context_at trace context).expire fits
 pub due_near : (trace : Trace) → IsLawful trace → (inode since : ℕ) → inode < length trace.inodes → since < 2 ^ 62 → due_after trace inode since < 2 ^ 62 + reach
 due_near trace lawful inode since there before =
     let its = lawful.within.inodes.each inode (record { first = 0; pages = 0; context = 0 }) there in
-    let fits = lawful.within.contexts (context_of trace inode) (record { device = 0; domain = 0; expire = None }) its.0 in
+    let fits = lawful.within.contexts (context_of trace inode) (record { device = 0; domain = 0; expire = None; estimate = None }) its.0 in
     let soon = due_soon trace (context_of trace inode) fits.2 in
     omega (arith, soon, before)

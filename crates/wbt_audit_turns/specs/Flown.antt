@@ -2,7 +2,7 @@
 use Rattle.std.specs.Prelude.{◌≡◌, ℕ, ◌-◌, ◌<◌, ◌≤◌, Bool, true, false, ◌==◌, Option, Some, None, List, ◌∷◌, length}
 use Rattle.wbt_rules.specs.declared.moments.TheConstants.{MOST_FAULTS}
 use Rattle.wbt_journal.specs.Effects.{Flight, Wait, effect, of_part}
-use Rattle.wbt_journal.specs.Flights.{ToldFlusher, ToldPhase, scanning, flying, returning, failed, emptied, returned, may_move, moved}
+use Rattle.wbt_journal.specs.Flights.{ToldFlusher, ToldPhase, scanning, flying, returning, failed, emptied, returned, may_move, meets_chunk, moved}
 use Rattle.wbt_journal.specs.Told.{Told}
 use Rattle.wbt_audit_turns.specs.declared.flusher.Phase.{Phase}
 use Rattle.wbt_audit_turns.specs.declared.flusher.Phase.TheVariants as phase
@@ -68,3 +68,8 @@ may_come entry flusher = of_part true (λ (flight : Flight). may_move flight.mov
 
 abbrev pub moved_by : (entry : Told) (flusher : ToldFlusher) → ToldFlusher
 moved_by entry flusher = of_part flusher (λ (flight : Flight). moved flight.move flusher) (effect entry).flight
+
+-- ---- how many pages it hands over
+
+abbrev pub meets_by : (chunk : Option ℕ) (entry : Told) → Bool
+meets_by chunk entry = of_part true (λ (flight : Flight). meets_chunk chunk flight.move) (effect entry).flight

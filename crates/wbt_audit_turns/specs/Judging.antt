@@ -64,7 +64,7 @@ asked_in_range trace s check (Some estimate) =
 
 -- whether a check, with the mark that its line calls for, decides as it is asked
 abbrev pub is_asked : (trace : Trace) (opened : ℕ) (all : List Told) (s : spec.Side) (check : CheckEntry) → Bool
-is_asked trace opened all s check = decides_by trace s (with_mark trace check) (named_estimate opened all check)
+is_asked trace opened all s check = decides_by trace s (with_mark trace check) (named_estimate trace opened all check)
 
 -- the side after a check of a task of its CPU
 abbrev pub side_checked : (trace : Trace) (opened : ℕ) (check : CheckEntry) (s : spec.Side) → spec.Side

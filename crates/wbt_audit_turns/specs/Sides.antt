@@ -1,6 +1,5 @@
 -- What the audit keeps of a machine and of a CPU's side, and what stands for it in the definitions.
 use Rattle.std.specs.Prelude.{◌≡◌, ℕ, ◌+◌, ◌*◌, ◌^◌, ◌<◌, ◌≤◌, Bool, false, not, ◌&&◌, ◌==◌, List, [], length, map, get_or, slice_get}
-use Rattle.wbt_estimate.specs.Estimate.{first_at}
 use Rattle.wbt_estimate.specs.declared.estimate.Estimate.{Estimate}
 use Rattle.wbt_num.specs.declared.most.TheConstants.{MOST_CONTEXTS, MOST_TASKS}
 use Rattle.wbt_num.specs.Limits.{IsLawful as AreLimits}
@@ -75,7 +74,7 @@ pub record Fits (machine : Machine) (side : Side) : Type 0 where
 -- ---- estimates and decisions
 
 pub record AreNamed (opened contexts : ℕ) (all : List Told) (named : Named) : Type 0 where
-  pub first : named.first ≡ first_at opened
+  pub opened_at : named.opened ≡ opened
   pub long : length named.of_contexts.items ≡ contexts
   pub each : (context : ℕ) → context < contexts → get_or named.of_contexts.items context [] ≡ estimates_of context all
 

@@ -316,13 +316,16 @@ impl<'a> Judge<'a> {
         requires named { AreNamed self.now.machine.opened (length self.now.machine.trace.now.contexts) (all_told journal.now) self.now.named }
         requires there { check.now.task < length self.now.machine.trace.now.tasks }
         requires context { check.now.context < length self.now.machine.trace.now.contexts }
-        ensures value { result ≡ asked_in_range self.now.machine.trace.now (side_of self.now.side) check.entry.now (spec.named_estimate self.now.machine.opened (all_told journal.now) check.entry.now) }
+        ensures value { result ≡ asked_in_range self.now.machine.trace.now (side_of self.now.side) check.entry.now (spec.named_estimate self.now.machine.trace.now self.now.machine.opened (all_told journal.now) check.entry.now) }
         ensures settles { IfSome result (λ decision. decision.task.nr_dirtied ≤ (writer_of (side_of self.now.side).cpu (number_of self.now.machine.trace.now check.entry.now.task check.entry.now.context)).task.nr_dirtied) }
     {
         let task = self
             .side
             .numbers(self.machine.number(check.task, check.context));
-        match self.named.estimate(check.context, check.estimate) {
+        match self
+            .named
+            .estimate(self.machine.trace, check.context, check.estimate)
+        {
             None => None,
             Some(estimate) => asked_by(self.machine.trace, check, &estimate, task),
         }

@@ -8,7 +8,7 @@ ghost use Rattle.wbt_journal.specs.Verdict as spec;
 ghost use Rattle.wbt_journal.specs.Walk.{unless};
 ghost use Rattle.wbt_trace.specs.Lawful.{IsLawful};
 ghost use Rattle.wbt_audit_walk.specs.Acts.{told_of};
-ghost use Rattle.wbt_audit_turns.specs.Flown.{flusher_named};
+ghost use Rattle.wbt_audit_turns.specs.Flown.{flusher_named, meets_by};
 ghost use Rattle.wbt_audit_walk.specs.Walks.{item_of};
 
 use crate::flusher::Flusher;
@@ -18,6 +18,7 @@ use wbt_audit_walk::things::is_own_flusher;
 use wbt_audit_walk::walk::{Step, Walk};
 use wbt_journal::Journal;
 use wbt_num::NoMemory;
+use wbt_rules::{chunk_at, is_within_chunk};
 use wbt_trace::Trace;
 
 /// The first line of a flusher that may not come there; None where each flusher works in turn. It takes four bytes for each page of
@@ -100,11 +101,22 @@ fn judge_act(
     match flusher_of(act) {
         None => Ok(true),
         Some(flusher) => {
-            if !is_own_flusher(trace, cpu, flusher) {
+            if !is_own_flusher(trace, cpu, flusher) || !meets_chunk(chunk_at(trace, flusher), act) {
                 return Ok(false);
             }
             flushers[flusher as usize].follow(act)
         }
+    }
+}
+
+// Whether a batch, or a fault, has no more pages than its device's line says.
+fn meets_chunk(chunk: Option<u32>, act: &Act) -> bool
+    ensures { result ≡ meets_by chunk (told_of act.now) }
+{
+    match *act {
+        Act::Batch { pages, .. } => is_within_chunk(chunk, u64::from(pages)),
+        Act::Fault { pages, .. } => is_within_chunk(chunk, u64::from(pages)),
+        _ => true,
     }
 }
 

@@ -5,20 +5,22 @@ ghost use Rattle.wbt_journal.specs.Checks.{nth_estimate};
 ghost use Rattle.wbt_journal.specs.Items.{all_told};
 ghost use Rattle.wbt_audit_turns.specs.Sides.{AreNamed, estimates_in};
 ghost use Rattle.wbt_audit_walk.specs.Walks.{item_of};
+ghost use Rattle.wbt_rules.specs.First.{first_estimate as first_value};
 
 use std::alloc::Global;
 use wbt_audit_walk::act::Act;
-use wbt_audit_walk::first::first_at;
 use wbt_audit_walk::walk::{Step, Walk};
 use wbt_estimate::Estimate;
 use wbt_journal::Journal;
 use wbt_num::{Items, NoMemory};
+use wbt_rules::first_estimate;
+use wbt_trace::Trace;
 
 /// The estimates of each context, in order, behind the first of the opening.
 #[derive(Drop)]
 pub struct Named {
-    /// The first estimate of each context.
-    pub first: Estimate,
+    /// The moment, in ticks, of the first estimates.
+    pub opened: u64,
     /// Those that were published, by context.
     pub of_contexts: Vec<Items<Estimate>>,
 }
@@ -39,18 +41,19 @@ impl Named {
             put(&mut of_contexts, &step)?;
         }
         Ok(Named {
-            first: first_at(opened),
+            opened,
             of_contexts,
         })
     }
 
     /// The estimate of a context's version; none where the journal doesn't have it.
-    pub fn estimate(&self, context: u32, version: u64) -> Option<Estimate>
-        requires { context < length self.now.of_contexts.items }
-        ensures { result ≡ nth_estimate version (self.now.first ∷ get_or self.now.of_contexts.items context []) }
+    pub fn estimate(&self, trace: &Trace, context: u32, version: u64) -> Option<Estimate>
+        requires context { context < length trace.now.contexts }
+        requires list { context < length self.now.of_contexts.items }
+        ensures { result ≡ nth_estimate version (first_value trace.now context self.now.opened ∷ get_or self.now.of_contexts.items context []) }
     {
         if version == 0 {
-            return Some(self.first);
+            return Some(first_estimate(trace, context, self.opened));
         }
         let estimates = self.of_contexts[context as usize].as_slice();
         estimate_at(estimates, (version - 1) as usize)

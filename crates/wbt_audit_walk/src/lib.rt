@@ -16,7 +16,6 @@
 #![tactic(auto)]
 
 pub mod act;
-pub mod first;
 pub mod gather;
 pub mod lines;
 pub mod lists;

@@ -3,14 +3,15 @@
 ghost use Rattle.std.specs.Prelude.{◌^◌, ◌<◌};
 
 use std::test::Fail;
+use wbt_estimate::Estimate;
 use wbt_limits::Pair;
 use wbt_num::Limits;
 use wbt_position::DomainRead;
 use wbt_rules::{
-    avail_at, chunk_of, context_of, due_after, is_ageing, is_over_own, limits_after, next_period,
-    periods_by,
+    avail_at, chunk_at, chunk_of, context_of, due_after, first_estimate, is_ageing, is_over_own,
+    is_within_chunk, limits_after, next_period, periods_by, quota_of,
 };
-use wbt_trace::{Avail, Trace};
+use wbt_trace::{Avail, Device, Trace};
 use wbt_trace_text::read_trace;
 
 // Two devices; a context of the second says after how long its inodes are due, and each of its two contexts has an inode.
@@ -55,6 +56,79 @@ fn a_chunk_is_half_a_second_in_steps_of_1024(rt: HostRuntime) -> Result<(), Fail
     assert_eq!(rt; chunk_of(25600, 1000000), 13312);
     assert_eq!(rt; chunk_of(25600, 19995), 3072);
     assert_eq!(rt; chunk_of(0, 0), 1024);
+    Ok(())
+}
+
+// With how many pages a scan ends, where the device has such a line and the laws give 13312.
+fn quota_by(chunk: Option<u32>) -> u64 {
+    let device = Device {
+        rate: 25600,
+        min: 0,
+        max: 100,
+        strict: false,
+        chunk,
+    };
+    quota_of(&device, 25600, 1000000)
+}
+
+#[test]
+fn a_devices_line_ends_a_scan_earlier_and_never_later(rt: HostRuntime) -> Result<(), Fail> {
+    assert_eq!(rt; quota_by(None), 13312);
+    assert_eq!(rt; quota_by(Some(2097152)), 13312);
+    assert_eq!(rt; quota_by(Some(13311)), 13311);
+    assert_eq!(rt; quota_by(Some(1)), 1);
+    Ok(())
+}
+
+// The second device has a chunk; flusher and context 0 are its own, flusher and context 1 are of the first.
+static CROSSED: &[u8] =
+    b"cpus 1\navail 0 9\ndevice 0 7 0 100\ndevice 1 7 0 100\nchunk 1 3\ncontext 0 1 0\ncontext 1 0 0\nestimate 1 100 90 50\nflusher 0 1 0\nflusher 1 0 0\n";
+
+#[test]
+fn a_flusher_has_the_chunk_of_its_device(rt: HostRuntime) -> Result<(), Fail> {
+    let trace = read_trace(rt.alloc(), CROSSED)?;
+    assert_eq!(rt; chunk_at(&trace, 0), Some(3));
+    assert_eq!(rt; chunk_at(&trace, 1), None);
+    assert_eq!(rt; is_within_chunk(Some(3), 3), true);
+    assert_eq!(rt; is_within_chunk(Some(3), 4), false);
+    assert_eq!(rt; is_within_chunk(None, 4), true);
+    Ok(())
+}
+
+// The first estimate of a context; None where the trace doesn't have it.
+fn first_of(trace: &Trace, context: u32) -> Option<Estimate> {
+    if context as usize >= trace.contexts.as_slice().len() {
+        return None;
+    }
+    Some(first_estimate(trace, context, 7))
+}
+
+#[test]
+fn a_context_begins_with_the_rates_of_its_line_or_with_25600(rt: HostRuntime) -> Result<(), Fail> {
+    let trace = read_trace(rt.alloc(), CROSSED)?;
+    let without = Estimate {
+        version: 0,
+        bw: 25600,
+        avg: 25600,
+        ratelimit: 25600,
+        balanced: 25600,
+        written_stamp: 0,
+        dirtied_stamp: 0,
+        at: 7,
+    };
+    let with = Estimate {
+        version: 0,
+        bw: 100,
+        avg: 90,
+        ratelimit: 50,
+        balanced: 50,
+        written_stamp: 0,
+        dirtied_stamp: 0,
+        at: 7,
+    };
+    assert_eq!(rt; first_of(&trace, 0), Some(without));
+    assert_eq!(rt; first_of(&trace, 1), Some(with));
+    assert_eq!(rt; first_of(&trace, 2), None);
     Ok(())
 }
 

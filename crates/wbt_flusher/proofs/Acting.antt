@@ -9,6 +9,7 @@ use Rattle.wbt_fraction.specs.Several as fraction
 use Rattle.wbt_fraction.specs.Totals.{room_of}
 use Rattle.wbt_grant.specs.declared.record.CpuRecord.{CpuRecord}
 use Rattle.wbt_io.specs.Pages.{Grows}
+use Rattle.wbt_estimate.specs.declared.estimate.Estimate.{Estimate}
 use Rattle.wbt_published.specs.Passes as est
 use Rattle.wbt_table.specs.Rule.{Has}
 use Rattle.wbt_trace.specs.declared.trace.Trace.{Trace}
@@ -144,11 +145,11 @@ module _ (plan : FlusherPlan) (kit : Kit) (told : Moments) (old new : Sight) (ac
   notes_stay : (base : Worker) → notes_of base new ≡ notes_of base old
   notes_stay base = ap (λ (z : fraction.Seats × est.Seats). notes_by base z.0 z.1) (λ i. (act.share i, act.est i))
 
-  notes_told : (base : Worker) → SharesGrew plan.cpu act.added (notes_of base old) (notes_of base new) × EstimatesGrew kit.published.moment plan.cpu act.added (notes_of base old) (notes_of base new)
-  notes_told base = subst (λ (n : Notes). SharesGrew plan.cpu act.added (notes_of base old) n × EstimatesGrew kit.published.moment plan.cpu act.added (notes_of base old) n) (sym (notes_stay base)) (
+  notes_told : (base : Worker) → SharesGrew plan.cpu act.added (notes_of base old) (notes_of base new) × EstimatesGrew kit.published.firsts plan.cpu act.added (notes_of base old) (notes_of base new)
+  notes_told base = subst (λ (n : Notes). SharesGrew plan.cpu act.added (notes_of base old) n × EstimatesGrew kit.published.firsts plan.cpu act.added (notes_of base old) n) (sym (notes_stay base)) (
     shares_by plan.flusher plan.cpu act.added (notes_of base old) (notes_of base old) act.of_flusher (λ domain context. refl) (λ domain. longer_none ((notes_of base old).shares domain))
         (λ domain context. let none = act.adds_none domain context in omega arith) (λ domain. refl),
-    plain_estimates kit.published.moment plan.cpu act.added (notes_of base old) (notes_of base old) act.plain (λ context. refl),
+    plain_estimates kit.published.firsts plan.cpu act.added (notes_of base old) (notes_of base old) act.plain (λ context. refl),
   )
 
   turn_told : (trace : Trace) → IsWork trace plan kit → (base : Worker)
@@ -166,7 +167,7 @@ module _ (plan : FlusherPlan) (kit : Kit) (told : Moments) (old new : Sight) (ac
       written_stays = λ task. refl;
     };
     shares = (notes_told base).0;
-    estimates = (notes_told base).1;
+    estimates = subst (λ (l : List Estimate). EstimatesGrew l plan.cpu act.added (notes_of base old) (notes_of base new)) is.firsts (notes_told base).1;
   }
 
   pub did_act : Did plan kit told old new

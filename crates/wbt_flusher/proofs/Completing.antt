@@ -1,5 +1,5 @@
 -- A page of a flight is completed, and told.
-use Rattle.std.proofs.Common.{◌≡◌, ℕ, ◌+◌, ◌<◌, ◌≤◌, Bool, true, if◌then◌else◌, Some, None, List, [], ◌∷◌, All, length, get_or, map, sym, refl, ap, ◌∙◌, subst, arith, cond, eqb, eq-eqb}
+use Rattle.std.proofs.Common.{◌≡◌, ℕ, ◌+◌, ◌<◌, ◌≤◌, Bool, true, false, if◌then◌else◌, Some, None, List, [], ◌∷◌, All, length, get_or, map, sym, refl, ap, ◌∙◌, subst, arith, cond, eqb, eq-eqb}
 use Rattle.std.specs.Prelude.{negsuc}
 use Rattle.std.proofs.lemmas.Bool.{cond_both, cond-true, lt-ltb}
 use Rattle.std.proofs.lemmas.Option.{get_or_from_slice_get, slice_get_within}
@@ -17,13 +17,15 @@ use Rattle.wbt_num.specs.declared.most.TheConstants.{MOST_PAGE_STEPS}
 use Rattle.wbt_table.specs.Layout.{setting, HasCounter, domains}
 use Rattle.wbt_table.specs.Rule.{Has}
 use Rattle.wbt_table.specs.Seat.{Changes}
+use Rattle.wbt_trace.specs.declared.trace.Device.{Device}
 use Rattle.wbt_trace.specs.declared.trace.FlusherLine.{FlusherLine}
 use Rattle.wbt_trace.specs.declared.trace.Trace.{Trace}
 use Rattle.wbt_journal.specs.Checks.{has_page}
 use Rattle.wbt_journal.specs.Each.{Each}
 use Rattle.wbt_journal.specs.Flights.{is_own_flusher}
 use Rattle.wbt_journal.specs.Machine.{page_context}
-use Rattle.wbt_rules.specs.Things.{flusher_cpu}
+use Rattle.wbt_rules.specs.Flusher.{chunk_at}
+use Rattle.wbt_rules.specs.Things.{device_at, flusher_cpu, flusher_device}
 use Rattle.wbt_journal.specs.Side.{is_on}
 use Rattle.wbt_journal.specs.Told.{done}
 use Rattle.wbt_journal.specs.declared.entry.CpuJournal.{CpuJournal}
@@ -39,7 +41,7 @@ use Rattle.wbt_run_steps.proofs.Ordering.{page_once}
 use Rattle.wbt_run_steps.proofs.Queues.{only_same}
 use Rattle.wbt_flusher.specs.Answers.{Goes}
 use Rattle.wbt_flusher.specs.Did.{Fits, Works, AreOwed}
-use Rattle.wbt_flusher.specs.Plans.{Suits, IsWork, context_of}
+use Rattle.wbt_flusher.specs.Plans.{Suits, IsPlanOf, IsWork, context_of}
 use Rattle.wbt_flusher.specs.Sights.{sight, pages_by, list_by}
 use Rattle.wbt_flusher.specs.Turns.{IsFlight, HoldsPages}
 use Rattle.wbt_flusher.specs.declared.plan.FlusherPlan.{FlusherPlan}
@@ -64,6 +66,15 @@ own_flusher trace plan kit work =
     let its : get_or trace.flushers plan.flusher (record { device = 0; cpu = 0 }) ≡ line = get_or_from_slice_get trace.flushers plan.flusher line (record { device = 0; cpu = 0 }) work.plan_is.line in
     ap (λ (b : Bool). is_on plan.cpu (if b then Some (flusher_cpu trace plan.flusher) else None)) (lt-ltb plan.flusher (length trace.flushers) (slice_get_within trace.flushers plan.flusher line work.plan_is.line))
     ∙ ap (λ (l : FlusherLine). is_on plan.cpu (Some l.cpu)) its ∙ eq-eqb plan.cpu plan.cpu refl
+
+-- the line of the flusher's device is the one that it knows
+pub chunk_is : (trace : Trace) (plan : FlusherPlan) → IsPlanOf trace plan → chunk_at trace plan.flusher ≡ plan.shares.chunk
+chunk_is trace plan is =
+    let line : FlusherLine = record { device = plan.device; cpu = plan.cpu } in
+    let no_line : FlusherLine = record { device = 0; cpu = 0 } in
+    let no_device : Device = record { rate = 1; min = 0; max = 100; strict = false; chunk = None } in
+    let device : flusher_device trace plan.flusher ≡ plan.device = ap (λ (l : FlusherLine). l.device) (get_or_from_slice_get trace.flushers plan.flusher line no_line is.line) in
+    ap (λ (d : ℕ). (device_at trace d).chunk) device ∙ ap (λ (d : Device). d.chunk) (get_or_from_slice_get trace.devices plan.device plan.shares no_device is.shares)
 
 pub page_is : (trace : Trace) (plan : FlusherPlan) (kit : Kit) (page : ℕ) → Suits plan kit → IsWork trace plan kit → page < plan.pages → has_page (page_context trace page) ≡ true
 page_is trace plan kit page suits work less = ap has_page (work.throttle.homes page (let a = suits.pages_are in let b = work.throttle.pages_are in omega arith))
@@ -143,7 +154,7 @@ module _ (plan : FlusherPlan) (kit : Kit) (old new : Seats) (before : CpuJournal
         plain = (record { no_check = refl; no_estimate = refl }, tt);
         adds_none = λ domain context. refl;
         logged = logged_entry (entry.Done plan.flusher page) before refl;
-        own = λ trace work. (record { write = tt; fold = tt; check = tt; flight = record { own = own_flusher trace plan kit work; page = page_is trace plan kit page suits work page_there }; share = tt; estimate = tt; wait = tt }, tt);
+        own = λ trace work. (record { write = tt; fold = tt; check = tt; flight = record { own = own_flusher trace plan kit work; page = page_is trace plan kit page suits work page_there; chunk = tt }; share = tt; estimate = tt; wait = tt }, tt);
         moments = (record { batch = tt; estimate = tt; wait = tt }, tt);
         pages = grows_none written;
         flew = completed_flew plan set' s t flight next n r was_at is_at inode landed tallies batch flies.some_left faults;

@@ -4,7 +4,7 @@ use Rattle.std.specs.Prelude.{slice_index_or, None, IfSome}
 use Rattle.std.proofs.lemmas.List.Sums.{sum_by-cons}
 use Rattle.std.proofs.lemmas.Option.{slice_get-get_or}
 use Rattle.wbt_journal.specs.Machine.{domains}
-use Rattle.wbt_trace.specs.Lawful.{IsExpire, IsLawful, AreFirsts}
+use Rattle.wbt_trace.specs.Lawful.{IsChunk, IsExpire, IsLawful, AreFirsts}
 use Rattle.wbt_trace.specs.Sofar.{least_shares, pages_in}
 use Rattle.wbt_trace.specs.declared.trace.Context.{Context}
 use Rattle.wbt_trace.specs.declared.trace.Device.{Device}
@@ -66,8 +66,8 @@ module _ (trace : Trace) (plan : FlusherPlan) (lawful : IsLawful trace) (inodes 
         few_domains = omega arith;
         few_contexts = let few_contexts = w.few_contexts in omega arith;
         groups = λ context less.
-            let of = w.contexts context (record { device = 0; domain = 0; expire = None }) (omega arith) in
-            let at : context_at plan context ≡ get_or trace.contexts context (record { device = 0; domain = 0; expire = None }) = ap (λ (l : List Context). get_or l context (record { device = 0; domain = 0; expire = None })) contexts in
+            let of = w.contexts context (record { device = 0; domain = 0; expire = None; estimate = None }) (omega arith) in
+            let at : context_at plan context ≡ get_or trace.contexts context (record { device = 0; domain = 0; expire = None; estimate = None }) = ap (λ (l : List Context). get_or l context (record { device = 0; domain = 0; expire = None; estimate = None })) contexts in
             let low : (context_at plan context).domain ≤ length trace.cgroups = subst (λ (x : Context). x.domain ≤ length trace.cgroups) (sym at) of.1 in
             omega arith;
         contexts = λ inode less.
@@ -83,10 +83,11 @@ module _ (trace : Trace) (plan : FlusherPlan) (lawful : IsLawful trace) (inodes 
         few_pages = omega arith;
         few_inodes = omega arith;
         expires = λ context less.
-            let of = w.contexts context (record { device = 0; domain = 0; expire = None }) (omega arith) in
-            let at : context_at plan context ≡ get_or trace.contexts context (record { device = 0; domain = 0; expire = None }) = ap (λ (l : List Context). get_or l context (record { device = 0; domain = 0; expire = None })) contexts in
+            let of = w.contexts context (record { device = 0; domain = 0; expire = None; estimate = None }) (omega arith) in
+            let at : context_at plan context ≡ get_or trace.contexts context (record { device = 0; domain = 0; expire = None; estimate = None }) = ap (λ (l : List Context). get_or l context (record { device = 0; domain = 0; expire = None; estimate = None })) contexts in
             subst (λ (x : Context). IfSome x.expire IsExpire) (sym at) of.2;
         shares = subst (λ (s : Device). (s.min ≤ s.max) × (s.max ≤ 100)) (sym shares) of_device.shares;
+        chunk = subst (λ (s : Device). IfSome s.chunk IsChunk) (sym shares) of_device.chunk;
         least = omega arith;
       }
 

@@ -195,7 +195,7 @@ module _ (plan : FlusherPlan) (kit : Kit) (old new : Seats) (giving : Return) (s
             plain = (record { no_check = refl; no_estimate = refl }, tt);
             adds_none = λ domain context. refl;
             logged = subst (λ (l : CpuJournal). Logged (gave_back plan.flusher page absorbed ∷ []) before l) (sym gives.told) (logged_entry (entry.Back plan.flusher page absorbed) before refl);
-            own = λ trace work. (record { write = tt; fold = tt; check = tt; flight = record { own = own_flusher trace plan kit work; page = page_is trace plan kit page suits work page_there }; share = tt; estimate = tt; wait = tt }, tt);
+            own = λ trace work. (record { write = tt; fold = tt; check = tt; flight = record { own = own_flusher trace plan kit work; page = page_is trace plan kit page suits work page_there; chunk = tt }; share = tt; estimate = tt; wait = tt }, tt);
             moments = (record { batch = tt; estimate = tt; wait = tt }, tt);
             pages = grows_none written;
             flew = flew_as plan.flusher (gave_back plan.flusher page absorbed ∷ []) s t (flights.returned (page ∷ rest)) (flights.returned rest)

@@ -4,6 +4,8 @@ use Rattle.std.proofs.lemmas.Bool.{cond-true, cond_both, lt-leb}
 use Rattle.std.specs.Prelude.{nat_le}
 use Rattle.wbt_book.specs.Ledger.{times_in}
 use Rattle.wbt_io.specs.Pages.{Grows}
+use Rattle.wbt_rules.proofs.Quotas.{within_less}
+use Rattle.wbt_trace.specs.declared.trace.Trace.{Trace}
 use Rattle.wbt_journal.specs.Flights as flights
 use Rattle.wbt_journal.specs.Told.{batch, fault}
 use Rattle.wbt_journal.specs.declared.entry.CpuJournal.{CpuJournal}
@@ -19,17 +21,18 @@ use Rattle.wbt_flusher.specs.Answers.{Went}
 use Rattle.wbt_flusher.specs.Did.{Moments, Fits}
 use Rattle.wbt_flusher.specs.Sights.{sight, phase_by, pages_by, landed_in, first_tallies, OwesRescan, OwesMark, list_by}
 use Rattle.wbt_flusher.specs.Turns.{AreOf, IsPaid, IsScan, IsFlight, IsReturn, OwesNoMore}
-use Rattle.wbt_flusher.specs.Plans.{IsInode, IsPlan, context_of}
+use Rattle.wbt_flusher.specs.Plans.{IsInode, IsPlan, IsPlanOf, context_of}
 use Rattle.wbt_flusher.specs.declared.plan.FlusherPlan.{FlusherPlan}
 use Rattle.wbt_flusher.specs.declared.work.Flight.{Flight}
 use Rattle.wbt_flusher.specs.declared.work.Phase.{Phase}
 use Rattle.wbt_flusher.specs.declared.work.Return.{Return}
 use Rattle.wbt_flusher.specs.declared.work.Phase.TheVariants.{Scanning, Flying, Returning, Failed}
+use Rattle.wbt_rules.specs.Flusher.{IsWithinChunk, chunk_at}
 use Rattle.wbt_rules.specs.declared.moments.TheConstants.{MOST_FAULTS}
 use Rattle.wbt_rules.specs.declared.scan.Scan.{Scan}
 use Rattle.wbt_flusher.specs.declared.work.FlusherWork.{FlusherWork}
 use Rattle.wbt_flusher.proofs.Acting.{did_act, flew_as, told_as}
-use Rattle.wbt_flusher.proofs.Completing.{own_flusher}
+use Rattle.wbt_flusher.proofs.Completing.{chunk_is, own_flusher}
 use Rattle.wbt_flusher.proofs.Going.{keeps_same}
 use Rattle.wbt_flusher.proofs.Noting.{grows_none}
 use Rattle.wbt_flusher.proofs.Owing.{owing_stays}
@@ -64,7 +67,7 @@ gives_up pages faults is not_last now =
     ap (λ (b : Bool). told_as (cond b flights.failed (flights.returned pages)) (faults + 1)) more ∙ ap (told_as (flights.returned pages)) (sym now)
 
 module _ (plan : FlusherPlan) (kit : Kit) (told : Moments) (seats : Seats) (before : CpuJournal) (was is : FlusherWork) (scan : Scan)
-    (fits : Fits plan kit seats) (paid : IsPaid plan scan seats) (was_at : was.phase ≡ Scanning scan)
+    (fits : Fits plan kit seats) (paid : IsPaid plan scan seats) (was_at : was.phase ≡ Scanning scan) (stands : IsScan plan was.batch.items scan)
     (some : 0 < length was.batch.items) (batch_same : is.batch.items ≡ was.batch.items) (wheel : is.wheel ≡ was.wheel) (less : OwesNoMore plan was is) where
   rescans_paid : (page : ℕ) → 1 ≤ times_in page (record_of plan.cpu seats.cpu.cpus).owed_rescans → OwesRescan plan was.phase page → ⊥
   rescans_paid page owes own = paid.rescans page owes (subst (λ (p : Phase). OwesRescan plan p page) was_at own)
@@ -74,6 +77,11 @@ module _ (plan : FlusherPlan) (kit : Kit) (told : Moments) (seats : Seats) (befo
 
   phase_was : phase_by was.batch.items was.phase ≡ flights.scanning was.batch.items
   phase_was = ap (phase_by was.batch.items) was_at
+
+  -- the batch is within the scan's quota, which is within what the device's line says
+  meets_chunk : (trace : Trace) → IsPlanOf trace plan → IsWithinChunk (chunk_at trace plan.flusher) (length was.batch.items)
+  meets_chunk trace is =
+      subst (λ (chunk : Option ℕ). IsWithinChunk chunk (length was.batch.items)) (sym (chunk_is trace plan is)) (within_less plan.shares.chunk (length was.batch.items) scan.quota stands.quota stands.chunk)
 
   pub flies_off : (flight : Flight) (now until : ℕ) (written written' : Option ℕ) → is.phase ≡ Flying flight → is.faults ≡ was.faults → flight.landed ≡ 0 → Contains told.batches now
       → Grows (Some (length was.batch.items)) written written'
@@ -93,7 +101,7 @@ module _ (plan : FlusherPlan) (kit : Kit) (told : Moments) (seats : Seats) (befo
           plain = (record { no_check = refl; no_estimate = refl }, tt);
           adds_none = λ domain context. refl;
           logged = logged_entry (entry.Batch plan.flusher (length was.batch.items) now until) before refl;
-          own = λ trace work. (record { write = tt; fold = tt; check = tt; flight = record { own = own_flusher trace plan kit work; page = tt }; share = tt; estimate = tt; wait = tt }, tt);
+          own = λ trace work. (record { write = tt; fold = tt; check = tt; flight = record { own = own_flusher trace plan kit work; page = tt; chunk = meets_chunk trace work.plan_is }; share = tt; estimate = tt; wait = tt }, tt);
           moments = (record { batch = has; estimate = tt; wait = tt }, tt);
           pages = subst (λ (n : ℕ). Grows (Some n) written written') (let one : length was.batch.items ≡ 0 + length was.batch.items = omega arith in one) grows;
           flew = flew_as plan.flusher (e ∷ []) s t (flights.scanning was.batch.items) (flights.emptied was.batch.items) phase_was left faults (hands plan.flusher was.batch.items now until was.faults some);
@@ -134,7 +142,7 @@ module _ (plan : FlusherPlan) (kit : Kit) (told : Moments) (seats : Seats) (befo
           plain = (record { no_check = refl; no_estimate = refl }, tt);
           adds_none = λ domain context. refl;
           logged = logged_entry (entry.Fault plan.flusher (length was.batch.items)) before refl;
-          own = λ trace work. (record { write = tt; fold = tt; check = tt; flight = record { own = own_flusher trace plan kit work; page = tt }; share = tt; estimate = tt; wait = tt }, tt);
+          own = λ trace work. (record { write = tt; fold = tt; check = tt; flight = record { own = own_flusher trace plan kit work; page = tt; chunk = meets_chunk trace work.plan_is }; share = tt; estimate = tt; wait = tt }, tt);
           moments = (record { batch = tt; estimate = tt; wait = tt }, tt);
           pages = grows_none written;
           flew = subst (λ (z : flights.ToldFlusher × flights.ToldFlusher). Flew plan.flusher z.0 (e ∷ []) z.1)

@@ -36,6 +36,7 @@ use Rattle.wbt_flusher.specs.declared.plan.FlusherPlan.{FlusherPlan}
 use Rattle.wbt_flusher.specs.declared.tally.Tallies.{Tallies}
 use Rattle.wbt_flusher.specs.declared.work.Phase.{Phase}
 use Rattle.wbt_flusher.specs.declared.work.Phase.TheVariants.{Scanning}
+use Rattle.wbt_rules.specs.Flusher.{IsWithinChunk}
 use Rattle.wbt_rules.specs.declared.scan.Scan.{Scan}
 use Rattle.wbt_flusher.specs.declared.work.FlusherWork.{FlusherWork}
 use Rattle.wbt_flusher.proofs.Acting.{did_act, flew_as, on_cpu, told_as}
@@ -104,7 +105,7 @@ module _ (plan : FlusherPlan) (kit : Kit) (old new : Seats) (before : CpuJournal
                 plain = (record { no_check = refl; no_estimate = refl }, tt);
                 adds_none = λ domain context. refl;
                 logged = logged_entry (entry.Claimed plan.flusher scan.page) before refl;
-                own = λ trace work. (record { write = tt; fold = tt; check = tt; flight = record { own = own_flusher trace plan kit work; page = page_is trace plan kit scan.page suits work page_there }; share = tt; estimate = tt; wait = tt }, tt);
+                own = λ trace work. (record { write = tt; fold = tt; check = tt; flight = record { own = own_flusher trace plan kit work; page = page_is trace plan kit scan.page suits work page_there; chunk = tt }; share = tt; estimate = tt; wait = tt }, tt);
                 moments = (record { batch = tt; estimate = tt; wait = tt }, tt);
                 pages = grows_none written;
                 flew = flew_as plan.flusher (claimed plan.flusher scan.page ∷ []) s t (flights.scanning was.batch.items) (flights.scanning (was.batch.items ++ scan.page ∷ []))
@@ -210,8 +211,8 @@ both_of n page = both_bits (n / 2 ^ shift_of page)
 -- ---- where the scan stands
 
 pub passed_scan : (plan : FlusherPlan) (was is : List ℕ) (scan next : Scan) → IsScan plan was scan → scan.page < end_of plan scan.inode → next.page ≡ scan.page + 1 → next.inode ≡ scan.inode
-    → All (λ page. page < plan.pages) is → AreOf plan scan.inode is → length is ≤ length was + 1 → IsScan plan is next
-passed_scan plan was is scan next stands within page inode pages own few =
+    → next.quota ≡ scan.quota → All (λ page. page < plan.pages) is → AreOf plan scan.inode is → length is ≤ length was + 1 → length is ≤ scan.quota → IsScan plan is next
+passed_scan plan was is scan next stands within page inode quota pages own few within_quota =
     let end = ap (end_of plan) inode in
     let first = ap (λ (i : ℕ). (inode_at plan i).first) inode in
     let low = stands.from in
@@ -223,6 +224,8 @@ passed_scan plan was is scan next stands within page inode pages own few =
       pages = pages;
       own = subst (λ (i : ℕ). AreOf plan i is) (sym inode) own;
       few = omega arith;
+      quota = omega arith;
+      chunk = subst (IsWithinChunk plan.shares.chunk) (sym quota) stands.chunk;
     }
 
 -- ---- where the gate stopped a claim
@@ -259,17 +262,17 @@ stops_at plan kit said page old new (after_its_look n claimable change logs aske
 abbrev Own : (plan : FlusherPlan) (inode page : ℕ) → Type 0
 Own plan inode page = ((inode_at plan inode).first ≤ page) × (page < end_of plan inode)
 
-pub claimed_stands : (plan : FlusherPlan) (was is : FlusherWork) (scan next : Scan) → IsPlan plan → IsScan plan was.batch.items scan → scan.page < end_of plan scan.inode → is.phase ≡ Scanning next
+pub claimed_stands : (plan : FlusherPlan) (was is : FlusherWork) (scan next : Scan) → IsPlan plan → IsScan plan was.batch.items scan → scan.page < end_of plan scan.inode → length was.batch.items < scan.quota → is.phase ≡ Scanning next
     → next.page ≡ scan.page + 1 → next.inode ≡ scan.inode → next.quota ≡ scan.quota → is.faults ≡ was.faults → is.batch.items ≡ was.batch.items ++ scan.page ∷ [] → HasPassed plan scan next was is
-claimed_stands plan was is scan next plan_is stands within at page inode quota faults batch =
+claimed_stands plan was is scan next plan_is stands within below at page inode quota faults batch =
     let less : scan.page < plan.pages = (let low = plan_is.pages scan.inode stands.inode.there in omega arith) in
     let long = length-append was.batch.items (scan.page ∷ []) in
     let many = ap (λ (l : List ℕ). length l) batch in
     record {
       phase = at;
-      stands = passed_scan plan was.batch.items is.batch.items scan next stands within page inode
+      stands = passed_scan plan was.batch.items is.batch.items scan next stands within page inode quota
           (subst (λ (l : List ℕ). All (λ p. p < plan.pages) l) (sym batch) (All-append (λ p. p < plan.pages) was.batch.items (scan.page ∷ []) stands.pages (All-cons (λ p. p < plan.pages) scan.page [] less (All-nil (λ p. p < plan.pages)))))
-          (subst (λ (l : List ℕ). AreOf plan scan.inode l) (sym batch) (All-append (Own plan scan.inode) was.batch.items (scan.page ∷ []) stands.own (All-cons (Own plan scan.inode) scan.page [] (stands.from, within) (All-nil (Own plan scan.inode))))) (omega arith);
+          (subst (λ (l : List ℕ). AreOf plan scan.inode l) (sym batch) (All-append (Own plan scan.inode) was.batch.items (scan.page ∷ []) stands.own (All-cons (Own plan scan.inode) scan.page [] (stands.from, within) (All-nil (Own plan scan.inode))))) (omega arith) (omega arith);
       page = page;
       inode = inode;
       quota = quota;
@@ -281,10 +284,11 @@ pub passed_stands : (plan : FlusherPlan) (was is : FlusherWork) (scan next : Sca
     → next.page ≡ scan.page + 1 → next.inode ≡ scan.inode → next.quota ≡ scan.quota → is.faults ≡ was.faults → is.batch.items ≡ was.batch.items → HasPassed plan scan next was is
 passed_stands plan was is scan next stands within at page inode quota faults batch =
     let many = ap (λ (l : List ℕ). length l) batch in
+    let most = stands.quota in
     record {
       phase = at;
-      stands = passed_scan plan was.batch.items is.batch.items scan next stands within page inode (subst (λ (l : List ℕ). All (λ p. p < plan.pages) l) (sym batch) stands.pages)
-          (subst (λ (l : List ℕ). AreOf plan scan.inode l) (sym batch) stands.own) (omega arith);
+      stands = passed_scan plan was.batch.items is.batch.items scan next stands within page inode quota (subst (λ (l : List ℕ). All (λ p. p < plan.pages) l) (sym batch) stands.pages)
+          (subst (λ (l : List ℕ). AreOf plan scan.inode l) (sym batch) stands.own) (omega arith) (omega arith);
       page = page;
       inode = inode;
       quota = quota;

@@ -16,7 +16,7 @@ use Rattle.wbt_fraction.specs.Totals.{room_of}
 use Rattle.wbt_fraction.specs.Several as share
 use Rattle.wbt_fraction.specs.Several.{no_seat}
 use Rattle.wbt_fraction.specs.declared.domain.note.Note.{Note}
-use Rattle.wbt_published.specs.Known.{first_one, note_of, after_read, opening}
+use Rattle.wbt_published.specs.Known.{first_one, note_of, after_read, opening, first_in}
 use Rattle.wbt_published.specs.Passes as est
 use Rattle.wbt_published.specs.Passes.{known_of}
 use Rattle.wbt_published.specs.Publishing.{IsComplete, IsNewest as IsNewestNote}
@@ -91,7 +91,7 @@ module _ (plan : FlusherPlan) (kit : Kit) (old new : Seats) (context : ℕ) (now
   })
 
   module _ (told : Moments) (work : FlusherWork) (before behind : CpuJournal) (written : Option ℕ) (added : List Told)
-      (each : (k : ℕ) → IsTold kit.published.moment (estimates_of k added) (known_of k old.est) (known_of k new.est)) where
+      (each : (k : ℕ) → IsTold (first_in kit.published.firsts k) (estimates_of k added) (known_of k old.est) (known_of k new.est)) where
     same_shares : (base : Worker) (e f : est.Seats) → (of : Each (IsOfFlusher plan.flusher) added) → ((domain k : ℕ) → added_to domain k added ≡ 0) → SharesGrew plan.cpu added (notes_by base old.share e) (notes_by base new.share f)
     same_shares base e f of none =
         let o = notes_by base old.share e in
@@ -110,7 +110,7 @@ module _ (plan : FlusherPlan) (kit : Kit) (old new : Seats) (context : ℕ) (now
       (λ s has k version low. has k version (let more = none_falls k in omega arith))
 
   -- a read
-  pub read_goes : (known_of context old.est).seen ≤ now.seen → IsTold kit.published.moment [] (known_of context old.est) now → GoesQuiet plan kit old new
+  pub read_goes : (known_of context old.est).seen ≤ now.seen → IsTold (first_in kit.published.firsts context) [] (known_of context old.est) now → GoesQuiet plan kit old new
   read_goes low is_told told work log written =
       let s = sight work old log written in
       let t = sight work new log written in
@@ -126,9 +126,9 @@ module _ (plan : FlusherPlan) (kit : Kit) (old new : Seats) (context : ℕ) (now
           waited = λ trace is. list_kept trace plan.flusher [] (list_by work) (list_by work) tt refl;
           cpu = only.cpu;
           grew = by_nothing;
-          shares = λ base. same_shares told work log log written [] (each_known (λ k a b. IsTold kit.published.moment [] a b) is_told (λ k other. told_none kit.published.moment (known_of k old.est))) base old.est new.est tt (λ domain k. refl);
+          shares = λ base. same_shares told work log log written [] (each_known (λ k a b. IsTold (first_in kit.published.firsts k) [] a b) is_told (λ k other. told_none (first_in kit.published.firsts k) (known_of k old.est))) base old.est new.est tt (λ domain k. refl);
           estimates = λ base. record {
-            each = each_known (λ k a b. IsTold kit.published.moment [] a b) is_told (λ k other. told_none kit.published.moment (known_of k old.est));
+            each = each_known (λ k a b. IsTold (first_in kit.published.firsts k) [] a b) is_told (λ k other. told_none (first_in kit.published.firsts k) (known_of k old.est));
             names = names_none (falls low);
           };
           held = λ page. refl;
@@ -145,7 +145,7 @@ module _ (plan : FlusherPlan) (kit : Kit) (old new : Seats) (context : ℕ) (now
       }
 
   -- a publication, which is told
-  pub publish_goes : (estimate : Estimate) → Suits plan kit → context < length plan.contexts → (known_of context old.est).seen ≤ now.seen → IsTold kit.published.moment (estimate ∷ []) (known_of context old.est) now
+  pub publish_goes : (estimate : Estimate) → Suits plan kit → context < length plan.contexts → (known_of context old.est).seen ≤ now.seen → IsTold (first_in kit.published.firsts context) (estimate ∷ []) (known_of context old.est) now
       → (told : Moments) (work : FlusherWork) (log : CpuJournal) (written : Option ℕ) → Contains told.estimates estimate.at
       → Went plan kit told (sight work old log written) (sight work new (with_estimate (record { context = context; estimate = estimate }) log) written)
   publish_goes estimate suits in_contexts low is_told told work log written has =
@@ -156,9 +156,9 @@ module _ (plan : FlusherPlan) (kit : Kit) (old new : Seats) (context : ℕ) (now
       let t = sight work new behind written in
       let here : estimates_of context (e ∷ []) ≡ estimate ∷ [] = ap (λ (b : Bool). cond b (estimate ∷ []) [] ++ []) (eq-eqb context context refl) in
       let else_none : (k : ℕ) → k ≢ context → estimates_of k (e ∷ []) ≡ [] = λ k other. ap (λ (b : Bool). cond b (estimate ∷ []) [] ++ []) (ne_eqb context k (λ same. other (sym same))) in
-      let each = each_known (λ k a b. IsTold kit.published.moment (estimates_of k (e ∷ [])) a b)
-      (subst (λ (l : List Estimate). IsTold kit.published.moment l (known_of context old.est) now) (sym here) is_told)
-      (λ k other. subst (λ (l : List Estimate). IsTold kit.published.moment l (known_of k old.est) (known_of k old.est)) (sym (else_none k other)) (told_none kit.published.moment (known_of k old.est))) in
+      let each = each_known (λ k a b. IsTold (first_in kit.published.firsts k) (estimates_of k (e ∷ [])) a b)
+      (subst (λ (l : List Estimate). IsTold (first_in kit.published.firsts context) l (known_of context old.est) now) (sym here) is_told)
+      (λ k other. subst (λ (l : List Estimate). IsTold (first_in kit.published.firsts k) l (known_of k old.est) (known_of k old.est)) (sym (else_none k other)) (told_none (first_in kit.published.firsts k) (known_of k old.est))) in
       record {
         did = did_noted plan kit told s t (record {
           added = e ∷ [];
@@ -202,8 +202,8 @@ last_place known estimate complete newest =
     let same = version_of estimate in
     let long = ap (λ (l : List Estimate). length l) newest.1 ∙ length-append newest.0 (note_of estimate ∷ []) in omega arith
 
-pub newest_after : (opened : ℕ) (known : Known) (note estimate : Estimate) → IsNewest opened known estimate → IsNewest opened (after_read note known) estimate
-newest_after opened known note estimate newest = record { later = newest.later; all_are = newest.all_are; newest_is = newest.newest_is }
+pub newest_after : (first : Estimate) (known : Known) (note estimate : Estimate) → IsNewest first known estimate → IsNewest first (after_read note known) estimate
+newest_after first known note estimate newest = record { later = newest.later; all_are = newest.all_are; newest_is = newest.newest_is }
 
 -- ---- updates
 

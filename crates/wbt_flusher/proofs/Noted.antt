@@ -2,6 +2,7 @@
 use Rattle.std.proofs.Common.{◌≡◌, ℕ, ◌+◌, ◌<◌, ◌≤◌, List, length, Some, inl, inr, ⊎_elim, sym, refl, ap, subst, arith}
 use Rattle.std.specs.Prelude.{sum_by}
 use Rattle.wbt_book.specs.Ledger.{times_in}
+use Rattle.wbt_estimate.specs.declared.estimate.Estimate.{Estimate}
 use Rattle.wbt_fraction.specs.Several.{KeepsStakes, room_in}
 use Rattle.wbt_fraction.specs.Totals.{room_of}
 use Rattle.wbt_grant.specs.declared.record.CpuRecord.{CpuRecord}
@@ -38,7 +39,7 @@ pub record Noted (plan : FlusherPlan) (kit : Kit) (told : Moments) (old new : Si
   pub cpu : new.seats.cpu ≡ old.seats.cpu
   pub grew : (r : CpuRecord) → Grew added r r
   pub shares : (base : Worker) → SharesGrew plan.cpu added (notes_of base old) (notes_of base new)
-  pub estimates : (base : Worker) → EstimatesGrew kit.published.moment plan.cpu added (notes_of base old) (notes_of base new)
+  pub estimates : (base : Worker) → EstimatesGrew kit.published.firsts plan.cpu added (notes_of base old) (notes_of base new)
   pub held : (page : ℕ) → times_in page (pages_in new) ≡ times_in page (pages_in old)
   pub rescans : (page : ℕ) → 1 ≤ times_in page (record_in plan old).owed_rescans → OwesRescan plan old.work.phase page → OwesRescan plan new.work.phase page
   pub marks : (inode : ℕ) → 1 ≤ times_in inode (record_in plan old).owed_marks → OwesMark old.work.phase inode → OwesMark new.work.phase inode
@@ -68,7 +69,7 @@ module _ (plan : FlusherPlan) (kit : Kit) (told : Moments) (old new : Sight) (no
       written_stays = λ task. refl;
     };
     shares = noted.shares base;
-    estimates = noted.estimates base;
+    estimates = subst (λ (l : List Estimate). EstimatesGrew l plan.cpu noted.added (notes_of base old) (notes_of base new)) is.firsts (noted.estimates base);
   }
 
   pub did_noted : Did plan kit told old new

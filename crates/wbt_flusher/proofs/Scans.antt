@@ -12,6 +12,7 @@ use Rattle.wbt_flusher.proofs.Handing.{owes_same}
 use Rattle.wbt_flusher.specs.Plans.{IsPlan, IsInode, inode_at, end_of}
 use Rattle.wbt_flusher.specs.Turns.{AreOf, IsScan}
 use Rattle.wbt_flusher.specs.declared.plan.FlusherPlan.{FlusherPlan}
+use Rattle.wbt_rules.specs.Flusher.{IsWithinChunk}
 use Rattle.wbt_rules.specs.declared.scan.Scan.{Scan}
 use Rattle.wbt_flusher.specs.Ages.{pairs_of}
 
@@ -19,8 +20,8 @@ none_of : (P : ℕ → Type 0) → All P []
 none_of P n d less = absurd (omega arith)
 
 module _ (plan : FlusherPlan) (batch : List ℕ) (after : Scan) where
-  pub begins : IsPlan plan → IsInode plan after.inode → batch ≡ [] → after.page ≡ (inode_at plan after.inode).first → IsScan plan batch after × (after.page < end_of plan after.inode)
-  begins is inode none first =
+  pub begins : IsPlan plan → IsInode plan after.inode → batch ≡ [] → after.page ≡ (inode_at plan after.inode).first → IsWithinChunk plan.shares.chunk after.quota → IsScan plan batch after × (after.page < end_of plan after.inode)
+  begins is inode none first within =
       let some = is.some_page after.inode inode.there in
       let count = ap (λ (l : List ℕ). length l) none in (
         record {
@@ -30,6 +31,8 @@ module _ (plan : FlusherPlan) (batch : List ℕ) (after : Scan) where
           pages = subst (λ (l : List ℕ). All (λ page. page < plan.pages) l) (sym none) (none_of (λ page. page < plan.pages));
           own = subst (λ (l : List ℕ). AreOf plan after.inode l) (sym none) (none_of (λ page. ((inode_at plan after.inode).first ≤ page) × (page < end_of plan after.inode)));
           few = omega arith;
+          quota = omega arith;
+          chunk = within;
         },
         omega arith,
       )

@@ -127,7 +127,7 @@ module _ (plan : FlusherPlan) (kit : Kit) (old new : Seats) (was is : FlusherWor
           grew = by_nothing;
           shares = λ base. subst (λ (e : est.Seats). SharesGrew plan.cpu [] (notes_by base old.share old.est) (notes_by base new.share e)) (sym only.est)
               (shares_told plan.flusher plan.cpu base old.share new.share old.est domain mid [] (λ context. 0) in_old domains_are tt grew (λ context. refl) (λ d other context. refl));
-          estimates = λ base. plain_estimates kit.published.moment plan.cpu [] (notes_by base old.share old.est) (notes_by base new.share new.est) tt (λ context. ap (known_of context) only.est);
+          estimates = λ base. plain_estimates kit.published.firsts plan.cpu [] (notes_by base old.share old.est) (notes_by base new.share new.est) tt (λ context. ap (known_of context) only.est);
           held = kept.held;
           rescans = kept.rescans;
           marks = kept.marks;
@@ -168,7 +168,7 @@ module _ (plan : FlusherPlan) (kit : Kit) (old new : Seats) (was is : FlusherWor
           shares = λ base. subst (λ (q : est.Seats). SharesGrew plan.cpu (e ∷ []) (notes_by base old.share old.est) (notes_by base new.share q)) (sym only.est)
               (shares_told plan.flusher plan.cpu base old.share new.share old.est domain mid (e ∷ []) (λ of. cond (eqb context of) n 0) in_old domains_are (record { no_write = refl; no_check = refl; flight = tt; wait = tt }, tt)
               (add_is_noted context n (slice_index_or old.share.domains domain no_seat) mid adds) (told_here domain context n) (told_elsewhere domain context n));
-          estimates = λ base. plain_estimates kit.published.moment plan.cpu (e ∷ []) (notes_by base old.share old.est) (notes_by base new.share new.est) (record { no_check = refl; no_estimate = refl }, tt) (λ k. ap (known_of k) only.est);
+          estimates = λ base. plain_estimates kit.published.firsts plan.cpu (e ∷ []) (notes_by base old.share old.est) (notes_by base new.share new.est) (record { no_check = refl; no_estimate = refl }, tt) (λ k. ap (known_of k) only.est);
           held = λ page. ap (times_in page) (same_pages phase batch);
           rescans = λ page owes own. subst (λ (p : Phase). OwesRescan plan p page) (sym phase) own;
           marks = λ inode owes own. subst (λ (p : Phase). OwesMark p inode) (sym phase) own;
@@ -235,7 +235,7 @@ module _ (plan : FlusherPlan) (kit : Kit) (old new : Seats) (was is : FlusherWor
           cpu = only.cpu;
           grew = by_nothing;
           shares = λ base. same_shares base;
-          estimates = λ base. plain_estimates kit.published.moment plan.cpu [] (notes_by base old.share old.est) (notes_by base new.share new.est) tt (λ k. ap (known_of k) only.est);
+          estimates = λ base. plain_estimates kit.published.firsts plan.cpu [] (notes_by base old.share old.est) (notes_by base new.share new.est) tt (λ k. ap (known_of k) only.est);
           held = λ page. ap (times_in page) (ap (λ (z : List ℕ × Phase). pages_by z.0 z.1) (λ i. (batch i, phase i)));
           rescans = λ page owes own. subst (λ (p : Phase). OwesRescan plan p page) (sym phase) own;
           marks = λ inode owes own. subst (λ (p : Phase). OwesMark p inode) (sym phase) own;
@@ -285,7 +285,7 @@ noted_goes plan kit old new fits only seat domains_same stakes rooms_same told w
             (λ domain. subst (λ (l : List Note). Longer (o.shares domain) l) (sym (same domain)) (longer_none (o.shares domain)))
             (λ domain k. let w = ap (weigh (added_at (suc k))) (same domain) in omega arith)
             (λ domain. ap begun (same domain));
-        estimates = λ base. plain_estimates kit.published.moment plan.cpu [] (notes_by base old.share old.est) (notes_by base new.share new.est) tt (λ k. ap (known_of k) only.est);
+        estimates = λ base. plain_estimates kit.published.firsts plan.cpu [] (notes_by base old.share old.est) (notes_by base new.share new.est) tt (λ k. ap (known_of k) only.est);
         held = λ page. refl;
         rescans = λ page owes own. own;
         marks = λ inode owes own. own;

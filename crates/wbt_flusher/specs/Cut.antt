@@ -60,7 +60,7 @@ pub record ReadsSome (plan : FlusherPlan) (kit : Kit) (from : ℕ) (old new : Se
 pub record StopsAtContext (plan : FlusherPlan) (kit : Kit) (now context : ℕ) (old new : Sight) : Type 0 where
   pub of_device : (context_at plan context).device ≡ plan.device
   pub newest : Estimate
-  pub reads : ReadsEstimate kit.published.moment context newest old.seats.est new.seats.est
+  pub reads : ReadsEstimate kit.published.firsts context newest old.seats.est new.seats.est
   pub old_enough : newest.at + ESTIMATE_AGE ≤ now
   pub only : OnlyEst old.seats new.seats
   pub work : new.work ≡ old.work

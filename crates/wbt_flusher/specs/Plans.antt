@@ -1,7 +1,7 @@
 -- What a flusher knows of its trace, and how it fits the kit that it works over.
 use Rattle.std.specs.Prelude.{◌≡◌, ℕ, ◌+◌, ◌<◌, ◌≤◌, Bool, IfSome, length, slice_get, slice_index_or, Some}
 use Rattle.wbt_num.specs.declared.most.TheConstants.{MOST_CGROUPS, MOST_CONTEXTS, MOST_PAGES, MOST_PAGE_STEPS}
-use Rattle.wbt_trace.specs.Lawful.{IsExpire}
+use Rattle.wbt_trace.specs.Lawful.{IsChunk, IsExpire}
 use Rattle.wbt_trace.specs.Sofar.{least_shares}
 use Rattle.wbt_trace.specs.declared.ranges.TheConstants.{MOST_PERCENT}
 use Rattle.wbt_trace.specs.declared.trace.Context.{Context}
@@ -9,6 +9,7 @@ use Rattle.wbt_trace.specs.declared.trace.Inode.{Inode}
 use Rattle.wbt_trace.specs.declared.trace.Trace.{Trace}
 use Rattle.wbt_journal.specs.Machine.{domains}
 use Rattle.wbt_rules.specs.Age.{expire_of, is_ageing}
+use Rattle.wbt_rules.specs.First.{first_estimates}
 use Rattle.wbt_rules.specs.Things as things
 use Rattle.wbt_rules.specs.Things.{context_in, greatest_share, inode_in, inode_end}
 use Rattle.wbt_table.specs.Layout as table
@@ -63,6 +64,7 @@ pub record IsPlan (plan : FlusherPlan) : Type 0 where
   pub few_inodes : length plan.inodes < MOST_PAGES
   pub expires : (context : ℕ) → context < length plan.contexts → IfSome (context_at plan context).expire IsExpire
   pub shares : (plan.shares.min ≤ plan.shares.max) × (plan.shares.max ≤ MOST_PERCENT)
+  pub chunk : IfSome plan.shares.chunk IsChunk
   pub least : plan.least_shares ≤ MOST_PERCENT
 
 -- the kit has what the plan names
@@ -105,3 +107,4 @@ pub record IsPlanOf (trace : Trace) (plan : FlusherPlan) : Type 0 where
 pub record IsWork (trace : Trace) (plan : FlusherPlan) (kit : Kit) : Type 0 where
   pub plan_is : IsPlanOf trace plan
   pub throttle : IsThrottleOf trace (setting kit.throttle.layout)
+  pub firsts : kit.published.firsts ≡ first_estimates trace kit.published.moment

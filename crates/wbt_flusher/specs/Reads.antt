@@ -108,7 +108,7 @@ pub record HoldsFraction (domain context : ℕ) (fraction : Fraction) (old new :
 -- the newest estimate was read, which is too young for an update
 pub record IsYoung (kit : Kit) (now context : ℕ) (old new : Sight) : Type 0 where
   pub newest : Estimate
-  pub reads : ReadsEstimate kit.published.moment context newest old.seats.est new.seats.est
+  pub reads : ReadsEstimate kit.published.firsts context newest old.seats.est new.seats.est
   pub young : now < newest.at + ESTIMATE_AGE
   pub work : new.work ≡ old.work
   pub cpu : new.seats.cpu ≡ old.seats.cpu
@@ -120,7 +120,7 @@ pub record IsYoung (kit : Kit) (now context : ℕ) (old new : Sight) : Type 0 wh
 pub record Updates (plan : FlusherPlan) (kit : Kit) (now : ℕ) (global : Read) (context : ℕ) (old new : Sight) : Type 0 where
   pub newest : Estimate
   pub read : est.Seats
-  pub reads : ReadsEstimate kit.published.moment context newest old.seats.est read
+  pub reads : ReadsEstimate kit.published.firsts context newest old.seats.est read
   pub old_enough : newest.at + ESTIMATE_AGE ≤ now
   pub count : Count
   pub gets : Gets plan.cpu (record { counter = Context context; count = count } ∷ []) [] old.seats.cpu new.seats.cpu

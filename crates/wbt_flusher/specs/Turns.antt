@@ -18,6 +18,7 @@ use Rattle.wbt_flusher.specs.declared.work.Flight.{Flight}
 use Rattle.wbt_flusher.specs.declared.work.Phase.{Phase}
 use Rattle.wbt_flusher.specs.declared.work.Phase.TheVariants.{Idle, Scanning, Flying, Returning, Failed}
 use Rattle.wbt_flusher.specs.declared.work.Return.{Return}
+use Rattle.wbt_rules.specs.Flusher.{IsWithinChunk}
 use Rattle.wbt_rules.specs.declared.moments.TheConstants.{MOST_FAULTS}
 use Rattle.wbt_rules.specs.declared.scan.Scan.{Scan}
 use Rattle.wbt_flusher.specs.declared.work.FlusherWork.{FlusherWork}
@@ -28,7 +29,8 @@ use Rattle.wbt_flusher.specs.declared.work.FlusherWork.{FlusherWork}
 abbrev pub AreOf : (plan : FlusherPlan) (inode : ℕ) (pages : List ℕ) → Type 0
 AreOf plan inode pages = All (λ page. ((inode_at plan inode).first ≤ page) × (page < end_of plan inode)) pages
 
--- a scan is at a page of an inode of the device, and the pages that it claimed are pages of the inode
+-- A scan is at a page of an inode of the device, and the pages that it claimed are pages of the inode. They are no more than it may claim,
+-- which is no more than the line of the device says.
 pub record IsScan (plan : FlusherPlan) (batch : List ℕ) (scan : Scan) : Type 0 where
   pub inode : IsInode plan scan.inode
   pub from : (inode_at plan scan.inode).first ≤ scan.page
@@ -36,6 +38,8 @@ pub record IsScan (plan : FlusherPlan) (batch : List ℕ) (scan : Scan) : Type 0
   pub pages : All (λ page. page < plan.pages) batch
   pub own : AreOf plan scan.inode batch
   pub few : length batch ≤ scan.page
+  pub quota : length batch ≤ scan.quota
+  pub chunk : IsWithinChunk plan.shares.chunk scan.quota
 
 -- a flight has a page that isn't completed
 pub record IsFlight (plan : FlusherPlan) (batch : List ℕ) (flight : Flight) : Type 0 where

@@ -5,8 +5,8 @@ ghost use Rattle.wbt_fraction.specs.declared.total.note.TotalNote.TheVariants.{S
 ghost use Rattle.wbt_rules.specs.declared.moments.TheConstants.{ESTIMATE_AGE};
 ghost use Rattle.wbt_run_laws.specs.Log.{with_estimate};
 ghost use Rattle.wbt_num.specs.Limits.{IsLawful};
-ghost use Rattle.wbt_estimate.specs.Estimate.{IsInRange, IsSound, first_at, updated};
-ghost use Rattle.wbt_published.specs.Known.{after_publish, note_of};
+ghost use Rattle.wbt_estimate.specs.Estimate.{IsInRange, IsSound, updated};
+ghost use Rattle.wbt_published.specs.Known.{after_publish, first_in, note_of};
 ghost use Rattle.wbt_published.specs.Passes.{known_of};
 ghost use Rattle.wbt_published.specs.Publishing.{IsComplete, IsNewest};
 ghost use Rattle.wbt_run_laws.specs.Notes.{IsNewest as IsNewestKnown};
@@ -169,10 +169,10 @@ impl FlusherPlan {
         ensures fits { Fits self.now hands.now.kit.now seats.new }
         ensures only_est { OnlyEst seats.old seats.new }
         ensures sound { IsSound result }
-        ensures newest { IsNewestKnown hands.now.kit.now.published.moment (known_of context seats.new.est) result }
+        ensures newest { IsNewestKnown (first_in hands.now.kit.now.published.firsts context) (known_of context seats.new.est) result }
         ensures last { length (known_of context seats.new.est).all ≡ result.version + 1 }
         ensures seen { (known_of context seats.new.est).seen ≡ result.version }
-        ensures reads { ReadsEstimate hands.now.kit.now.published.moment context result seats.old.est seats.new.est }
+        ensures reads { ReadsEstimate hands.now.kit.now.published.firsts context result seats.old.est seats.new.est }
     {
         let _publishes = seats.est.publishes(context);
         hands.kit.published.read(hands.rt, &mut seats.est, context)
@@ -239,7 +239,7 @@ impl FlusherPlan {
         requires measured { IsMeasured self.now context }
         requires context { context < length self.now.contexts }
         requires sound { IsSound old }
-        requires newest { IsNewestKnown hands.now.kit.now.published.moment (known_of context seats.old.est) old }
+        requires newest { IsNewestKnown (first_in hands.now.kit.now.published.firsts context) (known_of context seats.old.est) old }
         requires last { length (known_of context seats.old.est).all ≡ old.version + 1 }
         requires seen { (known_of context seats.old.est).seen ≡ old.version }
         requires range { IsInRange sample.now }

@@ -2,7 +2,7 @@
 
 ghost use Rattle.std.specs.Prelude.{◌≡◌, ◌<◌, [], IsTrue, IsFalse, Option};
 ghost use Rattle.wbt_grant.specs.Kinds.{unmark};
-ghost use Rattle.wbt_limits.specs.Flusher.{chunk_of as chunk_value};
+ghost use Rattle.wbt_rules.specs.Flusher.{quota_of as quota_value};
 ghost use Rattle.wbt_turns.specs.Words.{MayTake};
 ghost use Rattle.wbt_run_steps.specs.Records.{OnlyCpu};
 ghost use Rattle.wbt_rules.specs.declared.moments.TheConstants.{MOST_FAULTS};
@@ -23,7 +23,7 @@ use crate::work::{FlusherWork, Phase};
 use std::sync::Wait;
 use wbt_io::Gate;
 use wbt_kit::{Hands, Kit, Seats};
-use wbt_rules::{Scan, chunk_of};
+use wbt_rules::{Scan, quota_of};
 use wbt_run_steps::may_step;
 
 impl FlusherPlan {
@@ -87,7 +87,7 @@ impl FlusherPlan {
         };
     }
 
-    // The scan gets its quota: half a second of what the device writes on average.
+    // The scan gets its quota: half a second of what the device writes on average, or as few pages as its line says.
     fn set_quota<R: Wait, C, G>(
         &self,
         work: &mut FlusherWork,
@@ -106,7 +106,7 @@ impl FlusherPlan {
         ensures fits { Fits self.now hands.now.kit.now seats.new }
         ensures only_est { OnlyEst seats.old seats.new }
         ensures steady { IsSteady self.now work.new }
-        ensures quota { (newest : _) × ReadsEstimate hands.now.kit.now.published.moment (context_of self.now inode) newest seats.old.est seats.new.est × (work.new ≡ record work.old { phase = begun_scan self.now inode (chunk_value newest.avg work.old.hard) }) }
+        ensures quota { (newest : _) × ReadsEstimate hands.now.kit.now.published.firsts (context_of self.now inode) newest seats.old.est seats.new.est × (work.new ≡ record work.old { phase = begun_scan self.now inode (quota_value self.now.shares newest.avg work.old.hard) }) }
     {
         let context = self.context_of(inode);
         let avg = hands
@@ -118,7 +118,7 @@ impl FlusherPlan {
             scan: Scan {
                 inode,
                 page: self.first_of(inode),
-                quota: chunk_of(avg, work.hard),
+                quota: quota_of(&self.shares, avg, work.hard),
                 noted: false,
             },
         };

@@ -30,7 +30,7 @@ pub struct FlusherPlan {
     pub inodes: Items<Inode>,
     /// The contexts of all devices.
     pub contexts: Items<Context>,
-    /// Its device's rate and shares, and whether it is strict.
+    /// What the trace says of its device: its rate and shares, whether it is strict, and with how many pages a scan ends.
     pub shares: Device,
     /// The least shares of all devices together, in percent.
     pub least_shares: u32,

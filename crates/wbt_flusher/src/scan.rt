@@ -97,6 +97,7 @@ impl FlusherPlan {
         requires phase { work.old.phase ≡ Scanning scan }
         requires scan { IsScan self.now work.old.batch.items scan }
         requires before { scan.page < end_of self.now scan.inode }
+        requires below { length work.old.batch.items < scan.quota }
         requires room { 1 ≤ pen.old.room }
         requires spare { vec_len work.old.batch < vec_capacity work.old.batch }
         ensures asked { AskedBeforeEach self.now.cpu (G.said hands.now.gate.now) seats.old seats.new }

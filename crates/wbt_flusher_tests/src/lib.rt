@@ -3,12 +3,15 @@
 //! ```text
 //! failing  a disk that fails: the batch is given back, and the eighth write that fails ends the turn
 //! ages     a flusher of an ageing device: what it notices, and when it writes that
+//! chunks   a flusher whose device has a chunk: two flights for two pages
 //! weighed  a context of a strict device is written by its own background, one of another by its domain's
 //! ```
 #![tactic(auto)]
 
 #[cfg(test)]
 mod ages;
+#[cfg(test)]
+mod chunks;
 #[cfg(test)]
 mod failing;
 #[cfg(test)]

@@ -133,8 +133,8 @@ by_decides trace s check (Some estimate) = like (decides_by trace s check (Some 
 pub decision_tells : (trace : Trace) (opened : ℕ) (all : List Told) (s : Side) (item : Item) → Tells (decision_fault trace opened all s item) (checks.Decides trace opened all s item)
 decision_tells trace opened all s (begins cpu) = always
 decision_tells trace opened all s (tells cpu entry) =
-    part_tells (asked_fault trace opened all s cpu) (λ (check : CheckEntry). is_own_task trace cpu check.task ≡ true → DecidesBy trace s check (named_estimate opened all check))
-    (λ check. test_tells _ (decision_at check) (is_given (is_own_task trace cpu check.task) _ (by_decides trace s check (named_estimate opened all check)))) (effect entry).check
+    part_tells (asked_fault trace opened all s cpu) (λ (check : CheckEntry). is_own_task trace cpu check.task ≡ true → DecidesBy trace s check (named_estimate trace opened all check))
+    (λ check. test_tells _ (decision_at check) (is_given (is_own_task trace cpu check.task) _ (by_decides trace s check (named_estimate trace opened all check)))) (effect entry).check
 
 -- ---- where checks stand
 

@@ -127,7 +127,7 @@ Estimating trace opened all s item = EstimatesFollow trace opened s.estimates it
 
 est_tells : (trace : Trace) (opened : ℕ) (seen : List EstEntry) (est : EstEntry) → Tells (next_fault trace opened seen est) (IsNext trace opened seen est)
 est_tells trace opened seen est = tells_like _
-    (test_tells _ 0 (Decides-and _ _ (is_true (nat_lt est.context (contexts trace))) (follows_decides (newest_of opened est.context seen) est.estimate)))
+    (test_tells _ 0 (Decides-and _ _ (is_true (nat_lt est.context (contexts trace))) (follows_decides (newest_of trace opened est.context seen) est.estimate)))
     (λ p. record { named = p.0; follows_last = p.1 })
     (λ n. (n.named, n.follows_last))
 

@@ -63,8 +63,8 @@ marks trace opened all s [] along = tt
 marks trace opened all s (ends task ∷ more) along = marks trace opened all (side_after trace opened s (ends task)) more along.1
 marks trace opened all s (item (begins cpu) ∷ more) along = (tt, marks trace opened all (side_after trace opened s (item (begins cpu))) more along.1)
 marks trace opened all s (item (tells cpu entry) ∷ more) along = (
-  some_weaker (λ check. IsOwn trace cpu check → DecidesBy trace s check (named_estimate opened all check)) (λ check. IsOwn trace cpu check → IsMarked trace check)
-      (λ check decides own. by_named trace s check (named_estimate opened all check) (decides own)) (effect entry).check along.0,
+  some_weaker (λ check. IsOwn trace cpu check → DecidesBy trace s check (named_estimate trace opened all check)) (λ check. IsOwn trace cpu check → IsMarked trace check)
+      (λ check decides own. by_named trace s check (named_estimate trace opened all check) (decides own)) (effect entry).check along.0,
   marks trace opened all (side_after trace opened s (item (tells cpu entry))) more along.1,
 )
 

@@ -465,7 +465,7 @@ module _ (trace : Trace) (opened cpu : ℕ) where
             (subst (λ (u : Side). Along (Stands trace) (side_after trace opened) u events) same_s stands.1)
             (subst (λ (ts : List ℕ). Along (PagesAreNext trace) writes_after ts (items_among events)) same_tasks names.1) in
             record {
-              decide = (subst (λ (k : Option CheckEntry). IfSome k (λ (check : CheckEntry). is_own_task trace cpu check.task ≡ true → DecidesBy trace t check (named_estimate opened all check))) (sym is.checks) tt, subst (λ (u : Side). Along (Decides trace opened all) (side_after_item trace opened) u (items_among events)) (sym same_t) rest.decide);
+              decide = (subst (λ (k : Option CheckEntry). IfSome k (λ (check : CheckEntry). is_own_task trace cpu check.task ≡ true → DecidesBy trace t check (named_estimate trace opened all check))) (sym is.checks) tt, subst (λ (u : Side). Along (Decides trace opened all) (side_after_item trace opened) u (items_among events)) (sym same_t) rest.decide);
               stand = (
                 record {
                   write = subst (λ (w : Option Write). IfSome w (λ (write : Write). is_judged trace cpu write.task write.page ≡ true → IsQuiet trace t write.task)) (sym is.writes) tt;

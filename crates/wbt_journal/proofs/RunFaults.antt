@@ -15,11 +15,12 @@ use Rattle.wbt_journal.specs.declared.timer.TimerEntry.{TimerEntry}
 use Rattle.wbt_journal.specs.declared.timer.TimerEntry.TheVariants as timer
 use Rattle.wbt_journal.specs.Checks.{has_page}
 use Rattle.wbt_journal.specs.Estimates.{decision_at}
-use Rattle.wbt_journal.specs.Flights.{ToldPhase, ToldFlusher, scanning, flying, returning, failed, Scans, scans, Hands, hands, Lands, is_landing, GivesBack, is_giving_back, MayMove, may_move, flusher_of, is_own_flusher, FliesBy, flies_by, FliesTold, flies_told, Flies, flight_fault}
+use Rattle.wbt_journal.specs.Flights.{ToldPhase, ToldFlusher, scanning, flying, returning, failed, Scans, scans, Hands, hands, Lands, is_landing, GivesBack, is_giving_back, MayMove, may_move, MeetsChunk, meets_chunk, flusher_of, is_own_flusher, FliesBy, flies_by, FliesTold, flies_told, Flies, flight_fault}
 use Rattle.wbt_journal.specs.Effects.{Flight, Move, Write, takes, flies, lands, fails, gives_back, effect, of_part}
 use Rattle.wbt_journal.specs.Items.{Item, begins, tells}
 use Rattle.wbt_journal.specs.Leaves.{dirties, claims, completes, redirties, absorbs, left_dirty, left_writeback, IsEven, is_even, IsEvenBelow, is_even_below, LeftFrom, is_left_from, IsBounded, is_bounded, count_of, bound_of, WroteAll, wrote_all, writes_of, a_flusher_failed, has_all_steps, EndsBy, ends_by, is_nothing}
 use Rattle.wbt_journal.specs.Machine.{domains, pages_of_task, page_context}
+use Rattle.wbt_rules.specs.Flusher.{IsWithinChunk, is_within_chunk, chunk_at}
 use Rattle.wbt_rules.specs.Thresholds.{global_at, cgroup_with}
 use Rattle.wbt_journal.specs.Pages.{is_at, next_page, page_of, NamesPage, Writes, PagesAreNext, write_fault, task_fault, move_fault, page_fault}
 use Rattle.wbt_journal.specs.Side.{is_own_task}
@@ -154,9 +155,23 @@ move_decides (lands page) phase = lands_decides page phase
 move_decides (fails pages) phase = hands_decides pages phase
 move_decides (gives_back page absorbed) phase = back_decides page phase
 
+within_decides : (chunk : Option ℕ) (pages : ℕ) → Decides (is_within_chunk chunk pages) (IsWithinChunk chunk pages)
+within_decides None pages = ((λ is. tt), λ p. refl)
+within_decides (Some most) pages = is_le pages most
+
+chunk_decides : (chunk : Option ℕ) (move : Move) → Decides (meets_chunk chunk move) (MeetsChunk chunk move)
+chunk_decides chunk (takes page) = ((λ is. tt), λ p. refl)
+chunk_decides chunk (flies pages now until) = within_decides chunk pages
+chunk_decides chunk (lands page) = ((λ is. tt), λ p. refl)
+chunk_decides chunk (fails pages) = within_decides chunk pages
+chunk_decides chunk (gives_back page absorbed) = ((λ is. tt), λ p. refl)
+
 flies_decides : (trace : Trace) (cpu : ℕ) (flushers : List ToldFlusher) (entry : Told) → Decides (flies_told trace cpu flushers entry) (FliesTold trace cpu flushers entry)
 flies_decides trace cpu flushers entry = part_decides (flies_by trace cpu flushers) (FliesBy trace cpu flushers)
-    (λ flight. Decides-and _ _ (is_true (is_own_flusher trace cpu flight.flusher)) (move_decides flight.move (flusher_of flushers flight.flusher).phase)) (effect entry).flight
+    (λ flight. like (flies_by trace cpu flushers flight)
+    (Decides-and _ _ (is_true (is_own_flusher trace cpu flight.flusher))
+    (Decides-and _ _ (move_decides flight.move (flusher_of flushers flight.flusher).phase) (chunk_decides (chunk_at trace flight.flusher) flight.move)))
+    (λ p. (p.0, p.1.0, p.1.1)) (λ f. (f.0, (f.1, f.2)))) (effect entry).flight
 
 flight_tells : (trace : Trace) (flushers : List ToldFlusher) (item : Item) → Tells (flight_fault trace flushers item) (Flies trace flushers item)
 flight_tells trace flushers (begins cpu) = always

@@ -5,7 +5,7 @@ use Rattle.wbt_num.specs.Limits.{IsLawful as AreLawful}
 use Rattle.wbt_num.specs.declared.limits.Limits.{Limits}
 use Rattle.wbt_num.specs.declared.limits.TheConstants.{MAX_LIMIT}
 use Rattle.wbt_counter.specs.History.{at_least_zero}
-use Rattle.wbt_estimate.specs.Estimate.{first_at}
+use Rattle.wbt_rules.specs.First.{first_estimate}
 use Rattle.wbt_estimate.specs.declared.estimate.Estimate.{Estimate}
 use Rattle.wbt_flex.specs.declared.share.Fraction.{Fraction}
 use Rattle.wbt_pause.specs.Reads.{IsCounted, IsUsable}
@@ -72,8 +72,8 @@ nth_estimate version [] = None
 nth_estimate zero (estimate ∷ more) = Some estimate
 nth_estimate (suc version) (estimate ∷ more) = nth_estimate version more
 
-abbrev pub named_estimate : (opened : ℕ) (all : List Told) (check : CheckEntry) → Option Estimate
-named_estimate opened all check = nth_estimate check.estimate (first_at opened ∷ estimates_of check.context all)
+abbrev pub named_estimate : (trace : Trace) (opened : ℕ) (all : List Told) (check : CheckEntry) → Option Estimate
+named_estimate trace opened all check = nth_estimate check.estimate (first_estimate trace check.context opened ∷ estimates_of check.context all)
 
 abbrev pub task_numbers : (trace : Trace) (s : Side) (check : CheckEntry) → Task
 task_numbers trace s check = (writer_of s.cpu (number_of trace check.task check.context)).task
@@ -167,11 +167,11 @@ decides_by trace s check (Some estimate) = is_in_range check estimate (task_numb
 abbrev pub Decides : (trace : Trace) (opened : ℕ) (all : List Told) (s : Side) (item : Item) → Type 0
 Decides trace opened all s (begins cpu) = Unit {0}
 Decides trace opened all s (tells cpu entry) =
-    IfSome (effect entry).check (λ (check : CheckEntry). is_own_task trace cpu check.task ≡ true → DecidesBy trace s check (named_estimate opened all check))
+    IfSome (effect entry).check (λ (check : CheckEntry). is_own_task trace cpu check.task ≡ true → DecidesBy trace s check (named_estimate trace opened all check))
 
 abbrev pub asked_fault : (trace : Trace) (opened : ℕ) (all : List Told) (s : Side) (cpu : ℕ) (check : CheckEntry) → Option ℕ
 asked_fault trace opened all s cpu check =
-    unless (not (is_own_task trace cpu check.task) || decides_by trace s check (named_estimate opened all check)) (decision_at check)
+    unless (not (is_own_task trace cpu check.task) || decides_by trace s check (named_estimate trace opened all check)) (decision_at check)
 
 abbrev pub decision_fault : (trace : Trace) (opened : ℕ) (all : List Told) (s : Side) (item : Item) → Option ℕ
 decision_fault trace opened all s (begins cpu) = None

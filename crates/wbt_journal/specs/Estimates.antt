@@ -2,8 +2,8 @@
 use Rattle.std.specs.Prelude.{◌≡◌, ℕ, ◌+◌, ◌-◌, ◌≤◌, Bool, true, ◌&&◌, ◌||◌, not, ◌==◌, nat_le, nat_lt, if◌then◌else◌, Option, None, IfSome, List, [], ◌∷◌, length, flat_map}
 use Rattle.std.specs.List.{list_all}
 use Rattle.wbt_estimate.specs.Bandwidth.{average_after, bandwidth_after}
-use Rattle.wbt_estimate.specs.Estimate.{first_at}
 use Rattle.wbt_estimate.specs.declared.estimate.Estimate.{Estimate}
+use Rattle.wbt_rules.specs.First.{first_estimate}
 use Rattle.wbt_rules.specs.declared.moments.TheConstants.{ESTIMATE_AGE}
 use Rattle.wbt_trace.specs.declared.trace.Trace.{Trace}
 use Rattle.wbt_journal.specs.declared.entry.CheckEntry.{CheckEntry}
@@ -45,14 +45,14 @@ follows old new =
     && new.avg == average_after old.avg old.bw new.bw (new.at - old.at)))
 
 -- the estimate of a context that stands before: the newest of those seen, or the first
-abbrev pub newest_of : (opened context : ℕ) → (seen : List EstEntry) → Estimate
-newest_of opened context [] = first_at opened
-newest_of opened context (est ∷ older) = if est.context == context then est.estimate else newest_of opened context older
+abbrev pub newest_of : (trace : Trace) (opened context : ℕ) → (seen : List EstEntry) → Estimate
+newest_of trace opened context [] = first_estimate trace context opened
+newest_of trace opened context (est ∷ older) = if est.context == context then est.estimate else newest_of trace opened context older
 
 -- of a context that there is
 pub record IsNext (trace : Trace) (opened : ℕ) (seen : List EstEntry) (est : EstEntry) : Type 0 where
   pub named : nat_lt est.context (contexts trace) ≡ true
-  pub follows_last : Follows (newest_of opened est.context seen) est.estimate
+  pub follows_last : Follows (newest_of trace opened est.context seen) est.estimate
 
 abbrev pub EstimatesFollow : (trace : Trace) (opened : ℕ) (seen : List EstEntry) (item : Item) → Type 0
 EstimatesFollow trace opened seen (begins cpu) = Unit {0}
@@ -106,7 +106,7 @@ abbrev pub decision_at : (check : CheckEntry) → ℕ
 decision_at check = length (reads_of check) + 1
 
 abbrev pub next_fault : (trace : Trace) (opened : ℕ) (seen : List EstEntry) (est : EstEntry) → Option ℕ
-next_fault trace opened seen est = unless (nat_lt est.context (contexts trace) && follows (newest_of opened est.context seen) est.estimate) 0
+next_fault trace opened seen est = unless (nat_lt est.context (contexts trace) && follows (newest_of trace opened est.context seen) est.estimate) 0
 
 abbrev pub name_fault : (trace : Trace) (all : List Told) (names : List Named) (check : CheckEntry) → Option ℕ
 name_fault trace all names check =

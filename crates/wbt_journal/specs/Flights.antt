@@ -1,6 +1,7 @@
 -- Flushers: each claims pages, hands them to its disk as a batch, and completes that batch in order. A batch that its disk fails to
 -- write it gives back in order; after as many such batches as it may have it does nothing.
 use Rattle.std.specs.Prelude.{◌≡◌, ℕ, ◌+◌, ◌≤◌, Bool, true, false, ◌&&◌, ◌==◌, nat_le, if◌then◌else◌, Option, None, IfSome, List, [], ◌∷◌, ◌++◌, length, get_or, set, map}
+use Rattle.wbt_rules.specs.Flusher.{IsWithinChunk, is_within_chunk, chunk_at}
 use Rattle.wbt_rules.specs.declared.moments.TheConstants.{MOST_FAULTS}
 use Rattle.wbt_trace.specs.declared.trace.FlusherLine.{FlusherLine}
 use Rattle.wbt_trace.specs.declared.trace.Trace.{Trace}
@@ -125,6 +126,21 @@ may_move (lands page) phase = is_landing page phase
 may_move (fails pages) phase = hands pages phase
 may_move (gives_back page absorbed) phase = is_giving_back page phase
 
+-- a batch and a fault have no more pages than the line of the flusher's device says
+abbrev pub MeetsChunk : (chunk : Option ℕ) (move : Move) → Type 0
+MeetsChunk chunk (takes page) = Unit {0}
+MeetsChunk chunk (flies pages now until) = IsWithinChunk chunk pages
+MeetsChunk chunk (lands page) = Unit {0}
+MeetsChunk chunk (fails pages) = IsWithinChunk chunk pages
+MeetsChunk chunk (gives_back page absorbed) = Unit {0}
+
+abbrev pub meets_chunk : (chunk : Option ℕ) (move : Move) → Bool
+meets_chunk chunk (takes page) = true
+meets_chunk chunk (flies pages now until) = is_within_chunk chunk pages
+meets_chunk chunk (lands page) = true
+meets_chunk chunk (fails pages) = is_within_chunk chunk pages
+meets_chunk chunk (gives_back page absorbed) = true
+
 -- ---- all flushers, by number
 
 abbrev pub first_flushers : (lines : List FlusherLine) → List ToldFlusher
@@ -148,13 +164,17 @@ flushers_after trace flushers (begins cpu) = first_flushers trace.flushers
 flushers_after trace flushers (tells cpu entry) = flushers_after_told flushers entry
 
 abbrev pub FliesBy : (trace : Trace) (cpu : ℕ) (flushers : List ToldFlusher) (flight : Flight) → Type 0
-FliesBy trace cpu flushers flight = (is_own_flusher trace cpu flight.flusher ≡ true) × MayMove flight.move (flusher_of flushers flight.flusher).phase
+FliesBy trace cpu flushers flight =
+    (is_own_flusher trace cpu flight.flusher ≡ true) × MayMove flight.move (flusher_of flushers flight.flusher).phase
+    × MeetsChunk (chunk_at trace flight.flusher) flight.move
 
 abbrev pub FliesTold : (trace : Trace) (cpu : ℕ) (flushers : List ToldFlusher) (entry : Told) → Type 0
 FliesTold trace cpu flushers entry = IfSome (effect entry).flight (FliesBy trace cpu flushers)
 
 abbrev pub flies_by : (trace : Trace) (cpu : ℕ) (flushers : List ToldFlusher) (flight : Flight) → Bool
-flies_by trace cpu flushers flight = is_own_flusher trace cpu flight.flusher && may_move flight.move (flusher_of flushers flight.flusher).phase
+flies_by trace cpu flushers flight =
+    is_own_flusher trace cpu flight.flusher && (may_move flight.move (flusher_of flushers flight.flusher).phase
+    && meets_chunk (chunk_at trace flight.flusher) flight.move)
 
 abbrev pub flies_told : (trace : Trace) (cpu : ℕ) (flushers : List ToldFlusher) (entry : Told) → Bool
 flies_told trace cpu flushers entry = of_part true (flies_by trace cpu flushers) (effect entry).flight

@@ -1,4 +1,4 @@
--- Journals with throttled writers, changing limits, failing disks and inodes that age, and their changes: made by tools/judged-values.
+-- Journals with throttled writers, changing limits, failing disks, inodes that age, chunks and given estimates, and their changes: made by tools/judged-values.
 use Rattle.std.specs.Prelude.{true, false, Some, None, [], ◌∷◌, pos, negsuc}
 use Rattle.wbt_counter.specs.declared.counter.Counter.TheVariants as counter
 use Rattle.wbt_pause.specs.declared.decision.Kind.TheVariants as kind
@@ -7,7 +7,7 @@ use Rattle.wbt_trace.specs.declared.trace.Trace.{Trace}
 use Rattle.wbt_journal.specs.declared.entry.Entry.TheVariants as entry
 use Rattle.wbt_journal.specs.declared.journal.Ending.TheVariants as ending
 use Rattle.wbt_journal.specs.declared.journal.Journal.{Journal}
-use Rattle.wbt_judged.specs.Lines.{settings, avail, device, cgroup, context, ageing_context, inode, on_cpu, flusher, limits, folded, read, check, estimate, part, left}
+use Rattle.wbt_judged.specs.Lines.{settings, avail, device, chunked_device, cgroup, context, ageing_context, given_context, inode, on_cpu, flusher, limits, folded, read, check, estimate, part, left}
 
 -- lawful
 abbrev pub case_ages_trace : Trace
@@ -143,6 +143,34 @@ abbrev pub case_ages_18 : Journal
 case_ages_18 = record { timer = limits 0 1 19995 9985 19995 ∷ []; cpus = part (entry.Write 0 0 true ∷ entry.Write 0 1 true ∷ entry.Write 0 2 true ∷ entry.Noticed 0 2 1 ∷ entry.Noticed 0 1 1 ∷ entry.Noticed 0 0 1 ∷ entry.Write 0 3 true ∷ entry.Aged 0 0 101 101 ∷ entry.Claimed 0 0 ∷ entry.Batch 0 1 101 102 ∷ entry.Done 0 0 ∷ entry.Share 0 0 1 ∷ entry.Aged 0 1 101 103 ∷ entry.Claimed 0 1 ∷ entry.Batch 0 1 103 104 ∷ entry.Done 0 1 ∷ entry.Share 0 0 1 ∷ entry.Taken 2 2 ∷ entry.Claimed 0 2 ∷ entry.Batch 0 1 105 106 ∷ entry.Done 0 2 ∷ entry.Share 0 1 1 ∷ []) ([]) ([]) ∷ part (entry.Claimed 1 3 ∷ entry.Batch 1 1 105 106 ∷ entry.Done 1 3 ∷ entry.Share 0 2 1 ∷ []) ([]) ([]) ∷ []; steps = []; bases = []; homes = []; left = []; strict = []; ending = ending.Done }
 
 -- lawful
+abbrev pub case_chunked_trace : Trace
+case_chunked_trace = record { cpus = 1; cap = 1024; settings = settings 20 10 0 0; avail = avail 0 7 ∷ []; devices = chunked_device 1 0 100 4 ∷ []; cgroups = []; contexts = context 0 0 ∷ context 0 0 ∷ []; inodes = inode 1 0 5 ∷ []; tasks = on_cpu 0 ∷ []; flushers = flusher 0 0 ∷ []; actions = action.Rest 0 292 ∷ action.Write 0 0 0 5 ∷ action.Rest 0 297 ∷ []; order = []; halt = None }
+
+abbrev pub case_chunked : Journal
+case_chunked = record { timer = limits 0 1 1 0 1 ∷ limits 0 201 1 0 1 ∷ []; cpus = part (entry.Est 0 ∷ entry.Est 1 ∷ entry.Write 0 0 true ∷ entry.Write 0 1 true ∷ entry.Write 0 2 true ∷ entry.Write 0 3 true ∷ entry.Write 0 4 true ∷ entry.Claimed 0 0 ∷ entry.Claimed 0 1 ∷ entry.Claimed 0 2 ∷ entry.Claimed 0 3 ∷ entry.Batch 0 4 293 4293 ∷ entry.Done 0 0 ∷ entry.Done 0 1 ∷ entry.Done 0 2 ∷ entry.Done 0 3 ∷ entry.Share 0 1 4 ∷ entry.Claimed 0 4 ∷ entry.Batch 0 1 4293 5293 ∷ entry.Done 0 4 ∷ entry.Share 0 1 1 ∷ []) ([]) (estimate 0 1 24350 25600 25600 25600 0 0 201 ∷ estimate 1 1 24350 25600 25600 25600 0 0 201 ∷ []) ∷ []; steps = []; bases = []; homes = []; left = []; strict = []; ending = ending.Done }
+
+-- broken 14 17
+abbrev pub case_chunked_1_trace : Trace
+case_chunked_1_trace = record { cpus = 1; cap = 1024; settings = settings 20 10 0 0; avail = avail 0 7 ∷ []; devices = chunked_device 1 0 100 4 ∷ []; cgroups = []; contexts = context 0 0 ∷ context 0 0 ∷ []; inodes = inode 1 0 5 ∷ []; tasks = on_cpu 0 ∷ []; flushers = flusher 0 0 ∷ []; actions = action.Rest 0 292 ∷ action.Write 0 0 0 5 ∷ action.Rest 0 297 ∷ []; order = []; halt = None }
+
+abbrev pub case_chunked_1 : Journal
+case_chunked_1 = record { timer = limits 0 1 1 0 1 ∷ limits 0 201 1 0 1 ∷ []; cpus = part (entry.Est 0 ∷ entry.Est 1 ∷ entry.Write 0 0 true ∷ entry.Write 0 1 true ∷ entry.Write 0 2 true ∷ entry.Write 0 3 true ∷ entry.Write 0 4 true ∷ entry.Claimed 0 0 ∷ entry.Claimed 0 1 ∷ entry.Claimed 0 2 ∷ entry.Claimed 0 3 ∷ entry.Claimed 0 4 ∷ entry.Batch 0 5 293 4293 ∷ entry.Done 0 0 ∷ entry.Done 0 1 ∷ entry.Done 0 2 ∷ entry.Done 0 3 ∷ entry.Done 0 4 ∷ entry.Share 0 1 4 ∷ entry.Share 0 1 1 ∷ []) ([]) (estimate 0 1 24350 25600 25600 25600 0 0 201 ∷ estimate 1 1 24350 25600 25600 25600 0 0 201 ∷ []) ∷ []; steps = []; bases = []; homes = []; left = []; strict = []; ending = ending.Done }
+
+-- broken 14 17
+abbrev pub case_chunked_2_trace : Trace
+case_chunked_2_trace = record { cpus = 1; cap = 1024; settings = settings 20 10 0 0; avail = avail 0 7 ∷ []; devices = chunked_device 1 0 100 4 ∷ []; cgroups = []; contexts = context 0 0 ∷ context 0 0 ∷ []; inodes = inode 1 0 5 ∷ []; tasks = on_cpu 0 ∷ []; flushers = flusher 0 0 ∷ []; actions = action.Rest 0 292 ∷ action.Write 0 0 0 5 ∷ action.Rest 0 297 ∷ []; order = []; halt = None }
+
+abbrev pub case_chunked_2 : Journal
+case_chunked_2 = record { timer = limits 0 1 1 0 1 ∷ limits 0 201 1 0 1 ∷ []; cpus = part (entry.Est 0 ∷ entry.Est 1 ∷ entry.Write 0 0 true ∷ entry.Write 0 1 true ∷ entry.Write 0 2 true ∷ entry.Write 0 3 true ∷ entry.Write 0 4 true ∷ entry.Claimed 0 0 ∷ entry.Claimed 0 1 ∷ entry.Claimed 0 2 ∷ entry.Claimed 0 3 ∷ entry.Claimed 0 4 ∷ entry.Fault 0 5 ∷ entry.Back 0 0 false ∷ entry.Back 0 1 false ∷ entry.Back 0 2 false ∷ entry.Back 0 3 false ∷ entry.Back 0 4 false ∷ entry.Claimed 0 0 ∷ entry.Claimed 0 1 ∷ entry.Claimed 0 2 ∷ entry.Claimed 0 3 ∷ entry.Batch 0 4 1293 5293 ∷ entry.Done 0 0 ∷ entry.Done 0 1 ∷ entry.Done 0 2 ∷ entry.Done 0 3 ∷ entry.Share 0 1 4 ∷ entry.Claimed 0 4 ∷ entry.Batch 0 1 4293 5293 ∷ entry.Done 0 4 ∷ entry.Share 0 1 1 ∷ []) ([]) (estimate 0 1 24350 25600 25600 25600 0 0 201 ∷ estimate 1 1 24350 25600 25600 25600 0 0 201 ∷ []) ∷ []; steps = []; bases = []; homes = []; left = []; strict = []; ending = ending.Done }
+
+-- lawful
+abbrev pub case_chunked_3_trace : Trace
+case_chunked_3_trace = record { cpus = 1; cap = 1024; settings = settings 20 10 0 0; avail = avail 0 7 ∷ []; devices = chunked_device 1 0 100 4 ∷ []; cgroups = []; contexts = context 0 0 ∷ context 0 0 ∷ []; inodes = inode 1 0 5 ∷ []; tasks = on_cpu 0 ∷ []; flushers = flusher 0 0 ∷ []; actions = action.Rest 0 292 ∷ action.Write 0 0 0 5 ∷ action.Rest 0 297 ∷ []; order = []; halt = None }
+
+abbrev pub case_chunked_3 : Journal
+case_chunked_3 = record { timer = limits 0 1 1 0 1 ∷ limits 0 201 1 0 1 ∷ []; cpus = part (entry.Est 0 ∷ entry.Est 1 ∷ entry.Write 0 0 true ∷ entry.Write 0 1 true ∷ entry.Write 0 2 true ∷ entry.Write 0 3 true ∷ entry.Write 0 4 true ∷ entry.Claimed 0 0 ∷ entry.Claimed 0 1 ∷ entry.Claimed 0 2 ∷ entry.Claimed 0 3 ∷ entry.Fault 0 4 ∷ entry.Back 0 0 false ∷ entry.Back 0 1 false ∷ entry.Back 0 2 false ∷ entry.Back 0 3 false ∷ entry.Claimed 0 0 ∷ entry.Claimed 0 1 ∷ entry.Claimed 0 2 ∷ entry.Claimed 0 3 ∷ entry.Batch 0 4 1293 5293 ∷ entry.Done 0 0 ∷ entry.Done 0 1 ∷ entry.Done 0 2 ∷ entry.Done 0 3 ∷ entry.Share 0 1 4 ∷ entry.Claimed 0 4 ∷ entry.Batch 0 1 4293 5293 ∷ entry.Done 0 4 ∷ entry.Share 0 1 1 ∷ []) ([]) (estimate 0 1 24350 25600 25600 25600 0 0 201 ∷ estimate 1 1 24350 25600 25600 25600 0 0 201 ∷ []) ∷ []; steps = []; bases = []; homes = []; left = []; strict = []; ending = ending.Done }
+
+-- lawful
 abbrev pub case_cut_pauses_trace : Trace
 case_cut_pauses_trace = record { cpus = 1; cap = 16; settings = settings 20 10 135168 4096; avail = avail 0 1000 ∷ []; devices = device 25600 0 100 ∷ []; cgroups = []; contexts = context 0 0 ∷ context 0 0 ∷ []; inodes = inode 0 0 40 ∷ inode 1 40 40 ∷ []; tasks = on_cpu 0 ∷ []; flushers = flusher 0 0 ∷ []; actions = action.Write 0 0 0 31 ∷ action.Write 0 1 0 16 ∷ []; order = []; halt = None }
 
@@ -220,6 +248,27 @@ abbrev pub case_fails_eight_times_6 : Journal
 case_fails_eight_times_6 = record { timer = limits 0 1 19995 9985 19995 ∷ []; cpus = part (entry.Write 0 0 true ∷ entry.Write 0 1 true ∷ entry.Claimed 0 0 ∷ entry.Claimed 0 1 ∷ entry.Fault 0 2 ∷ entry.Back 0 0 false ∷ entry.Back 0 1 false ∷ entry.Claimed 0 0 ∷ entry.Claimed 0 1 ∷ entry.Fault 0 2 ∷ entry.Back 0 0 false ∷ entry.Back 0 1 false ∷ entry.Claimed 0 0 ∷ entry.Claimed 0 1 ∷ entry.Fault 0 2 ∷ entry.Back 0 0 false ∷ entry.Back 0 1 false ∷ entry.Claimed 0 0 ∷ entry.Claimed 0 1 ∷ entry.Fault 0 2 ∷ entry.Back 0 0 false ∷ entry.Back 0 1 false ∷ entry.Claimed 0 0 ∷ entry.Claimed 0 1 ∷ entry.Fault 0 2 ∷ entry.Back 0 0 false ∷ entry.Back 0 1 false ∷ entry.Claimed 0 0 ∷ entry.Claimed 0 1 ∷ entry.Fault 0 2 ∷ entry.Back 0 0 false ∷ entry.Back 0 1 false ∷ entry.Claimed 0 0 ∷ entry.Claimed 0 1 ∷ entry.Fault 0 2 ∷ entry.Back 0 0 false ∷ []) ([]) ([]) ∷ []; steps = []; bases = []; homes = []; left = left 0 1 ∷ left 1 2 ∷ []; strict = []; ending = ending.Halted }
 
 -- lawful
+abbrev pub case_given_estimate_trace : Trace
+case_given_estimate_trace = record { cpus = 1; cap = 1024; settings = settings 25 0 0 0; avail = avail 0 1000 ∷ []; devices = device 256 0 100 ∷ []; cgroups = []; contexts = given_context 0 0 48 55 39 ∷ ageing_context 0 0 31 ∷ []; inodes = inode 0 0 1 ∷ []; tasks = on_cpu 0 ∷ on_cpu 0 ∷ []; flushers = flusher 0 0 ∷ []; actions = action.Rest 1 10 ∷ action.Write 1 0 0 1 ∷ action.Rest 0 226 ∷ action.Write 0 0 0 1 ∷ action.Write 0 0 0 1 ∷ []; order = []; halt = None }
+
+abbrev pub case_given_estimate : Journal
+case_given_estimate = record { timer = limits 0 1 250 0 250 ∷ limits 0 201 250 0 250 ∷ []; cpus = part (entry.Write 1 0 true ∷ entry.Noticed 0 0 101 ∷ entry.Est 0 ∷ entry.Est 1 ∷ entry.Write 0 0 false ∷ entry.Write 0 0 false ∷ entry.Taken 0 0 ∷ entry.Claimed 0 0 ∷ entry.Batch 0 1 227 231 ∷ entry.Done 0 0 ∷ entry.Share 0 0 1 ∷ []) ([]) (estimate 0 1 45 55 39 55 0 0 201 ∷ estimate 1 1 24350 25600 25600 25600 0 0 201 ∷ []) ∷ []; steps = []; bases = []; homes = []; left = []; strict = []; ending = ending.Done }
+
+-- broken 6 7
+abbrev pub case_given_estimate_1_trace : Trace
+case_given_estimate_1_trace = record { cpus = 1; cap = 1024; settings = settings 25 0 0 0; avail = avail 0 1000 ∷ []; devices = device 256 0 100 ∷ []; cgroups = []; contexts = given_context 0 0 48 55 39 ∷ ageing_context 0 0 31 ∷ []; inodes = inode 0 0 1 ∷ []; tasks = on_cpu 0 ∷ on_cpu 0 ∷ []; flushers = flusher 0 0 ∷ []; actions = action.Rest 1 10 ∷ action.Write 1 0 0 1 ∷ action.Rest 0 226 ∷ action.Write 0 0 0 1 ∷ action.Write 0 0 0 1 ∷ []; order = []; halt = None }
+
+abbrev pub case_given_estimate_1 : Journal
+case_given_estimate_1 = record { timer = limits 0 1 250 0 250 ∷ limits 0 201 250 0 250 ∷ []; cpus = part (entry.Write 1 0 true ∷ entry.Noticed 0 0 101 ∷ entry.Est 0 ∷ entry.Est 1 ∷ entry.Write 0 0 false ∷ entry.Write 0 0 false ∷ entry.Taken 0 0 ∷ entry.Claimed 0 0 ∷ entry.Batch 0 1 227 231 ∷ entry.Done 0 0 ∷ entry.Share 0 0 1 ∷ []) ([]) (estimate 0 1 24350 25600 39 55 0 0 201 ∷ estimate 1 1 24350 25600 25600 25600 0 0 201 ∷ []) ∷ []; steps = []; bases = []; homes = []; left = []; strict = []; ending = ending.Done }
+
+-- broken 6 8
+abbrev pub case_given_estimate_2_trace : Trace
+case_given_estimate_2_trace = record { cpus = 1; cap = 1024; settings = settings 25 0 0 0; avail = avail 0 1000 ∷ []; devices = device 256 0 100 ∷ []; cgroups = []; contexts = given_context 0 0 48 55 39 ∷ ageing_context 0 0 31 ∷ []; inodes = inode 0 0 1 ∷ []; tasks = on_cpu 0 ∷ on_cpu 0 ∷ []; flushers = flusher 0 0 ∷ []; actions = action.Rest 1 10 ∷ action.Write 1 0 0 1 ∷ action.Rest 0 226 ∷ action.Write 0 0 0 1 ∷ action.Write 0 0 0 1 ∷ []; order = []; halt = None }
+
+abbrev pub case_given_estimate_2 : Journal
+case_given_estimate_2 = record { timer = limits 0 1 250 0 250 ∷ limits 0 201 250 0 250 ∷ []; cpus = part (entry.Write 1 0 true ∷ entry.Noticed 0 0 101 ∷ entry.Est 0 ∷ entry.Est 1 ∷ entry.Write 0 0 false ∷ entry.Write 0 0 false ∷ entry.Taken 0 0 ∷ entry.Claimed 0 0 ∷ entry.Batch 0 1 227 231 ∷ entry.Done 0 0 ∷ entry.Share 0 0 1 ∷ []) ([]) (estimate 0 1 45 55 39 55 0 0 201 ∷ estimate 1 1 45 55 25600 25600 0 0 201 ∷ []) ∷ []; steps = []; bases = []; homes = []; left = []; strict = []; ending = ending.Done }
+
+-- lawful
 abbrev pub case_gives_back_trace : Trace
 case_gives_back_trace = record { cpus = 2; cap = 1024; settings = settings 20 10 0 0; avail = avail 0 100000 ∷ []; devices = device 25600 0 100 ∷ []; cgroups = []; contexts = context 0 0 ∷ []; inodes = inode 0 0 2 ∷ []; tasks = on_cpu 0 ∷ []; flushers = flusher 0 1 ∷ []; actions = action.Write 0 0 0 2 ∷ action.Write 0 0 0 1 ∷ []; order = []; halt = None }
 
@@ -281,6 +330,20 @@ case_gives_back_8_trace = record { cpus = 2; cap = 1024; settings = settings 20 
 
 abbrev pub case_gives_back_8 : Journal
 case_gives_back_8 = record { timer = limits 0 1 19995 9985 19995 ∷ []; cpus = part (entry.Write 0 0 true ∷ entry.Write 0 1 true ∷ entry.Write 0 0 true ∷ []) ([]) ([]) ∷ part (entry.Claimed 0 0 ∷ entry.Claimed 0 1 ∷ entry.Fault 0 2 ∷ entry.Back 0 0 true ∷ entry.Back 0 1 false ∷ entry.Claimed 0 0 ∷ entry.Claimed 0 1 ∷ entry.Batch 0 2 1003 1004 ∷ entry.Done 0 0 ∷ entry.Done 0 1 ∷ entry.Share 0 0 2 ∷ []) ([]) ([]) ∷ []; steps = []; bases = []; homes = []; left = []; strict = []; ending = ending.Faulted }
+
+-- lawful
+abbrev pub case_goes_by_its_line_trace : Trace
+case_goes_by_its_line_trace = record { cpus = 1; cap = 1024; settings = settings 20 10 143360 4096; avail = avail 0 1000 ∷ []; devices = device 25600 0 100 ∷ []; cgroups = []; contexts = given_context 0 0 25600 25600 6400 ∷ []; inodes = inode 0 0 40 ∷ []; tasks = on_cpu 0 ∷ []; flushers = flusher 0 0 ∷ []; actions = action.Write 0 0 0 40 ∷ []; order = []; halt = None }
+
+abbrev pub case_goes_by_its_line : Journal
+case_goes_by_its_line = record { timer = limits 0 1 35 1 35 ∷ []; cpus = part (entry.Write 0 0 true ∷ entry.Write 0 1 true ∷ entry.Write 0 2 true ∷ entry.Write 0 3 true ∷ entry.Write 0 4 true ∷ entry.Write 0 5 true ∷ entry.Write 0 6 true ∷ entry.Write 0 7 true ∷ folded (counter.Context 0) 1 (pos 8) ∷ entry.Write 0 8 true ∷ entry.Write 0 9 true ∷ entry.Write 0 10 true ∷ entry.Write 0 11 true ∷ entry.Write 0 12 true ∷ entry.Write 0 13 true ∷ entry.Write 0 14 true ∷ entry.Write 0 15 true ∷ folded (counter.Context 0) 2 (pos 8) ∷ entry.Check 0 ∷ entry.Write 0 16 true ∷ entry.Write 0 17 true ∷ entry.Write 0 18 true ∷ entry.Write 0 19 true ∷ entry.Check 1 ∷ entry.Write 0 20 true ∷ entry.Write 0 21 true ∷ entry.Write 0 22 true ∷ entry.Write 0 23 true ∷ folded (counter.Context 0) 3 (pos 8) ∷ entry.Check 2 ∷ entry.Write 0 24 true ∷ entry.Write 0 25 true ∷ entry.Write 0 26 true ∷ entry.Write 0 27 true ∷ entry.Check 3 ∷ entry.Write 0 28 true ∷ entry.Write 0 29 true ∷ entry.Write 0 30 true ∷ entry.Write 0 31 true ∷ folded (counter.Context 0) 4 (pos 8) ∷ folded (counter.Domain 0) 1 (pos 32) ∷ entry.Check 4 ∷ entry.Write 0 32 true ∷ entry.Check 5 ∷ entry.Write 0 33 true ∷ entry.Check 6 ∷ entry.Write 0 34 true ∷ entry.Check 7 ∷ entry.Write 0 35 true ∷ entry.Check 8 ∷ entry.Write 0 36 true ∷ entry.Check 9 ∷ entry.Write 0 37 true ∷ entry.Check 10 ∷ entry.Write 0 38 true ∷ entry.Check 11 ∷ entry.Write 0 39 true ∷ folded (counter.Context 0) 5 (pos 8) ∷ entry.Check 12 ∷ entry.Claimed 0 0 ∷ entry.Claimed 0 1 ∷ entry.Claimed 0 2 ∷ entry.Claimed 0 3 ∷ entry.Claimed 0 4 ∷ entry.Claimed 0 5 ∷ entry.Claimed 0 6 ∷ entry.Claimed 0 7 ∷ entry.Claimed 0 8 ∷ entry.Claimed 0 9 ∷ entry.Claimed 0 10 ∷ entry.Claimed 0 11 ∷ entry.Claimed 0 12 ∷ entry.Claimed 0 13 ∷ entry.Claimed 0 14 ∷ entry.Claimed 0 15 ∷ entry.Claimed 0 16 ∷ entry.Claimed 0 17 ∷ entry.Claimed 0 18 ∷ entry.Claimed 0 19 ∷ entry.Claimed 0 20 ∷ entry.Claimed 0 21 ∷ entry.Claimed 0 22 ∷ entry.Claimed 0 23 ∷ entry.Claimed 0 24 ∷ entry.Claimed 0 25 ∷ entry.Claimed 0 26 ∷ entry.Claimed 0 27 ∷ entry.Claimed 0 28 ∷ entry.Claimed 0 29 ∷ entry.Claimed 0 30 ∷ entry.Claimed 0 31 ∷ entry.Claimed 0 32 ∷ entry.Claimed 0 33 ∷ entry.Claimed 0 34 ∷ entry.Claimed 0 35 ∷ entry.Claimed 0 36 ∷ entry.Claimed 0 37 ∷ entry.Claimed 0 38 ∷ entry.Claimed 0 39 ∷ entry.Batch 0 40 6 8 ∷ entry.Done 0 0 ∷ entry.Done 0 1 ∷ entry.Done 0 2 ∷ entry.Done 0 3 ∷ entry.Done 0 4 ∷ entry.Done 0 5 ∷ entry.Done 0 6 ∷ entry.Done 0 7 ∷ folded (counter.Context 0) 6 (negsuc 7) ∷ entry.Done 0 8 ∷ entry.Done 0 9 ∷ entry.Done 0 10 ∷ entry.Done 0 11 ∷ entry.Done 0 12 ∷ entry.Done 0 13 ∷ entry.Done 0 14 ∷ entry.Done 0 15 ∷ folded (counter.Context 0) 7 (negsuc 7) ∷ entry.Done 0 16 ∷ entry.Done 0 17 ∷ entry.Done 0 18 ∷ entry.Done 0 19 ∷ entry.Done 0 20 ∷ entry.Done 0 21 ∷ entry.Done 0 22 ∷ entry.Done 0 23 ∷ folded (counter.Context 0) 8 (negsuc 7) ∷ entry.Done 0 24 ∷ entry.Done 0 25 ∷ entry.Done 0 26 ∷ entry.Done 0 27 ∷ entry.Done 0 28 ∷ entry.Done 0 29 ∷ entry.Done 0 30 ∷ entry.Done 0 31 ∷ folded (counter.Context 0) 9 (negsuc 7) ∷ entry.Done 0 32 ∷ entry.Done 0 33 ∷ entry.Done 0 34 ∷ entry.Done 0 35 ∷ entry.Done 0 36 ∷ entry.Done 0 37 ∷ entry.Done 0 38 ∷ entry.Done 0 39 ∷ folded (counter.Context 0) 10 (negsuc 7) ∷ folded (counter.Domain 0) 2 (negsuc 31) ∷ entry.Share 0 0 40 ∷ []) (check 0 0 1 (read 0 0 35 1 35 0 (pos 0) 0 0 1) None 2 (pos 16) 0 kind.Free 0 4 0 4 1 ∷ check 0 0 1 (read 0 0 35 1 35 0 (pos 0) 0 0 1) None 2 (pos 16) 0 kind.Free 0 4 0 4 1 ∷ check 0 0 1 (read 0 0 35 1 35 0 (pos 0) 0 0 1) None 3 (pos 24) 0 kind.Free 0 4 0 4 1 ∷ check 0 0 1 (read 0 0 35 1 35 0 (pos 0) 0 0 1) None 3 (pos 24) 0 kind.Free 0 4 0 4 1 ∷ check 0 0 1 (read 0 0 35 1 35 1 (pos 32) 0 0 1) None 4 (pos 32) 0 kind.Go 1 1 0 1 3 ∷ check 0 0 2 (read 0 0 35 1 35 1 (pos 32) 0 0 1) None 4 (pos 32) 0 kind.Go 1 1 0 1 3 ∷ check 0 0 3 (read 0 0 35 1 35 1 (pos 32) 0 0 1) None 4 (pos 32) 0 kind.Go 0 1 1 2 3 ∷ check 0 0 3 (read 0 0 35 1 35 1 (pos 32) 0 0 1) None 4 (pos 32) 0 kind.Go 1 1 0 1 4 ∷ check 0 0 4 (read 0 0 35 1 35 1 (pos 32) 0 0 1) None 4 (pos 32) 0 kind.Go 0 1 1 2 4 ∷ check 0 0 4 (read 0 0 35 1 35 1 (pos 32) 0 0 1) None 4 (pos 32) 0 kind.Go 1 1 0 1 5 ∷ check 0 0 5 (read 0 0 35 1 35 1 (pos 32) 0 0 1) None 4 (pos 32) 0 kind.Go 0 1 1 2 5 ∷ check 0 0 5 (read 0 0 35 1 35 1 (pos 32) 0 0 1) None 4 (pos 32) 0 kind.Go 1 1 0 1 6 ∷ check 0 0 6 (read 0 0 35 1 35 1 (pos 32) 0 0 1) None 5 (pos 40) 0 kind.Go 0 1 1 2 6 ∷ []) ([]) ∷ []; steps = []; bases = []; homes = []; left = []; strict = []; ending = ending.Done }
+
+-- broken 7 55
+abbrev pub case_goes_by_its_line_1_trace : Trace
+case_goes_by_its_line_1_trace = record { cpus = 1; cap = 1024; settings = settings 20 10 143360 4096; avail = avail 0 1000 ∷ []; devices = device 25600 0 100 ∷ []; cgroups = []; contexts = given_context 0 0 25600 25600 6400 ∷ []; inodes = inode 0 0 40 ∷ []; tasks = on_cpu 0 ∷ []; flushers = flusher 0 0 ∷ []; actions = action.Write 0 0 0 40 ∷ []; order = []; halt = None }
+
+abbrev pub case_goes_by_its_line_1 : Journal
+case_goes_by_its_line_1 = record { timer = limits 0 1 35 1 35 ∷ []; cpus = part (entry.Write 0 0 true ∷ entry.Write 0 1 true ∷ entry.Write 0 2 true ∷ entry.Write 0 3 true ∷ entry.Write 0 4 true ∷ entry.Write 0 5 true ∷ entry.Write 0 6 true ∷ entry.Write 0 7 true ∷ folded (counter.Context 0) 1 (pos 8) ∷ entry.Write 0 8 true ∷ entry.Write 0 9 true ∷ entry.Write 0 10 true ∷ entry.Write 0 11 true ∷ entry.Write 0 12 true ∷ entry.Write 0 13 true ∷ entry.Write 0 14 true ∷ entry.Write 0 15 true ∷ folded (counter.Context 0) 2 (pos 8) ∷ entry.Check 0 ∷ entry.Write 0 16 true ∷ entry.Write 0 17 true ∷ entry.Write 0 18 true ∷ entry.Write 0 19 true ∷ entry.Check 1 ∷ entry.Write 0 20 true ∷ entry.Write 0 21 true ∷ entry.Write 0 22 true ∷ entry.Write 0 23 true ∷ folded (counter.Context 0) 3 (pos 8) ∷ entry.Check 2 ∷ entry.Write 0 24 true ∷ entry.Write 0 25 true ∷ entry.Write 0 26 true ∷ entry.Write 0 27 true ∷ entry.Check 3 ∷ entry.Write 0 28 true ∷ entry.Write 0 29 true ∷ entry.Write 0 30 true ∷ entry.Write 0 31 true ∷ folded (counter.Context 0) 4 (pos 8) ∷ folded (counter.Domain 0) 1 (pos 32) ∷ entry.Check 4 ∷ entry.Write 0 32 true ∷ entry.Check 5 ∷ entry.Write 0 33 true ∷ entry.Check 6 ∷ entry.Write 0 34 true ∷ entry.Check 7 ∷ entry.Write 0 35 true ∷ entry.Check 8 ∷ entry.Write 0 36 true ∷ entry.Check 9 ∷ entry.Write 0 37 true ∷ entry.Check 10 ∷ entry.Write 0 38 true ∷ entry.Check 11 ∷ entry.Write 0 39 true ∷ folded (counter.Context 0) 5 (pos 8) ∷ entry.Check 12 ∷ entry.Claimed 0 0 ∷ entry.Claimed 0 1 ∷ entry.Claimed 0 2 ∷ entry.Claimed 0 3 ∷ entry.Claimed 0 4 ∷ entry.Claimed 0 5 ∷ entry.Claimed 0 6 ∷ entry.Claimed 0 7 ∷ entry.Claimed 0 8 ∷ entry.Claimed 0 9 ∷ entry.Claimed 0 10 ∷ entry.Claimed 0 11 ∷ entry.Claimed 0 12 ∷ entry.Claimed 0 13 ∷ entry.Claimed 0 14 ∷ entry.Claimed 0 15 ∷ entry.Claimed 0 16 ∷ entry.Claimed 0 17 ∷ entry.Claimed 0 18 ∷ entry.Claimed 0 19 ∷ entry.Claimed 0 20 ∷ entry.Claimed 0 21 ∷ entry.Claimed 0 22 ∷ entry.Claimed 0 23 ∷ entry.Claimed 0 24 ∷ entry.Claimed 0 25 ∷ entry.Claimed 0 26 ∷ entry.Claimed 0 27 ∷ entry.Claimed 0 28 ∷ entry.Claimed 0 29 ∷ entry.Claimed 0 30 ∷ entry.Claimed 0 31 ∷ entry.Claimed 0 32 ∷ entry.Claimed 0 33 ∷ entry.Claimed 0 34 ∷ entry.Claimed 0 35 ∷ entry.Claimed 0 36 ∷ entry.Claimed 0 37 ∷ entry.Claimed 0 38 ∷ entry.Claimed 0 39 ∷ entry.Batch 0 40 6 8 ∷ entry.Done 0 0 ∷ entry.Done 0 1 ∷ entry.Done 0 2 ∷ entry.Done 0 3 ∷ entry.Done 0 4 ∷ entry.Done 0 5 ∷ entry.Done 0 6 ∷ entry.Done 0 7 ∷ folded (counter.Context 0) 6 (negsuc 7) ∷ entry.Done 0 8 ∷ entry.Done 0 9 ∷ entry.Done 0 10 ∷ entry.Done 0 11 ∷ entry.Done 0 12 ∷ entry.Done 0 13 ∷ entry.Done 0 14 ∷ entry.Done 0 15 ∷ folded (counter.Context 0) 7 (negsuc 7) ∷ entry.Done 0 16 ∷ entry.Done 0 17 ∷ entry.Done 0 18 ∷ entry.Done 0 19 ∷ entry.Done 0 20 ∷ entry.Done 0 21 ∷ entry.Done 0 22 ∷ entry.Done 0 23 ∷ folded (counter.Context 0) 8 (negsuc 7) ∷ entry.Done 0 24 ∷ entry.Done 0 25 ∷ entry.Done 0 26 ∷ entry.Done 0 27 ∷ entry.Done 0 28 ∷ entry.Done 0 29 ∷ entry.Done 0 30 ∷ entry.Done 0 31 ∷ folded (counter.Context 0) 9 (negsuc 7) ∷ entry.Done 0 32 ∷ entry.Done 0 33 ∷ entry.Done 0 34 ∷ entry.Done 0 35 ∷ entry.Done 0 36 ∷ entry.Done 0 37 ∷ entry.Done 0 38 ∷ entry.Done 0 39 ∷ folded (counter.Context 0) 10 (negsuc 7) ∷ folded (counter.Domain 0) 2 (negsuc 31) ∷ entry.Share 0 0 40 ∷ []) (check 0 0 1 (read 0 0 35 1 35 0 (pos 0) 0 0 1) None 2 (pos 16) 0 kind.Free 0 4 0 4 1 ∷ check 0 0 1 (read 0 0 35 1 35 0 (pos 0) 0 0 1) None 2 (pos 16) 0 kind.Free 0 4 0 4 1 ∷ check 0 0 1 (read 0 0 35 1 35 0 (pos 0) 0 0 1) None 3 (pos 24) 0 kind.Free 0 4 0 4 1 ∷ check 0 0 1 (read 0 0 35 1 35 0 (pos 0) 0 0 1) None 3 (pos 24) 0 kind.Free 0 4 0 4 1 ∷ check 0 0 1 (read 0 0 35 1 35 1 (pos 32) 0 0 1) None 4 (pos 32) 0 kind.Go 0 4 4 8 1 ∷ check 0 0 2 (read 0 0 35 1 35 1 (pos 32) 0 0 1) None 4 (pos 32) 0 kind.Go 1 1 0 1 3 ∷ check 0 0 3 (read 0 0 35 1 35 1 (pos 32) 0 0 1) None 4 (pos 32) 0 kind.Go 0 1 1 2 3 ∷ check 0 0 3 (read 0 0 35 1 35 1 (pos 32) 0 0 1) None 4 (pos 32) 0 kind.Go 1 1 0 1 4 ∷ check 0 0 4 (read 0 0 35 1 35 1 (pos 32) 0 0 1) None 4 (pos 32) 0 kind.Go 0 1 1 2 4 ∷ check 0 0 4 (read 0 0 35 1 35 1 (pos 32) 0 0 1) None 4 (pos 32) 0 kind.Go 1 1 0 1 5 ∷ check 0 0 5 (read 0 0 35 1 35 1 (pos 32) 0 0 1) None 4 (pos 32) 0 kind.Go 0 1 1 2 5 ∷ check 0 0 5 (read 0 0 35 1 35 1 (pos 32) 0 0 1) None 4 (pos 32) 0 kind.Go 1 1 0 1 6 ∷ check 0 0 6 (read 0 0 35 1 35 1 (pos 32) 0 0 1) None 5 (pos 40) 0 kind.Go 0 1 1 2 6 ∷ []) ([]) ∷ []; steps = []; bases = []; homes = []; left = []; strict = []; ending = ending.Done }
 
 -- lawful
 abbrev pub case_goes_on_trace : Trace

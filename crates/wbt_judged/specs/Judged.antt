@@ -5,7 +5,7 @@ use Rattle.wbt_journal.specs.Verdict.{lawful, broken, verdict_of}
 use Rattle.wbt_judged.specs.Found.{case_508_0, case_508_0_trace, case_508_1, case_508_1_trace, case_508_2, case_508_2_trace, case_508_3, case_508_3_trace, case_508_4, case_508_4_trace, case_512_0, case_512_0_trace, case_512_1, case_512_1_trace, case_512_2, case_512_2_trace, case_512_3, case_512_3_trace, case_512_4, case_512_4_trace, case_515_1, case_515_1_trace, case_515_2, case_515_2_trace, case_521_1, case_521_1_trace, case_532_0, case_532_0_trace, case_532_1, case_532_1_trace, case_532_2, case_532_2_trace, case_532_3, case_532_3_trace, case_532_4, case_532_4_trace, case_539_3, case_539_3_trace, case_549_0, case_549_0_trace, case_549_2, case_549_2_trace, case_559_2, case_559_2_trace, case_559_4, case_559_4_trace, case_560_0, case_560_0_trace, case_560_1, case_560_1_trace, case_560_2, case_560_2_trace, case_560_3, case_560_3_trace, case_560_4, case_560_4_trace, case_578_1, case_578_1_trace, case_578_3, case_578_3_trace, case_583_4, case_583_4_trace, case_588_4, case_588_4_trace, case_597_2, case_597_2_trace, case_601_3, case_601_3_trace, case_609_1, case_609_1_trace, case_609_2, case_609_2_trace, case_611_1, case_611_1_trace, case_611_2, case_611_2_trace, case_611_3, case_611_3_trace, case_612_0, case_612_0_trace, case_612_2, case_612_2_trace, case_612_3, case_612_3_trace, case_612_4, case_612_4_trace, case_613_4, case_613_4_trace}
 use Rattle.wbt_judged.specs.Strict.{case_514_2, case_514_2_trace, case_514_3, case_514_3_trace, case_527_3, case_527_3_trace, case_533_1, case_533_1_trace, case_538_3, case_538_3_trace, case_548_2, case_548_2_trace, case_548_4, case_548_4_trace, case_550_0, case_550_0_trace, case_556_3, case_556_3_trace, case_568_0, case_568_0_trace, case_568_3, case_568_3_trace, case_569_2, case_569_2_trace, case_569_4, case_569_4_trace, case_626_4, case_626_4_trace}
 use Rattle.wbt_judged.specs.Ageing.{case_502_1, case_502_1_trace, case_502_3, case_502_3_trace, case_518_2, case_518_2_trace, case_536_1, case_536_1_trace, case_587_4, case_587_4_trace, case_592_3, case_592_3_trace, case_596_1, case_596_1_trace, case_596_4, case_596_4_trace, case_610_4, case_610_4_trace, case_616_0, case_616_0_trace, case_616_4, case_616_4_trace, case_625_0, case_625_0_trace, case_625_3, case_625_3_trace, case_625_4, case_625_4_trace}
-use Rattle.wbt_judged.specs.Changed.{case_ages, case_ages_trace, case_ages_1, case_ages_1_trace, case_ages_2, case_ages_2_trace, case_ages_3, case_ages_3_trace, case_ages_4, case_ages_4_trace, case_ages_5, case_ages_5_trace, case_ages_6, case_ages_6_trace, case_ages_7, case_ages_7_trace, case_ages_8, case_ages_8_trace, case_ages_9, case_ages_9_trace, case_ages_10, case_ages_10_trace, case_ages_11, case_ages_11_trace, case_ages_12, case_ages_12_trace, case_ages_13, case_ages_13_trace, case_ages_14, case_ages_14_trace, case_ages_15, case_ages_15_trace, case_ages_16, case_ages_16_trace, case_ages_17, case_ages_17_trace, case_ages_18, case_ages_18_trace, case_cut_pauses, case_cut_pauses_trace, case_cut_pauses_1, case_cut_pauses_1_trace, case_cut_pauses_2, case_cut_pauses_2_trace, case_cut_pauses_3, case_cut_pauses_3_trace, case_fails_eight_times, case_fails_eight_times_trace, case_fails_eight_times_1, case_fails_eight_times_1_trace, case_fails_eight_times_2, case_fails_eight_times_2_trace, case_fails_eight_times_3, case_fails_eight_times_3_trace, case_fails_eight_times_4, case_fails_eight_times_4_trace, case_fails_eight_times_5, case_fails_eight_times_5_trace, case_fails_eight_times_6, case_fails_eight_times_6_trace, case_gives_back, case_gives_back_trace, case_gives_back_1, case_gives_back_1_trace, case_gives_back_2, case_gives_back_2_trace, case_gives_back_3, case_gives_back_3_trace, case_gives_back_4, case_gives_back_4_trace, case_gives_back_5, case_gives_back_5_trace, case_gives_back_6, case_gives_back_6_trace, case_gives_back_7, case_gives_back_7_trace, case_gives_back_8, case_gives_back_8_trace, case_goes_on, case_goes_on_trace, case_goes_on_1, case_goes_on_1_trace, case_goes_on_2, case_goes_on_2_trace, case_goes_on_in_a_cgroup, case_goes_on_in_a_cgroup_trace, case_goes_on_in_a_cgroup_1, case_goes_on_in_a_cgroup_1_trace, case_is_exempt, case_is_exempt_trace, case_is_exempt_1, case_is_exempt_1_trace, case_is_exempt_2, case_is_exempt_2_trace, case_is_exempt_with_two_cpus, case_is_exempt_with_two_cpus_trace, case_is_exempt_with_two_cpus_1, case_is_exempt_with_two_cpus_1_trace, case_older_triple, case_older_triple_trace, case_older_triple_1, case_older_triple_1_trace, case_older_triple_2, case_older_triple_2_trace, case_older_triple_3, case_older_triple_3_trace, case_older_triple_4, case_older_triple_4_trace, case_waits, case_waits_trace, case_waits_1, case_waits_1_trace, case_waits_2, case_waits_2_trace}
+use Rattle.wbt_judged.specs.Changed.{case_ages, case_ages_trace, case_ages_1, case_ages_1_trace, case_ages_2, case_ages_2_trace, case_ages_3, case_ages_3_trace, case_ages_4, case_ages_4_trace, case_ages_5, case_ages_5_trace, case_ages_6, case_ages_6_trace, case_ages_7, case_ages_7_trace, case_ages_8, case_ages_8_trace, case_ages_9, case_ages_9_trace, case_ages_10, case_ages_10_trace, case_ages_11, case_ages_11_trace, case_ages_12, case_ages_12_trace, case_ages_13, case_ages_13_trace, case_ages_14, case_ages_14_trace, case_ages_15, case_ages_15_trace, case_ages_16, case_ages_16_trace, case_ages_17, case_ages_17_trace, case_ages_18, case_ages_18_trace, case_chunked, case_chunked_trace, case_chunked_1, case_chunked_1_trace, case_chunked_2, case_chunked_2_trace, case_chunked_3, case_chunked_3_trace, case_cut_pauses, case_cut_pauses_trace, case_cut_pauses_1, case_cut_pauses_1_trace, case_cut_pauses_2, case_cut_pauses_2_trace, case_cut_pauses_3, case_cut_pauses_3_trace, case_fails_eight_times, case_fails_eight_times_trace, case_fails_eight_times_1, case_fails_eight_times_1_trace, case_fails_eight_times_2, case_fails_eight_times_2_trace, case_fails_eight_times_3, case_fails_eight_times_3_trace, case_fails_eight_times_4, case_fails_eight_times_4_trace, case_fails_eight_times_5, case_fails_eight_times_5_trace, case_fails_eight_times_6, case_fails_eight_times_6_trace, case_given_estimate, case_given_estimate_trace, case_given_estimate_1, case_given_estimate_1_trace, case_given_estimate_2, case_given_estimate_2_trace, case_gives_back, case_gives_back_trace, case_gives_back_1, case_gives_back_1_trace, case_gives_back_2, case_gives_back_2_trace, case_gives_back_3, case_gives_back_3_trace, case_gives_back_4, case_gives_back_4_trace, case_gives_back_5, case_gives_back_5_trace, case_gives_back_6, case_gives_back_6_trace, case_gives_back_7, case_gives_back_7_trace, case_gives_back_8, case_gives_back_8_trace, case_goes_by_its_line, case_goes_by_its_line_trace, case_goes_by_its_line_1, case_goes_by_its_line_1_trace, case_goes_on, case_goes_on_trace, case_goes_on_1, case_goes_on_1_trace, case_goes_on_2, case_goes_on_2_trace, case_goes_on_in_a_cgroup, case_goes_on_in_a_cgroup_trace, case_goes_on_in_a_cgroup_1, case_goes_on_in_a_cgroup_1_trace, case_is_exempt, case_is_exempt_trace, case_is_exempt_1, case_is_exempt_1_trace, case_is_exempt_2, case_is_exempt_2_trace, case_is_exempt_with_two_cpus, case_is_exempt_with_two_cpus_trace, case_is_exempt_with_two_cpus_1, case_is_exempt_with_two_cpus_1_trace, case_older_triple, case_older_triple_trace, case_older_triple_1, case_older_triple_1_trace, case_older_triple_2, case_older_triple_2_trace, case_older_triple_3, case_older_triple_3_trace, case_older_triple_4, case_older_triple_4_trace, case_waits, case_waits_trace, case_waits_1, case_waits_1_trace, case_waits_2, case_waits_2_trace}
 
 -- the definitions agree with each
 pub record AreJudged : Type 0 where
@@ -100,6 +100,10 @@ pub record AreJudged : Type 0 where
   pub is_case_ages_16 : verdict_of case_ages_16_trace (with_marks case_ages_16_trace case_ages_16) ≡ lawful
   pub is_case_ages_17 : verdict_of case_ages_17_trace (with_marks case_ages_17_trace case_ages_17) ≡ broken 14 27
   pub is_case_ages_18 : verdict_of case_ages_18_trace (with_marks case_ages_18_trace case_ages_18) ≡ broken 14 21
+  pub is_case_chunked : verdict_of case_chunked_trace (with_marks case_chunked_trace case_chunked) ≡ lawful
+  pub is_case_chunked_1 : verdict_of case_chunked_1_trace (with_marks case_chunked_1_trace case_chunked_1) ≡ broken 14 17
+  pub is_case_chunked_2 : verdict_of case_chunked_2_trace (with_marks case_chunked_2_trace case_chunked_2) ≡ broken 14 17
+  pub is_case_chunked_3 : verdict_of case_chunked_3_trace (with_marks case_chunked_3_trace case_chunked_3) ≡ lawful
   pub is_case_cut_pauses : verdict_of case_cut_pauses_trace (with_marks case_cut_pauses_trace case_cut_pauses) ≡ lawful
   pub is_case_cut_pauses_1 : verdict_of case_cut_pauses_1_trace (with_marks case_cut_pauses_1_trace case_cut_pauses_1) ≡ broken 7 67
   pub is_case_cut_pauses_2 : verdict_of case_cut_pauses_2_trace (with_marks case_cut_pauses_2_trace case_cut_pauses_2) ≡ broken 7 67
@@ -111,6 +115,9 @@ pub record AreJudged : Type 0 where
   pub is_case_fails_eight_times_4 : verdict_of case_fails_eight_times_4_trace (with_marks case_fails_eight_times_4_trace case_fails_eight_times_4) ≡ broken 16 47
   pub is_case_fails_eight_times_5 : verdict_of case_fails_eight_times_5_trace (with_marks case_fails_eight_times_5_trace case_fails_eight_times_5) ≡ broken 16 48
   pub is_case_fails_eight_times_6 : verdict_of case_fails_eight_times_6_trace (with_marks case_fails_eight_times_6_trace case_fails_eight_times_6) ≡ lawful
+  pub is_case_given_estimate : verdict_of case_given_estimate_trace (with_marks case_given_estimate_trace case_given_estimate) ≡ lawful
+  pub is_case_given_estimate_1 : verdict_of case_given_estimate_1_trace (with_marks case_given_estimate_1_trace case_given_estimate_1) ≡ broken 6 7
+  pub is_case_given_estimate_2 : verdict_of case_given_estimate_2_trace (with_marks case_given_estimate_2_trace case_given_estimate_2) ≡ broken 6 8
   pub is_case_gives_back : verdict_of case_gives_back_trace (with_marks case_gives_back_trace case_gives_back) ≡ lawful
   pub is_case_gives_back_1 : verdict_of case_gives_back_1_trace (with_marks case_gives_back_1_trace case_gives_back_1) ≡ broken 14 11
   pub is_case_gives_back_2 : verdict_of case_gives_back_2_trace (with_marks case_gives_back_2_trace case_gives_back_2) ≡ broken 14 12
@@ -120,6 +127,8 @@ pub record AreJudged : Type 0 where
   pub is_case_gives_back_6 : verdict_of case_gives_back_6_trace (with_marks case_gives_back_6_trace case_gives_back_6) ≡ broken 13 19
   pub is_case_gives_back_7 : verdict_of case_gives_back_7_trace (with_marks case_gives_back_7_trace case_gives_back_7) ≡ broken 12 12
   pub is_case_gives_back_8 : verdict_of case_gives_back_8_trace (with_marks case_gives_back_8_trace case_gives_back_8) ≡ broken 16 21
+  pub is_case_goes_by_its_line : verdict_of case_goes_by_its_line_trace (with_marks case_goes_by_its_line_trace case_goes_by_its_line) ≡ lawful
+  pub is_case_goes_by_its_line_1 : verdict_of case_goes_by_its_line_1_trace (with_marks case_goes_by_its_line_1_trace case_goes_by_its_line_1) ≡ broken 7 55
   pub is_case_goes_on : verdict_of case_goes_on_trace (with_marks case_goes_on_trace case_goes_on) ≡ lawful
   pub is_case_goes_on_1 : verdict_of case_goes_on_1_trace (with_marks case_goes_on_1_trace case_goes_on_1) ≡ broken 7 55
   pub is_case_goes_on_2 : verdict_of case_goes_on_2_trace (with_marks case_goes_on_2_trace case_goes_on_2) ≡ broken 7 62

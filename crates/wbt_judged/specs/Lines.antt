@@ -27,19 +27,30 @@ abbrev pub avail : (from pages : ℕ) → Avail
 avail from pages = record { from = from; pages = pages }
 
 abbrev pub device : (rate least most : ℕ) → Device
-device rate least most = record { rate = rate; min = least; max = most; strict = false }
+device rate least most = record { rate = rate; min = least; max = most; strict = false; chunk = None }
 
 abbrev pub strict_device : (rate least most : ℕ) → Device
-strict_device rate least most = record { rate = rate; min = least; max = most; strict = true }
+strict_device rate least most = record { rate = rate; min = least; max = most; strict = true; chunk = None }
+
+abbrev pub chunked_device : (rate least most pages : ℕ) → Device
+chunked_device rate least most pages = record { rate = rate; min = least; max = most; strict = false; chunk = Some pages }
 
 abbrev pub cgroup : (filepages headroom : ℕ) → Cgroup
 cgroup filepages headroom = record { filepages = filepages; headroom = headroom }
 
 abbrev pub context : (device domain : ℕ) → Context
-context device domain = record { device = device; domain = domain; expire = None }
+context device domain = record { device = device; domain = domain; expire = None; estimate = None }
 
 abbrev pub ageing_context : (device domain expire : ℕ) → Context
-ageing_context device domain expire = record { device = device; domain = domain; expire = Some expire }
+ageing_context device domain expire = record { device = device; domain = domain; expire = Some expire; estimate = None }
+
+abbrev pub given_context : (device domain bandwidth average ratelimit : ℕ) → Context
+given_context device domain bandwidth average ratelimit = record {
+  device = device;
+  domain = domain;
+  expire = None;
+  estimate = Some (record { bandwidth = bandwidth; average = average; ratelimit = ratelimit });
+}
 
 abbrev pub inode : (context first pages : ℕ) → Inode
 inode context first pages = record { context = context; first = first; pages = pages }

@@ -1,4 +1,5 @@
-//! Journals whose verdicts an independent implementation gave, and that the definitions of a lawful journal agree.
+//! Journals whose verdicts are known, and that the definitions of a lawful journal agree. An independent implementation gave most of them;
+//! a few were worked out by hand.
 //!
 //! `tools/judged-values` makes the definitions of a folder of judged journals. Nothing stands on this crate.
 #![tactic(auto)]

@@ -1,5 +1,5 @@
 -- The layout of a lawful trace is one.
-use Rattle.std.proofs.Common.{◌≡◌, ℕ, zero, suc, ◌+◌, ◌<◌, ◌≤◌, max, Bool, true, false, if◌then◌else◌, List, [], ◌∷◌, ◌++◌, All, length, map, get_or, refl, sym, ap, ◌∙◌, subst, arith, length-append}
+use Rattle.std.proofs.Common.{◌≡◌, ℕ, zero, suc, ◌+◌, ◌<◌, ◌≤◌, ◌^◌, max, Bool, true, false, if◌then◌else◌, List, [], ◌∷◌, ◌++◌, All, length, map, get_or, refl, sym, ap, ◌∙◌, subst, arith, length-append}
 use Rattle.std.proofs.lemmas.List.{length-map}
 use Rattle.std.proofs.lemmas.List.Elements.{All-nil}
 use Rattle.std.proofs.lemmas.List.Sums.{sum_by-cons}
@@ -14,6 +14,9 @@ use Rattle.wbt_trace.specs.declared.trace.Inode.{Inode}
 use Rattle.wbt_trace.specs.declared.trace.Trace.{Trace}
 use Rattle.wbt_trace.specs.declared.writers.Writer.{Writer}
 use Rattle.wbt_journal.specs.Machine.{domains}
+use Rattle.wbt_published.specs.Known.{IsFirst}
+use Rattle.wbt_rules.proofs.Openings.{by_version, by_sound}
+use Rattle.wbt_rules.specs.First.{first_by, first_estimates}
 use Rattle.wbt_rules.specs.Thresholds.{DomainFits, first_limits}
 use Rattle.wbt_table.specs.Layout.{IsLayout, AreInOrder, pages_in}
 use Rattle.wbt_table.specs.declared.layout.Place.{Place}
@@ -153,3 +156,9 @@ module _ (trace : Trace) (now : ℕ) (lawful : IsLawful trace) where
 pub sizes_some : (trace : Trace) (n : ℕ) → All (λ (size : ℕ). 1 ≤ size) (sizes_of trace n)
 sizes_some trace zero = All-nil (λ (size : ℕ). 1 ≤ size)
 sizes_some trace (suc n) = all_pushed (λ (size : ℕ). 1 ≤ size) (sizes_of trace n) (max (inodes_on trace n) 1) (sizes_some trace n) (omega arith)
+
+-- the estimates that the contexts begin with are first ones
+pub firsts_fit : (trace : Trace) (now : ℕ) → IsLawful trace → now < 2 ^ 62 → All IsFirst (first_estimates trace now)
+firsts_fit trace now lawful less =
+    all_mapped (IsContext (length trace.devices) (length trace.cgroups)) IsFirst (λ (c : Context). first_by c.estimate now)
+    (λ c is. (by_version c.estimate now, by_sound c.estimate now is.3 less)) trace.contexts lawful.within.contexts

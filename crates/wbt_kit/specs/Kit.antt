@@ -13,6 +13,7 @@ use Rattle.wbt_published.specs.Known.{opening}
 use Rattle.wbt_published.specs.Passes.{IsPassOf, all_left, all_handed, all_joined, Seats as EstPass}
 use Rattle.wbt_queue.specs.Known.{accompanied, newcomer, opening as empty}
 use Rattle.wbt_queue.specs.Passes.{IsPassOf as IsPassOfQueues, all_joined as all_parts, Seats as QueuePass}
+use Rattle.wbt_rules.specs.First.{first_estimates}
 use Rattle.wbt_kit.specs.Opening.{layout_of, homes_of, owners_of, queue_sizes}
 use Rattle.wbt_kit.specs.declared.kit.Kit.{Kit}
 use Rattle.wbt_kit.specs.declared.kit.Seats.{Seats}
@@ -29,6 +30,7 @@ pub record IsKitOf (trace : Trace) (now : ℕ) (kit : Kit) : Type 0 where
   pub domains_are : length kit.shares.domains ≡ domains trace
   pub homes : kit.shares.homes ≡ homes_of trace
   pub moment : kit.published.moment ≡ now
+  pub firsts : kit.published.firsts ≡ first_estimates trace now
   pub contexts_are : length kit.published.names ≡ contexts trace
   pub sizes : kit.queues.sizes ≡ queue_sizes trace
   pub owners : kit.owners ≡ owners_of trace

@@ -2,10 +2,13 @@
 
 ghost use Rattle.std.specs.Prelude.{◌≡◌, ◌<◌, ◌^◌, All, length, IfOk};
 ghost use Rattle.wbt_kit.specs.Opening as spec;
+ghost use Rattle.wbt_rules.specs.First.{first_estimates};
 
 use std::alloc::Global;
+use wbt_estimate::Estimate;
 use wbt_io::NoMemory;
 use wbt_num::Items;
+use wbt_rules::first_by;
 use wbt_trace::{FlusherLine, Inode, Trace};
 
 // The domain of each context.
@@ -17,6 +20,21 @@ pub fn homes_of(alloc: Global, trace: &Trace) -> Result<Items<u32>, NoMemory>
         homes.push(context.domain)?;
     }
     Ok(homes)
+}
+
+// The estimate that each context begins with, of a machine that is opened at this moment, in ticks.
+pub fn first_estimates_of(
+    alloc: Global,
+    trace: &Trace,
+    now: u64,
+) -> Result<Items<Estimate>, NoMemory>
+    ensures { IfOk result (λ firsts. firsts ≡ first_estimates trace.now now) }
+{
+    let mut firsts = Items::new(alloc);
+    for context in trace.contexts.as_slice() {
+        firsts.push(first_by(context.estimate, now))?;
+    }
+    Ok(firsts)
 }
 
 // By context: the CPU of the first flusher of its device.

@@ -1,19 +1,21 @@
 //! A kit and the seats at it: how they are made, split and joined.
 
-ghost use Rattle.std.specs.Prelude.{◌≡◌, ◌<◌, ◌^◌, [], length, map, IfOk, IfErr};
+ghost use Rattle.std.specs.Prelude.{◌≡◌, ◌<◌, ◌^◌, [], length, map, replicate, IfOk, IfErr};
 ghost use Rattle.wbt_trace.specs.Lawful.{IsLawful};
 ghost use Rattle.wbt_fraction.specs.Several.{AllFirst, CanSplit, HasRoom, HasTotalRoom, IsSeatOf};
 ghost use Rattle.wbt_fraction.specs.Totals.{room_of};
-ghost use Rattle.wbt_journal.specs.Machine.{domains};
+ghost use Rattle.wbt_journal.specs.Machine.{domains, contexts};
+ghost use Rattle.wbt_published.specs.Known.{opening};
 ghost use Rattle.wbt_published.specs.Passes.{IsPassOf};
 ghost use Rattle.wbt_queue.specs.Known.{opening as empty};
 ghost use Rattle.wbt_queue.specs.Passes.{IsPassOf as IsPassOfQueues};
+ghost use Rattle.wbt_rules.specs.First.{first_estimates};
 ghost use Rattle.wbt_table.specs.Calls.{IsFirst};
 ghost use Rattle.wbt_table.specs.Seat.{IsAt};
 ghost use Rattle.wbt_kit.specs.Opening as spec;
 ghost use Rattle.wbt_kit.specs.Kit.{IsKitOf, AreSeatsOf, AreFirst, HasOwners, IsHeldBy, CpusSplit, SharesSplit, PassesSplit, AreJoined};
 
-use crate::devices::{homes_of, owners_of, queue_sizes};
+use crate::devices::{first_estimates_of, homes_of, owners_of, queue_sizes};
 use crate::layout::layout_of;
 use std::alloc::Global;
 use std::sync::Wait;
@@ -68,7 +70,7 @@ impl Kit {
         let owners = owners_of(alloc, trace)?;
         let (throttle, cpu) = make_throttle(alloc, trace, now)?;
         let (shares, share) = make_shares(alloc, trace)?;
-        let (published, est) = Published::make(alloc, trace.contexts.as_slice().len() as u32, now)?;
+        let (published, est) = make_published(alloc, trace, now)?;
         let (queues, queue) = make_queues(alloc, trace)?;
         Ok((
             Kit {
@@ -225,6 +227,17 @@ fn make_shares(alloc: Global, trace: &Trace) -> Result<(Shares, ShareSeat), NoMe
 {
     let homes = homes_of(alloc, trace)?;
     Shares::make(alloc, domains_of(trace), homes.as_slice())
+}
+
+// The cells of a trace's estimates with the first ones of its contexts, and the pass that publishes for each context.
+fn make_published(alloc: Global, trace: &Trace, now: u64) -> Result<(Published, EstPass), NoMemory>
+    requires lawful { IsLawful trace.now }
+    requires moment { now < 2 ^ 62 }
+    ensures cells { IfOk result (λ made. (made.0.moment ≡ now) × (made.0.firsts ≡ first_estimates trace.now now) × (length made.0.names ≡ contexts trace.now)) }
+    ensures pass { IfOk result (λ made. made.1 ≡ record { names = made.0.names; known = replicate (contexts trace.now) opening }) }
+{
+    let firsts = first_estimates_of(alloc, trace, now)?;
+    Published::make(alloc, firsts, now)
 }
 
 // A queue for each device of a trace, and the pass that has put nothing.

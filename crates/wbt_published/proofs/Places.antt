@@ -1,5 +1,5 @@
 -- Estimates at the places of their versions, and what is said of each pass where one changes.
-use Rattle.std.proofs.Common.{◌≡◌, ◌≢◌, ℕ, zero, suc, ◌<◌, ◌≤◌, ◌⊎◌, List, [], ◌∷◌, ◌++◌, length, set, All, sym, refl, ap, ◌∙◌, subst, inl, inr, ⊎_elim, arith, Bool, cond, ne_eqb, length-append}
+use Rattle.std.proofs.Common.{◌≡◌, ◌≢◌, ℕ, zero, suc, ◌<◌, ◌≤◌, ◌⊎◌, List, [], ◌∷◌, ◌++◌, length, set, All, sym, refl, ap, ◌∙◌, subst, inl, inr, ⊎_elim, arith, Bool, cond, eqb, ne_eqb, length-append}
 use mathlib.Core.Option.{some, some-injective, some-ne-none}
 use lib.ListN.{get_elem?}
 use Rattle.std.proofs.lemmas.List.Elements.{All-append, All-cons, All-nil}
@@ -29,9 +29,8 @@ pub first_version : (now : ℕ) → (first_at now).version ≡ 0
 unfolding first_at
 first_version now = refl
 
-pub note_first : (now : ℕ) → note_of (first_at now) ≡ first_one
-unfolding first_at
-note_first now = refl
+pub note_first : (first : Estimate) → first.version ≡ 0 → note_of first ≡ first_one
+note_first first is = ap (λ (n : ℕ). cond (eqb n 0) first_one first) is
 
 pub note_other : (e : Estimate) → e.version ≢ 0 → note_of e ≡ e
 note_other e n = ap (λ (b : Bool). cond b first_one e) (ne_eqb e.version 0 n)

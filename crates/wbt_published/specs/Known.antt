@@ -1,14 +1,22 @@
 -- What a pass knows of the estimates of one context, and how it changes.
-use Rattle.std.specs.Prelude.{ℕ, Bool, true, false, cond, ◌||◌, [], ◌∷◌, ◌++◌, length, max, eqb}
+use Rattle.std.specs.Prelude.{◌≡◌, ℕ, Bool, true, false, cond, ◌||◌, List, [], ◌∷◌, ◌++◌, length, get_or, max, eqb}
 use Rattle.wbt_estimate.specs.declared.estimate.Estimate.{Estimate}
-use Rattle.wbt_estimate.specs.Estimate.{first_at}
+use Rattle.wbt_estimate.specs.Estimate.{IsSound, first_at}
 use Rattle.wbt_published.specs.declared.known.Known.{Known}
 
--- the first estimate, told apart from its moment, which the cells know
+-- what stands in a cell and in the notes for the first estimate, which the cells know
 abbrev pub first_one : Estimate
 first_one = first_at 0
 
--- how an estimate stands in the notes: the first one without its moment
+-- the first estimate of a context, of those of all contexts
+abbrev pub first_in : (firsts : List Estimate) (context : ℕ) → Estimate
+first_in firsts context = get_or firsts context first_one
+
+-- a context may begin with it
+abbrev pub IsFirst : (estimate : Estimate) → Type 0
+IsFirst estimate = (estimate.version ≡ 0) × IsSound estimate
+
+-- how an estimate stands in the notes: the first one, whatever it is, as one that is the same for all contexts
 abbrev pub note_of : (estimate : Estimate) → Estimate
 note_of estimate = cond (eqb estimate.version 0) first_one estimate
 

@@ -3,6 +3,7 @@ use Rattle.std.specs.Prelude.{◌≡◌, ℕ, ◌==◌, List, [], ◌∷◌, map
 use Rattle.atomic_table.specs.Seated.{TableId}
 use Rattle.crossbeam_utils.specs.declared.atomic.seq_cell.Doing.{Doing}
 use Rattle.crossbeam_utils.specs.declared.atomic.seq_cell.Wide.{Wide}
+use Rattle.wbt_estimate.specs.declared.estimate.Estimate.{Estimate}
 use Rattle.wbt_published.specs.declared.known.Known.{Known}
 use Rattle.wbt_published.specs.declared.rule.Stored.{Stored}
 use Rattle.wbt_published.specs.Known.{opening, left_with, handed_on, knows_both}
@@ -12,9 +13,10 @@ pub record Seat : Type 0 where
   pub name : TableId
   pub known : Known
 
--- the cells by context, and the moment at which they were made
+-- the cells by context, the moment at which they were made, and the estimates that they began with
 pub record Cells : Type 0 where
   pub moment : ℕ
+  pub firsts : List Estimate
   pub names : List TableId
 
 -- a pass by context: of which cell it is, and what it knows of its estimates

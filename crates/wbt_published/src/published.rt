@@ -1,8 +1,8 @@
 //! The cells of all contexts, and the passes to them.
 
 ghost use Rattle.std.specs.Prelude.{◌≡◌, ◌^◌, ◌<◌, ◌≤◌, true, All, set, length, replicate, IfOk, IfErr, IsTrue};
-ghost use Rattle.wbt_estimate.specs.Estimate.{IsSound, first_at};
-ghost use Rattle.wbt_published.specs.Known.{opening, first_one, next_version, note_of, after_read, after_publish};
+ghost use Rattle.wbt_estimate.specs.Estimate.{IsSound};
+ghost use Rattle.wbt_published.specs.Known.{opening, first_in, first_one, IsFirst, next_version, note_of, after_read, after_publish};
 ghost use Rattle.wbt_published.specs.Publishing.{IsComplete, IsNewest};
 ghost use Rattle.wbt_published.specs.Passes.{IsPassOf, known_of, all_left, all_handed, all_joined};
 
@@ -11,26 +11,30 @@ use crate::place::{Cell, Place};
 use std::alloc::Global;
 use std::marker::Model;
 use std::sync::Wait;
-use wbt_estimate::{Estimate, first_estimate};
+use wbt_estimate::Estimate;
 use wbt_io::NoMemory;
+use wbt_num::Items;
 
 /// One cell a context with its newest estimate. Threads share it by reference.
 #[derive(Drop)]
 pub struct Published {
     cells: Vec<Cell>,
+    /// By context: its first estimate.
+    firsts: Items<Estimate>,
     /// The moment of each first estimate.
     moment: u64,
 }
 
 impl Model for Published {
-    ghost use Rattle.std.specs.Prelude.{◌^◌, ◌<◌};
+    ghost use Rattle.std.specs.Prelude.{◌≡◌, ◌^◌, ◌<◌, All, length};
+    ghost use Rattle.wbt_published.specs.Known.{IsFirst};
     ghost use Rattle.wbt_published.specs.Passes.{Cells, cell_names};
 
     ghost Value = { Cells };
 
-    ghost view = { λ published. record { moment = published.moment; names = cell_names published.cells.items } };
+    ghost view = { λ published. record { moment = published.moment; firsts = published.firsts; names = cell_names published.cells.items } };
 
-    ghost invariant = { λ published. published.moment < 2 ^ 62 };
+    ghost invariant = { λ published. All IsFirst published.firsts × (length published.firsts ≡ length published.cells.items) };
 }
 
 /// What one thread knows of each context's estimates, and for which contexts it publishes.
@@ -48,16 +52,31 @@ impl Model for EstPass {
 }
 
 impl Published {
-    /// A cell a context with the first estimate of this moment, and the one pass to them, which publishes for all.
-    pub fn make(alloc: Global, contexts: u32, now: u64) -> Result<(Published, EstPass), NoMemory>
-        requires { now < 2 ^ 62 }
-        ensures cells { IfOk result (λ made. (made.0.moment ≡ now) × (length made.0.names ≡ contexts)) }
-        ensures pass { IfOk result (λ made. made.1 ≡ record { names = made.0.names; known = replicate contexts opening }) }
+    /// A cell a context with its first estimate, which is of this moment, and the one pass to them, which publishes for all.
+    ///
+    /// Requires: sound estimates of version 0.
+    pub fn make(
+        alloc: Global,
+        firsts: Items<Estimate>,
+        now: u64,
+    ) -> Result<(Published, EstPass), NoMemory>
+        requires firsts { All IsFirst firsts }
+        requires few { length firsts < 2 ^ 32 }
+        ensures cells { IfOk result (λ made. (made.0.moment ≡ now) × (made.0.firsts ≡ firsts) × (length made.0.names ≡ length firsts)) }
+        ensures pass { IfOk result (λ made. made.1 ≡ record { names = made.0.names; known = replicate (length firsts) opening }) }
     {
+        let contexts = firsts.as_slice().len() as u32;
         let cells = Vec::with_capacity(alloc, contexts as usize)?;
         let places = Vec::with_capacity(alloc, contexts as usize)?;
         let (cells, places) = open_each(alloc, contexts, cells, places)?;
-        Ok((Published { cells, moment: now }, EstPass { places }))
+        Ok((
+            Published {
+                cells,
+                firsts,
+                moment: now,
+            },
+            EstPass { places },
+        ))
     }
 
     /// A pass for a further thread. The right to publish goes to it for each context that this CPU owns, where the old
@@ -119,33 +138,29 @@ impl Published {
         requires pass { IsPassOf self.now pass.old }
         requires context { wb < length self.now.names }
         ensures noted { pass.new ≡ record pass.old { known = set pass.old.known wb (after_read (note_of result) (known_of wb pass.old)) } }
-        ensures first { result.version ≡ 0 → result ≡ first_at self.now.moment }
+        ensures first { result.version ≡ 0 → result ≡ first_in self.now.firsts wb }
         ensures sound { IsSound result }
         ensures fresh { ((known_of wb pass.old).seen ≤ result.version) × All (λ note. note.version ≤ result.version) (known_of wb pass.old).reads }
         ensures newest { (known_of wb pass.old).publishes ≡ true → IsNewest (known_of wb pass.old) (note_of result) }
     {
         let context = wb as usize;
         let found = pass.places[context].read(rt, &self.cells[context]);
-        dated(found, self.moment)
+        dated(found, self.firsts.as_slice()[context])
     }
 }
 
-// What a cell keeps, as it is read: the first estimate gets its moment.
-#[tactic(auto, using(crate::proofs::Places::note_first, crate::proofs::Places::note_other, crate::proofs::Places::first_version))]
-fn dated(found: Estimate, moment: u64) -> Estimate
-    requires moment { moment < 2 ^ 62 }
-    requires first { found.version ≡ 0 → found ≡ first_one }
+// What a cell keeps, as it is read: the context's first estimate stands for the one that all cells begin with.
+#[tactic(auto, using(crate::proofs::Places::note_first, crate::proofs::Places::note_other))]
+fn dated(found: Estimate, first: Estimate) -> Estimate
+    requires first { IsFirst first }
+    requires known { found.version ≡ 0 → found ≡ first_one }
     requires sound { IsSound found }
     ensures note { note_of result ≡ found }
     ensures version { result.version ≡ found.version }
-    ensures first { result.version ≡ 0 → result ≡ first_at moment }
+    ensures first { result.version ≡ 0 → result ≡ first }
     ensures sound { IsSound result }
 {
-    if found.version == 0 {
-        first_estimate(moment)
-    } else {
-        found
-    }
+    if found.version == 0 { first } else { found }
 }
 
 impl EstPass {

@@ -10,7 +10,6 @@ ghost use Rattle.wbt_replay_moves.specs.Seen.{seen};
 
 use std::alloc::{AllocError, Global};
 use wbt_counter::Count;
-use wbt_estimate::first_estimate;
 use wbt_expiry::Wheel;
 use wbt_flex::Half;
 use wbt_journal::TimerEntry;
@@ -22,8 +21,8 @@ use wbt_replay_moves::{
     ReplayWork, Stretch, Timer, Whose, Writeback,
 };
 use wbt_rules::{
-    PERIOD_TICKS, TIMER_REST, domains_of, first_limits as first_limits_at, first_of,
-    flusher_device, is_ageing, is_strict, leads, thresholds_at,
+    PERIOD_TICKS, TIMER_REST, domains_of, first_estimate, first_limits as first_limits_at,
+    first_of, flusher_device, is_ageing, is_strict, leads, thresholds_at,
 };
 use wbt_task::{CpuLocal, new_writer};
 use wbt_trace::{Action, Inode, Order, Trace};
@@ -52,7 +51,7 @@ pub fn opening(alloc: Global, trace: &Trace) -> Result<Machine, AllocError>
         pages: Pages::new(alloc, pages)?,
         ratelimit_pages: ratelimit_pages(thresh, trace.cpus),
         domains: first_domains(alloc, trace)?,
-        contexts: filled(alloc, trace.contexts.as_slice().len(), first_context())?,
+        contexts: first_contexts(alloc, trace)?,
         marks: filled(alloc, trace.inodes.as_slice().len(), false)?,
         queues: no_queues(alloc, trace.devices.as_slice().len())?,
         tasks,
@@ -140,8 +139,20 @@ fn first_domain(limits: Limits) -> Domain
     }
 }
 
-fn first_context() -> Writeback
-    ensures { result ≡ spec.first_context }
+fn first_contexts(alloc: Global, trace: &Trace) -> Result<Vec<Writeback>, AllocError>
+    requires { length trace.now.contexts < 2 ^ 31 }
+    ensures { IfOk result (λ list. list.items ≡ spec.first_contexts trace.now (length trace.now.contexts)) }
+{
+    let mut contexts = Vec::new(alloc);
+    for context in 0..trace.contexts.as_slice().len() as u32 {
+        contexts.push(first_context(trace, context))?;
+    }
+    Ok(contexts)
+}
+
+fn first_context(trace: &Trace, context: u32) -> Writeback
+    requires { context < length trace.now.contexts }
+    ensures { result ≡ spec.first_context trace.now context }
 {
     let none = Half {
         period: 0,
@@ -150,7 +161,7 @@ fn first_context() -> Writeback
     Writeback {
         count: NO_COUNT,
         written: 0,
-        estimate: first_estimate(OPENING),
+        estimate: first_estimate(trace, context, OPENING),
         part: none,
         cgroup_part: none,
     }

@@ -15,7 +15,9 @@ use crate::todo::{Silent, Step, Todo};
 use std::alloc::AllocError;
 use wbt_counter::Counter;
 use wbt_grant::StepKind;
-use wbt_rules::{ESTIMATE_AGE, FLUSHER_REST, Scan, chunk_of, context_of, first_of, flusher_device};
+use wbt_rules::{
+    ESTIMATE_AGE, FLUSHER_REST, Scan, context_of, device_at, first_of, flusher_device, quota_of,
+};
 use wbt_trace::Trace;
 
 impl Machine {
@@ -227,7 +229,7 @@ impl Machine {
         flusher: u32,
         inode: u32,
     ) -> Result<(), AllocError>
-        requires flusher { flusher < length (seen self.old).flushers }
+        requires flusher { HasFlusher trace.now flusher (length (seen self.old).flushers) (length (seen self.old).queues) }
         requires inode { HasInode trace.now inode (length (seen self.old).marks) (length (seen self.old).queues) }
         requires context { things.context_of trace.now inode < length (seen self.old).contexts }
         ensures { OnOk result (seen self.new ≡ spec.unmark_of trace.now cpu flusher inode (seen self.old)) }
@@ -239,18 +241,19 @@ impl Machine {
     }
 
     fn scan_of(&self, trace: &Trace, flusher: u32, inode: u32) -> ReplayPhase
-        requires flusher { flusher < length (seen self.now).flushers }
+        requires flusher { HasFlusher trace.now flusher (length (seen self.now).flushers) (length (seen self.now).queues) }
         requires inode { inode < length trace.now.inodes }
         requires context { things.context_of trace.now inode < length (seen self.now).contexts }
         ensures { result ≡ spec.scan_of trace.now flusher inode (seen self.now) }
     {
         let context = context_of(trace, inode);
         let avg = self.contexts[context as usize].estimate.avg;
+        let device = device_at(trace, flusher_device(trace, flusher));
         ReplayPhase::Scanning {
             scan: Scan {
                 inode,
                 page: first_of(trace, inode),
-                quota: chunk_of(avg, self.flushers[flusher as usize].hard),
+                quota: quota_of(&device, avg, self.flushers[flusher as usize].hard),
                 noted: false,
             },
         }

@@ -2,6 +2,7 @@ pub mod Worked
 pub mod WorkedAgain
 pub mod WorkedAges
 pub mod WorkedChecks
+pub mod WorkedChunks
 pub mod WorkedDisks
 pub mod WorkedEstimates
 pub mod WorkedOpening

@@ -20,9 +20,9 @@ small pages actions = record {
   cap = 1024;
   settings = no_settings;
   avail = (record { from = 0; pages = 100000 }) ∷ [];
-  devices = (record { rate = 25600; min = 0; max = 100; strict = false }) ∷ [];
+  devices = (record { rate = 25600; min = 0; max = 100; strict = false; chunk = None }) ∷ [];
   cgroups = [];
-  contexts = (record { device = 0; domain = 0; expire = None }) ∷ [];
+  contexts = (record { device = 0; domain = 0; expire = None; estimate = None }) ∷ [];
   inodes = (record { context = 0; first = 0; pages = pages }) ∷ [];
   tasks = (record { cpu = 0 }) ∷ [];
   flushers = (record { device = 0; cpu = 0 }) ∷ [];
@@ -91,9 +91,9 @@ two_cpus_trace = record {
   cap = 1024;
   settings = no_settings;
   avail = (record { from = 0; pages = 100000 }) ∷ [];
-  devices = (record { rate = 25600; min = 0; max = 100; strict = false }) ∷ [];
+  devices = (record { rate = 25600; min = 0; max = 100; strict = false; chunk = None }) ∷ [];
   cgroups = [];
-  contexts = (record { device = 0; domain = 0; expire = None }) ∷ [];
+  contexts = (record { device = 0; domain = 0; expire = None; estimate = None }) ∷ [];
   inodes = (record { context = 0; first = 0; pages = 2 }) ∷ [];
   tasks = (record { cpu = 0 }) ∷ (record { cpu = 1 }) ∷ [];
   flushers = (record { device = 0; cpu = 1 }) ∷ [];

@@ -13,9 +13,9 @@ dirty_again_trace = record {
   cap = 1024;
   settings = no_settings;
   avail = (record { from = 0; pages = 1000 }) ∷ [];
-  devices = (record { rate = 128; min = 0; max = 100; strict = false }) ∷ [];
+  devices = (record { rate = 128; min = 0; max = 100; strict = false; chunk = None }) ∷ [];
   cgroups = [];
-  contexts = (record { device = 0; domain = 0; expire = None }) ∷ [];
+  contexts = (record { device = 0; domain = 0; expire = None; estimate = None }) ∷ [];
   inodes = (record { context = 0; first = 0; pages = 128 }) ∷ [];
   tasks = (record { cpu = 0 }) ∷ [];
   flushers = (record { device = 0; cpu = 0 }) ∷ (record { device = 0; cpu = 0 }) ∷ [];

@@ -1,5 +1,5 @@
 -- Worked runs of an ageing device: the text of the journal of a trace, in full.
-use Rattle.std.specs.Prelude.{◌≡◌, ℕ, Some, List, [], ◌∷◌, codes, ◌++◌}
+use Rattle.std.specs.Prelude.{◌≡◌, ℕ, Some, None, List, [], ◌∷◌, codes, ◌++◌}
 use Rattle.wbt_trace.specs.declared.trace.Action.{Action}
 use Rattle.wbt_trace.specs.declared.trace.Action.TheVariants.{Write, Rest}
 use Rattle.wbt_trace.specs.declared.trace.Trace.{Trace}
@@ -9,7 +9,7 @@ use Rattle.wbt_replay_worked.specs.Worked.{small}
 
 -- the small machine, with a disk whose inodes are due so many hundredths of a second after they were noticed
 abbrev pub ageing_small : (centi pages : ℕ) (actions : List Action) → Trace
-ageing_small centi pages actions = record (small pages actions) { contexts = (record { device = 0; domain = 0; expire = Some centi }) ∷ [] }
+ageing_small centi pages actions = record (small pages actions) { contexts = (record { device = 0; domain = 0; expire = Some centi; estimate = None }) ∷ [] }
 
 -- ---- a page is written for its age while its task rests
 

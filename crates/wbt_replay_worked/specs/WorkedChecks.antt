@@ -17,9 +17,9 @@ checked_trace = record {
   settings = no_settings;
   avail =
       (record { from = 0; pages = 166 }) ∷ (record { from = 150; pages = 20 }) ∷ (record { from = 3500; pages = 70 }) ∷ [];
-  devices = (record { rate = 40; min = 0; max = 100; strict = false }) ∷ (record { rate = 300; min = 10; max = 60; strict = false }) ∷ [];
+  devices = (record { rate = 40; min = 0; max = 100; strict = false; chunk = None }) ∷ (record { rate = 300; min = 10; max = 60; strict = false; chunk = None }) ∷ [];
   cgroups = (record { filepages = 100; headroom = 0 }) ∷ (record { filepages = 30; headroom = 5 }) ∷ [];
-  contexts = (record { device = 0; domain = 1; expire = None }) ∷ (record { device = 1; domain = 2; expire = None }) ∷ [];
+  contexts = (record { device = 0; domain = 1; expire = None; estimate = None }) ∷ (record { device = 1; domain = 2; expire = None; estimate = None }) ∷ [];
   inodes =
       (record { context = 0; first = 0; pages = 4 }) ∷ (record { context = 1; first = 4; pages = 3 })
       ∷ (record { context = 0; first = 7; pages = 16 }) ∷ (record { context = 0; first = 23; pages = 28 }) ∷ [];

@@ -15,9 +15,9 @@ two_disks_trace = record {
   cap = 64;
   settings = no_settings;
   avail = (record { from = 0; pages = 100000 }) ∷ [];
-  devices = (record { rate = 25600; min = 0; max = 100; strict = false }) ∷ (record { rate = 7; min = 0; max = 100; strict = false }) ∷ [];
+  devices = (record { rate = 25600; min = 0; max = 100; strict = false; chunk = None }) ∷ (record { rate = 7; min = 0; max = 100; strict = false; chunk = None }) ∷ [];
   cgroups = [];
-  contexts = (record { device = 0; domain = 0; expire = None }) ∷ (record { device = 1; domain = 0; expire = None }) ∷ [];
+  contexts = (record { device = 0; domain = 0; expire = None; estimate = None }) ∷ (record { device = 1; domain = 0; expire = None; estimate = None }) ∷ [];
   inodes =
       (record { context = 0; first = 0; pages = 10 }) ∷ (record { context = 1; first = 10; pages = 3 })
       ∷ (record { context = 0; first = 13; pages = 6 }) ∷ (record { context = 1; first = 19; pages = 2 })

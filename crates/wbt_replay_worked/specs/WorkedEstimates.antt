@@ -1,5 +1,5 @@
--- Worked runs of estimates: of which moment a sample is, and what becomes of a rate limit at the setpoint itself.
-use Rattle.std.specs.Prelude.{◌≡◌, ℕ, List, [], ◌∷◌, codes, ◌++◌, false}
+-- Worked runs of estimates: of which moment a sample is, what becomes of a rate limit at the setpoint itself, and what a trace gives at first.
+use Rattle.std.specs.Prelude.{◌≡◌, ℕ, List, [], ◌∷◌, Some, None, codes, ◌++◌, false}
 use Rattle.wbt_trace.specs.declared.trace.Action.TheVariants.{Write, Rest}
 use Rattle.wbt_trace.specs.declared.trace.Order.TheVariants.{Steps, Tick}
 use Rattle.wbt_trace.specs.declared.trace.Trace.{Trace}
@@ -13,7 +13,7 @@ use Rattle.wbt_replay_worked.specs.Worked.{small}
 abbrev pub sample_moment_trace : Trace
 sample_moment_trace = record (small 1 (Rest 0 300 ∷ Write 0 0 0 1 ∷ [])) {
   avail = (record { from = 0; pages = 1000 }) ∷ [];
-  devices = (record { rate = 128; min = 0; max = 100; strict = false }) ∷ [];
+  devices = (record { rate = 128; min = 0; max = 100; strict = false; chunk = None }) ∷ [];
   order = Tick 200 ∷ Steps 0 4 ∷ Tick 7 ∷ [];
 }
 
@@ -63,3 +63,25 @@ unfoldable pub AtSetpointRun : Type 0
 AtSetpointRun =
     journal_text (journal_of at_setpoint_trace)
     ≡ at_setpoint_timer ++ at_setpoint_cpu_0 ++ at_setpoint_steps_0 ++ at_setpoint_steps_1 ++ at_setpoint_end
+
+-- ---- the trace says what a context's estimate is at first
+
+-- That of the task that rests while half of the memory goes away, with 100 pages a second, 100 on average, and a rate limit of 50.
+abbrev pub given_estimate_trace : Trace
+given_estimate_trace = record (small 2 (Rest 0 300 ∷ Write 0 0 0 1 ∷ [])) {
+  avail = (record { from = 0; pages = 100000 }) ∷ (record { from = 150; pages = 50000 }) ∷ [];
+  contexts = (record { device = 0; domain = 0; expire = None; estimate = Some (record { bandwidth = 100; average = 100; ratelimit = 50 }) }) ∷ [];
+}
+
+-- The first update, at tick 201, goes on from there.
+abbrev pub given_estimate_parts : List ℕ
+given_estimate_parts = codes "timer\nlimits 0 1 19995 9985 19995\nlimits 0 201 9997 4992 19683\ncpu 0\nest 0 1 95 100 50 100 0 0 201\nwrite 0 0 fresh\nclaim 0 0\nbatch 0 1 301 302\ndone 0 0\nshare 0 0 1\n"
+
+abbrev pub given_estimate_steps : List ℕ
+given_estimate_steps = codes "steps\nstep 1 0 first 0 21067\nstep 2 0 middle 0 21067\nstep 3 0 limits 0 21067\nstep 4 0 count 0 21067\nstep 5 0 first 0 21067\nstep 6 0 middle 0 21067\nstep 7 0 limits 0 21067\nstep 8 0 count 0 21067\nstep 9 0 first 0 21067\nstep 10 0 middle 0 21067\nstep 11 0 limits 0 21067\nstep 12 0 count 0 21067\nstep 13 0 count 0 21067\nstep 14 timer count 0 21067\nstep 15 timer peak 0 21067\nstep 16 timer unseal 0 21067\nstep 17 timer thresh 0 21067\nstep 18 timer publish 0 21067\nstep 19 0 dirty 1 21067\nstep 20 0 add 1 21067\nstep 21 0 add 1 21067\nstep 22 0 mark 1 21067\nstep 23 0 unmark 1 21067\nstep 24 0 look 1 21067\nstep 25 0 claim 1 21067\nstep 26 0 look 1 21067\nstep 27 0 complete 0 21067\nstep 28 0 add 0 21067\nstep 29 0 add 0 21067\n"
+
+abbrev pub given_estimate_end : List ℕ
+given_estimate_end = codes "census 0 0\ntotals 1 1\nend done\n"
+
+unfoldable pub GivenEstimateRun : Type 0
+GivenEstimateRun = journal_text (journal_of given_estimate_trace) ≡ given_estimate_parts ++ given_estimate_steps ++ given_estimate_end

@@ -37,9 +37,9 @@ before_clear_trace = record {
   cap = 1024;
   settings = no_settings;
   avail = (record { from = 0; pages = 100000 }) ∷ [];
-  devices = (record { rate = 25600; min = 0; max = 100; strict = false }) ∷ [];
+  devices = (record { rate = 25600; min = 0; max = 100; strict = false; chunk = None }) ∷ [];
   cgroups = [];
-  contexts = (record { device = 0; domain = 0; expire = None }) ∷ [];
+  contexts = (record { device = 0; domain = 0; expire = None; estimate = None }) ∷ [];
   inodes = (record { context = 0; first = 0; pages = 64 }) ∷ [];
   tasks = (record { cpu = 0 }) ∷ (record { cpu = 1 }) ∷ [];
   flushers = (record { device = 0; cpu = 2 }) ∷ [];
@@ -103,9 +103,9 @@ same_reading_trace = record {
   cap = 1;
   settings = no_settings;
   avail = (record { from = 0; pages = 0 }) ∷ [];
-  devices = (record { rate = 25600; min = 0; max = 100; strict = false }) ∷ [];
+  devices = (record { rate = 25600; min = 0; max = 100; strict = false; chunk = None }) ∷ [];
   cgroups = [];
-  contexts = (record { device = 0; domain = 0; expire = None }) ∷ [];
+  contexts = (record { device = 0; domain = 0; expire = None; estimate = None }) ∷ [];
   inodes = (record { context = 0; first = 0; pages = 4 }) ∷ [];
   tasks = (record { cpu = 0 }) ∷ (record { cpu = 1 }) ∷ [];
   flushers = (record { device = 0; cpu = 2 }) ∷ [];
@@ -149,9 +149,9 @@ missed_claim_trace = record {
   cap = 1024;
   settings = no_settings;
   avail = (record { from = 0; pages = 1000 }) ∷ [];
-  devices = (record { rate = 25600; min = 0; max = 100; strict = false }) ∷ [];
+  devices = (record { rate = 25600; min = 0; max = 100; strict = false; chunk = None }) ∷ [];
   cgroups = [];
-  contexts = (record { device = 0; domain = 0; expire = None }) ∷ [];
+  contexts = (record { device = 0; domain = 0; expire = None; estimate = None }) ∷ [];
   inodes = (record { context = 0; first = 0; pages = 1 }) ∷ (record { context = 0; first = 1; pages = 1 }) ∷ [];
   tasks = (record { cpu = 0 }) ∷ [];
   flushers = (record { device = 0; cpu = 0 }) ∷ (record { device = 0; cpu = 1 }) ∷ [];

@@ -1,5 +1,5 @@
 -- Worked runs of a strict device: the text of the journal of a trace, in full.
-use Rattle.std.specs.Prelude.{◌≡◌, ℕ, List, [], ◌∷◌, codes, ◌++◌, true}
+use Rattle.std.specs.Prelude.{◌≡◌, ℕ, List, [], ◌∷◌, None, codes, ◌++◌, true}
 use Rattle.wbt_trace.specs.declared.trace.Action.{Action}
 use Rattle.wbt_trace.specs.declared.trace.Action.TheVariants.{Write, Rest}
 use Rattle.wbt_trace.specs.declared.trace.Trace.{Trace}
@@ -9,7 +9,7 @@ use Rattle.wbt_replay_worked.specs.Worked.{small}
 
 -- the small machine, with a strict disk
 abbrev pub strict_small : (pages : ℕ) (actions : List Action) → Trace
-strict_small pages actions = record (small pages actions) { devices = (record { rate = 25600; min = 0; max = 100; strict = true }) ∷ [] }
+strict_small pages actions = record (small pages actions) { devices = (record { rate = 25600; min = 0; max = 100; strict = true; chunk = None }) ∷ [] }
 
 -- ---- two pages are written
 

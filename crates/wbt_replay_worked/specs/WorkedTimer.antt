@@ -38,9 +38,9 @@ estimated_trace = record {
   cap = 64;
   settings = no_settings;
   avail = (record { from = 0; pages = 100000 }) ∷ (record { from = 300; pages = 60000 }) ∷ [];
-  devices = (record { rate = 25600; min = 0; max = 100; strict = false }) ∷ (record { rate = 7; min = 0; max = 100; strict = false }) ∷ [];
+  devices = (record { rate = 25600; min = 0; max = 100; strict = false; chunk = None }) ∷ (record { rate = 7; min = 0; max = 100; strict = false; chunk = None }) ∷ [];
   cgroups = [];
-  contexts = (record { device = 0; domain = 0; expire = None }) ∷ (record { device = 1; domain = 0; expire = None }) ∷ [];
+  contexts = (record { device = 0; domain = 0; expire = None; estimate = None }) ∷ (record { device = 1; domain = 0; expire = None; estimate = None }) ∷ [];
   inodes = (record { context = 0; first = 0; pages = 2 }) ∷ (record { context = 1; first = 2; pages = 2 }) ∷ [];
   tasks = (record { cpu = 0 }) ∷ (record { cpu = 1 }) ∷ [];
   flushers = (record { device = 0; cpu = 0 }) ∷ (record { device = 1; cpu = 1 }) ∷ [];

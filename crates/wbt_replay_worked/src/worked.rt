@@ -3,13 +3,14 @@
 ghost use Rattle.wbt_replay_worked.specs.WorkedAgain.{DirtyAgainRun};
 ghost use Rattle.wbt_replay_worked.specs.WorkedAges.{AgedPageRun, WaitingInodeRun};
 ghost use Rattle.wbt_replay_worked.specs.WorkedChecks.{CheckedRun};
+ghost use Rattle.wbt_replay_worked.specs.WorkedChunks.{ChunkedRun};
 ghost use Rattle.wbt_replay_worked.specs.WorkedOrders.{LastRestRun, HaltedRun, BeforeClearRun, SameReadingRun, MissedClaimRun};
 ghost use Rattle.wbt_replay_worked.specs.Worked.{EmptyRun, TwoPagesRun, EightPagesRun, TwoCpusRun};
 ghost use Rattle.wbt_replay_worked.specs.WorkedDisks.{TwoDisksRun};
 ghost use Rattle.wbt_replay_worked.specs.WorkedStrict.{StrictPagesRun, StrictWeighedRun};
 ghost use Rattle.wbt_replay_worked.specs.WorkedTimer.{RestingRun, EstimatedRun, CutTurnRun, UnsealedRun, OvertakenRun};
 ghost use Rattle.wbt_replay_worked.specs.WorkedOpening.{NoActionRun, OddLimitsRun};
-ghost use Rattle.wbt_replay_worked.specs.WorkedEstimates.{SampleMomentRun, AtSetpointRun};
+ghost use Rattle.wbt_replay_worked.specs.WorkedEstimates.{SampleMomentRun, AtSetpointRun, GivenEstimateRun};
 
 /// The run of a trace that writes nothing: the flusher finds no inode in its queue, and the run ends without a step.
 pub fn empty_run()
@@ -160,4 +161,16 @@ pub fn aged_page_run()
 /// its list in the drain.
 pub fn waiting_inode_run()
     ensures { WaitingInodeRun }
+{}
+
+/// The run of the trace that writes two pages, on a disk whose scans end with one page: the first scan marks the inode again in step 16, as
+/// it hasn't come to its end, and the second looks at both pages and takes the other one. Each page has a flight of its own.
+pub fn chunked_run()
+    ensures { ChunkedRun }
+{}
+
+/// The run of the trace whose task rests for 300 ticks, with a context that begins with 100 pages a second, 100 on average, and a rate limit
+/// of 50: the update at tick 201 goes on from these.
+pub fn given_estimate_run()
+    ensures { GivenEstimateRun }
 {}

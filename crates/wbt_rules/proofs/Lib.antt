@@ -1,3 +1,5 @@
 pub mod Firsts
 pub mod Sharing
 pub mod Parts
+pub mod Quotas
+pub mod Openings

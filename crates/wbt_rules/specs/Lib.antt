@@ -5,3 +5,4 @@ pub mod Flusher
 pub mod Moments
 pub mod Strict
 pub mod Age
+pub mod First

@@ -16,7 +16,7 @@ abbrev pub inode_in : (inodes : List Inode) (inode : ℕ) → Inode
 inode_in inodes inode = get_or inodes inode (record { context = 0; first = 0; pages = 0 })
 
 abbrev pub context_in : (contexts : List Context) (context : ℕ) → Context
-context_in contexts context = get_or contexts context (record { device = 0; domain = 0; expire = None })
+context_in contexts context = get_or contexts context (record { device = 0; domain = 0; expire = None; estimate = None })
 
 abbrev pub inode_of : (trace : Trace) (inode : ℕ) → Inode
 inode_of trace inode = inode_in trace.inodes inode
@@ -59,7 +59,7 @@ abbrev pub leads : (trace : Trace) (flusher : ℕ) → Bool
 leads trace flusher = first_flusher (flusher_device trace flusher) 0 trace.flushers == flusher
 
 abbrev pub device_at : (trace : Trace) (device : ℕ) → Device
-device_at trace device = get_or trace.devices device (record { rate = 1; min = 0; max = 100; strict = false })
+device_at trace device = get_or trace.devices device (record { rate = 1; min = 0; max = 100; strict = false; chunk = None })
 
 -- how many pages the device writes in a second
 abbrev pub rate_of : (trace : Trace) (device : ℕ) → ℕ

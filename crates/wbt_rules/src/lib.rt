@@ -18,6 +18,7 @@
 #![tactic(auto)]
 
 mod age;
+mod first;
 mod flusher;
 pub mod laws;
 mod limits;
@@ -28,7 +29,8 @@ mod strict;
 mod things;
 
 pub use age::{DEFAULT_EXPIRE, EXPIRE_TICKS, MOST_NOTICED, due_after, expire_of, is_ageing};
-pub use flusher::{chunk_of, has_landed, is_or_was_over};
+pub use first::{first_by, first_estimate};
+pub use flusher::{chunk_at, chunk_of, has_landed, is_or_was_over, is_within_chunk, quota_of};
 pub use limits::{avail_at, first_limits, limits_after, thresholds_at};
 pub use moments::{
     ESTIMATE_AGE, FLUSHER_REST, MOST_FAULTS, PERIOD_TICKS, RETRY_REST, TIMER_REST, next_period,
@@ -38,6 +40,6 @@ pub use read::part_read;
 pub use scan::Scan;
 pub use strict::{is_over_own, is_strict};
 pub use things::{
-    context_device, context_of, device_of, domains_of, end_of, first_of, flusher_device,
+    context_device, context_of, device_at, device_of, domains_of, end_of, first_of, flusher_device,
     greatest_share, group_of, leads, least_shares, max_share, rate_of,
 };

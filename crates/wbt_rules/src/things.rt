@@ -85,6 +85,14 @@ fn first_flusher(device: u32, flushers: &[FlusherLine]) -> u32
     0
 }
 
+/// The device of this number.
+pub fn device_at(trace: &Trace, device: u32) -> Device
+    requires { device < length trace.now.devices }
+    ensures { result ≡ spec.device_at trace.now device }
+{
+    trace.devices.as_slice()[device as usize]
+}
+
 /// How many pages the device writes in a second.
 pub fn rate_of(trace: &Trace, device: u32) -> u64
     requires { device < length trace.now.devices }

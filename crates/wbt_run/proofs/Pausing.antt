@@ -1,5 +1,5 @@
 -- No check that a CPU tells pauses longer than a pause may be.
-use Rattle.std.proofs.Common.{◌≡◌, ℕ, ◌<◌, ◌≤◌, List, [], ◌∷◌, sym, subst, arith}
+use Rattle.std.proofs.Common.{ℕ, ◌<◌, ◌≤◌, List, [], ◌∷◌, sym, subst, arith}
 use Rattle.wbt_estimate.specs.declared.estimate.Estimate.{Estimate}
 use Rattle.wbt_journal.specs.Checks.{asked_by, reads_by, task_numbers}
 use Rattle.wbt_journal.specs.Each.{Each}

@@ -5,17 +5,14 @@ use Rattle.wbt_book.specs.Ledger.{absorbs, completes, dirties, times}
 use Rattle.wbt_book.specs.declared.event.Event.{Event}
 use Rattle.wbt_counter.specs.Sums.{total}
 use Rattle.wbt_counter.proofs.Sums.{total_same}
-use Rattle.wbt_flusher.specs.Sights.{list_by, pages_by, shown_by}
-use Rattle.wbt_flusher.specs.Turns.{IsIdle}
-use Rattle.wbt_flusher.specs.declared.work.Phase.{Phase}
+use Rattle.wbt_flusher.specs.Sights.{list_by, shown_by}
 use Rattle.wbt_grant.specs.State.{deeds_of}
-use Rattle.wbt_grant.specs.declared.record.CpuRecord.{CpuRecord}
 use Rattle.wbt_journal.specs.Checks.{NoneDue}
 use Rattle.wbt_journal.specs.Each.{Each}
 use Rattle.wbt_journal.specs.Effects.{Write, effect, of_part}
 use Rattle.wbt_journal.specs.Items.{tells}
 use Rattle.wbt_journal.specs.Leaves.{writes_of}
-use Rattle.wbt_journal.specs.Machine.{cpu_of_task, pages, pages_of_task, task_cpu}
+use Rattle.wbt_journal.specs.Machine.{cpu_of_task, pages_of_task, task_cpu}
 use Rattle.wbt_journal.specs.Pages.{writes_after}
 use Rattle.wbt_journal.specs.Side.{is_on}
 use Rattle.wbt_journal.specs.Told.{Told, told as told_by}
@@ -23,13 +20,12 @@ use Rattle.wbt_journal.specs.Walk.{after}
 use Rattle.wbt_journal.specs.declared.journal.Ending.TheVariants as ending
 use Rattle.wbt_kit.specs.declared.kit.Kit.{Kit}
 use Rattle.wbt_kit.specs.declared.kit.Seats.{Seats}
-use Rattle.wbt_run_worker.specs.Team.{Seen, claimed_by, claimed_in, flusher_at, seen}
+use Rattle.wbt_run_worker.specs.Team.{flusher_at, seen}
 use Rattle.wbt_run_worker.specs.declared.side.CpuSide.{CpuSide}
 use Rattle.wbt_run_worker.specs.declared.side.End.{End}
 use Rattle.wbt_run_worker.specs.declared.side.End.TheVariants.{Ended, Halted, Faulted, Spent, Refused, Stopped}
 use Rattle.wbt_run_worker.specs.declared.side.Post.{Post}
-use Rattle.wbt_run_worker.specs.declared.side.Stand.{Stand}
-use Rattle.wbt_run_worker.specs.declared.side.Stand.TheVariants.{Done, Out}
+use Rattle.wbt_run_worker.specs.declared.side.Stand.TheVariants.{Out}
 use Rattle.wbt_run_steps.specs.Records.{record_of}
 use Rattle.wbt_trace.specs.Lawful.{IsLawful, IsTask}
 use Rattle.wbt_trace.specs.declared.trace.TaskLine.{TaskLine}
@@ -39,7 +35,7 @@ use Rattle.wbt_run_laws.specs.Walks.{items_told}
 use Rattle.wbt_run_laws.specs.Worked.{AllWritten, NoneWaits}
 use Rattle.wbt_run_drain.specs.Whole.{AreCleaned, log_at}
 use Rattle.wbt_run_drain.specs.Ends.{Any, EndingIs, EndsSo, HasEnded, HaveEnded, IsOut, NoneEnds}
-use Rattle.wbt_run_drain.specs.Standing.{AreAllCleaned, AreAllDone, AreStanding, EndsBy, GoesOn, NoneWaitsForAge, OutBy, SideStands, StandsSo, WasStopped}
+use Rattle.wbt_run_drain.specs.Standing.{AreAllCleaned, AreStanding, EndsBy, GoesOn, NoneWaitsForAge, OutBy, SideStands, WasStopped}
 use Rattle.wbt_run_drain.specs.Teams.{logs_of, posts_of}
 use Rattle.wbt_run.specs.Running.{AreHalted}
 use Rattle.wbt_run.proofs.Causes.{any_at, each_in, found, found_at, found_cpu, in_sides, last, side_at, SideAt}

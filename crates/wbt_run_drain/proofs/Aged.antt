@@ -1,5 +1,5 @@
 -- Where each flusher is done no inode waits for its age.
-use Rattle.std.proofs.Common.{◌≡◌, ℕ, zero, suc, ◌<◌, Bool, List, [], ◌∷◌, length, get_or, Option, subst, arith}
+use Rattle.std.proofs.Common.{◌≡◌, ℕ, suc, ◌<◌, Bool, List, [], ◌∷◌, length, get_or, Option, subst, arith}
 use Rattle.wbt_flusher.specs.Sights.{list_by}
 use Rattle.wbt_journal.specs.Each.{Each}
 use Rattle.wbt_kit.specs.declared.kit.Kit.{Kit}

@@ -19,6 +19,7 @@ use Rattle.wbt_journal.specs.declared.entry.CpuJournal.{CpuJournal}
 use Rattle.wbt_kit.specs.Kit.{HasCpu}
 use Rattle.wbt_kit.specs.declared.kit.Kit.{Kit}
 use Rattle.wbt_kit.specs.declared.kit.Seats.{Seats}
+use Rattle.wbt_rules.specs.First.{first_estimates}
 use Rattle.wbt_table.specs.Rule.{Cpus, Has}
 use Rattle.wbt_trace.specs.declared.trace.Trace.{Trace}
 use Rattle.wbt_run_steps.specs.Records.{firsts_of, record_of}
@@ -154,7 +155,7 @@ module _ (trace : Trace) (opened : ℕ) (kit : Kit) (first : ℕ → Seats) (tim
   noted = noted_of_flusher trace opened c plan.flusher added (last c) shown (notes c) behind (record {
     turn = turn;
     shares = shares_may_move c added (notes_of base old) (notes_of base new) (notes c) raw.shares (each_weaker IsPlain (λ (e : Told). is_check e ≡ false) no_check added plain);
-    estimates = plain_estimates opened c added (notes c) behind plain (λ context. refl);
+    estimates = plain_estimates (first_estimates trace opened) c added (notes c) behind plain (λ context. refl);
   })
 
   was : CpuWorked trace opened c (first c) old.log (last c) (notes c)
@@ -194,7 +195,7 @@ module _ (trace : Trace) (opened : ℕ) (kit : Kit) (first : ℕ → Seats) (tim
   }
 
   gathered : AreGathered trace trace.cpus (owner_of kit) (put notes c behind) timer new.seats
-  gathered = moved_are_gathered trace kit.published.moment trace.cpus c (owner_of kit) notes timer old.seats new.seats added (notes_of base old) (notes_of base new)
+  gathered = moved_are_gathered trace (first_estimates trace kit.published.moment) trace.cpus c (owner_of kit) notes timer old.seats new.seats added (notes_of base old) (notes_of base new)
       before.gathered here.cpu raw.shares raw.estimates plain (λ domain. refl) (λ domain. refl) (λ context. refl) (λ context. refl)
 
   dirtied_same : (page : ℕ) → all_times trace.cpus (dirties page) (λ cpu. deeds_of (put last c shown cpu).held) ≡ all_times trace.cpus (dirties page) (λ cpu. deeds_of (last cpu).held)

@@ -36,7 +36,7 @@ use Rattle.wbt_trace.specs.declared.trace.Trace.{Trace}
 use Rattle.wbt_run_laws.proofs.Lists.{each_weaker}
 use Rattle.wbt_writer.specs.Desk.{Desk}
 use Rattle.wbt_run_drain.specs.Ends.{Any, EndsSo, IsOut}
-use Rattle.wbt_run_drain.specs.Standing.{EndsBy, GoesOn, HasFailed, NotHalted, OutBy, SideStands, StandsSo, WasStopped}
+use Rattle.wbt_run_drain.specs.Standing.{EndsBy, GoesOn, NotHalted, OutBy, SideStands, StandsSo, WasStopped}
 use Rattle.wbt_run_drain.specs.Teams.{posts_of}
 use Rattle.wbt_run_drain.specs.Turned.{end_by, stand_by}
 use Rattle.wbt_run_drain.proofs.Anyone.{any_before, any_here, any_still}

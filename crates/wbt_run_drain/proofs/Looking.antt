@@ -89,7 +89,7 @@ pub placed : (trace : Trace) (now : ℕ) (kit : Kit) (inode : ℕ) → IsLawful 
 placed trace now kit inode lawful of less =
     let opened = kit_is_opened trace now kit lawful of in
     let context = (lawful.within.inodes.each inode (record { context = 0; first = 0; pages = 0 }) less).0 in
-    let device = (lawful.within.contexts (context_of trace inode) (record { device = 0; domain = 0; expire = None }) context).0 in
+    let device = (lawful.within.contexts (context_of trace inode) (record { device = 0; domain = 0; expire = None; estimate = None }) context).0 in
     record {
       mark = subst (λ (n : ℕ). inode < n) (sym opened.inodes_are) less;
       context = context;

@@ -124,7 +124,7 @@ module _ (trace : Trace) (set : Setting) (throttle : IsThrottleOf trace set) whe
       ap (λ (n : ℕ). total n (λ k. one_if (setting.is_inside set d k))) throttle.contexts_are
       ∙ total_same (contexts trace) (λ k. one_if (setting.is_inside set d k)) (λ k. one_if (is_inside d (context_domain trace k)))
       (λ k less. ap one_if (inside_same trace set d k (throttle.groups k)))
-      ∙ sym (count_at (λ (c : Context). is_inside d c.domain) (record { device = 0; domain = 0; expire = None }) trace.contexts)
+      ∙ sym (count_at (λ (c : Context). is_inside d c.domain) (record { device = 0; domain = 0; expire = None; estimate = None }) trace.contexts)
 
   fixed_same : (d : ℕ) → fixed_bound set.cpus (setting.writers_of set d) set.cap (setting.contexts_of set d) ≡ fixed_bound trace.cpus (writers_in trace d) trace.cap (contexts_in trace d)
   fixed_same d =

@@ -4,7 +4,6 @@ use Rattle.std.proofs.lemmas.Bool.{cond_both, cond-true, cond-false, eqb-true, e
 use Rattle.std.proofs.lemmas.List.Elements.{Contains-append_left}
 use mathlib.Core.Option.{some, some-injective}
 use lib.ListN.{get_elem?}
-use Rattle.wbt_estimate.specs.Estimate.{first_at}
 use Rattle.wbt_estimate.specs.declared.estimate.Estimate.{Estimate}
 use Rattle.wbt_flex.specs.declared.share.Fraction.{Fraction}
 use Rattle.wbt_fraction.specs.Laws.{begun, AllBelow, Falls}
@@ -136,7 +135,7 @@ begin_is_noted k old new one begins = record {
 -- ---- estimates
 
 pub read_tells_nothing : ReadTellsNothing
-read_tells_nothing opened known estimate = record {
+read_tells_nothing first known estimate = record {
   right = refl;
   published = λ is. sym (append-nil known.all);
   silent = λ is. refl;
@@ -149,20 +148,20 @@ tail_of [] = []
 tail_of (x ∷ xs) = xs
 
 -- the newest is fixed by all that is known
-one_newest : (opened : ℕ) (known : Known) (a b : Estimate) → IsNewest opened known a → IsNewest opened known b → a ≡ b
-one_newest opened known a b p q = p.newest_is ∙ ap (after newer (first_at opened)) (ap tail_of (sym p.all_are ∙ q.all_are)) ∙ sym q.newest_is
+one_newest : (first : Estimate) (known : Known) (a b : Estimate) → IsNewest first known a → IsNewest first known b → a ≡ b
+one_newest first known a b p q = p.newest_is ∙ ap (after newer first) (ap tail_of (sym p.all_are ∙ q.all_are)) ∙ sym q.newest_is
 
 pub publish_is_told : PublishIsTold
-publish_is_told opened known newest estimate publishes is follows = record {
+publish_is_told first known newest estimate publishes is follows = record {
   right = refl;
   published = λ is_right. refl;
   silent = λ none. absurd (true≢false (sym publishes ∙ none));
   follow = record {
-    allowed = λ s stands. (subst (λ (e : Estimate). Follows e estimate) (one_newest opened known newest s is stands) follows, tt);
+    allowed = λ s stands. (subst (λ (e : Estimate). Follows e estimate) (one_newest first known newest s is stands) follows, tt);
     reached = λ s stands. record {
       later = stands.later ++ estimate ∷ [];
       all_are = ap (λ (l : List Estimate). l ++ estimate ∷ []) stands.all_are;
-      newest_is = sym (after_append newer (first_at opened) stands.later (estimate ∷ []));
+      newest_is = sym (after_append newer first stands.later (estimate ∷ []));
     };
   };
   reads = λ note has. has;
@@ -176,13 +175,13 @@ at_end [] x = refl
 at_end (y ∷ xs) x = at_end xs x
 
 pub read_is_newest : ReadIsNewest
-read_is_newest opened known estimate complete newest first = by newest.0 newest.1
+read_is_newest first known estimate complete newest begins = by newest.0 newest.1
   where
-    by : (before : List Estimate) → known.all ≡ before ++ note_of estimate ∷ [] → IsNewest opened known estimate
+    by : (before : List Estimate) → known.all ≡ before ++ note_of estimate ∷ [] → IsNewest first known estimate
     by [] is =
         let at : note_of estimate ≡ first_one = some-injective (note_of estimate) first_one (ap (λ (l : List Estimate). get_elem? l 0) (sym is) ∙ complete.rising.first) in
         let zero_version = sym (version_of estimate) ∙ ap (λ (e : Estimate). e.version) at ∙ first_version 0 in
-        record { later = []; all_are = is ∙ ap (λ (e : Estimate). e ∷ []) at; newest_is = first zero_version }
+        record { later = []; all_are = is ∙ ap (λ (e : Estimate). e ∷ []) at; newest_is = begins zero_version }
     by (x ∷ before) is =
         let at : x ≡ first_one = some-injective x first_one (ap (λ (l : List Estimate). get_elem? l 0) (sym is) ∙ complete.rising.first) in
         let version = complete.rising.by_version (suc (length before)) (note_of estimate) (ap (λ (l : List Estimate). get_elem? l (suc (length before))) is ∙ at_end before (note_of estimate)) in
@@ -191,5 +190,5 @@ read_is_newest opened known estimate complete newest first = by newest.0 newest.
         record {
           later = before ++ note_of estimate ∷ [];
           all_are = is ∙ ap (λ (e : Estimate). e ∷ before ++ note_of estimate ∷ []) at;
-          newest_is = sym (after_append newer (first_at opened) before (note_of estimate ∷ []) ∙ same);
+          newest_is = sym (after_append newer first before (note_of estimate ∷ []) ∙ same);
         }

@@ -1,8 +1,8 @@
 -- Checks stand where they are due, and decide by an estimate of the journal.
 use Rattle.std.proofs.Common.{◌≡◌, ℕ, ◌<◌, true, Some, Option, List, [], ◌∷◌, sym, subst}
 use Rattle.std.proofs.lemmas.Bool.{ltb-true}
-use Rattle.wbt_estimate.specs.Estimate.{first_at}
 use Rattle.wbt_estimate.specs.declared.estimate.Estimate.{Estimate}
+use Rattle.wbt_rules.specs.First.{first_estimate}
 use Rattle.wbt_trace.specs.declared.trace.Trace.{Trace}
 use Rattle.wbt_journal.specs.Checks.{named_estimate, nth_estimate, DecidesBy, NoneDue}
 use Rattle.wbt_journal.specs.Each.{Each}
@@ -48,8 +48,8 @@ module _ (trace : Trace) (j : Journal) (r : Run) (w : Worked trace j r) (c : ℕ
 
   -- the estimate that a check names is the one by which it decides
   names_it : (s : Side) (check : CheckEntry) → check.context < contexts trace → (by : DecidesByRead trace r.opened ((r.notes c).estimates check.context) s check)
-      → named_estimate r.opened all check ≡ Some by.estimate
-  names_it s check low by = subst (λ (n : ℕ). nth_estimate n (first_at r.opened ∷ estimates_of check.context all) ≡ Some by.estimate) by.named
+      → named_estimate trace r.opened all check ≡ Some by.estimate
+  names_it s check low by = subst (λ (n : ℕ). nth_estimate n (first_estimate trace check.context r.opened ∷ estimates_of check.context all) ≡ Some by.estimate) by.named
       (read_is_told trace j r w c check.context there low by.estimate by.first by.was_read)
 
   decides : (s : Side) (event : Event) → DecidesAlong trace r.opened (r.notes c).estimates s event → Each (IsOwnItem trace c) (item_of_event event) → DecidesEvent trace r.opened all s event
@@ -57,7 +57,7 @@ module _ (trace : Trace) (j : Journal) (r : Run) (w : Worked trace j r) (c : ℕ
   decides s (item (begins cpu)) by own = absurd own.0
   decides s (item (tells cpu e)) by own =
       let ByRead = λ (check : CheckEntry). DecidesByRead trace r.opened ((r.notes c).estimates check.context) s check in
-      if_weaker (λ (check : CheckEntry). ByRead check × IsOwnCheck trace c check) (λ (check : CheckEntry). is_own_task trace cpu check.task ≡ true → DecidesBy trace s check (named_estimate r.opened all check))
+      if_weaker (λ (check : CheckEntry). ByRead check × IsOwnCheck trace c check) (λ (check : CheckEntry). is_own_task trace cpu check.task ≡ true → DecidesBy trace s check (named_estimate trace r.opened all check))
       (λ check both is_own. subst (λ (which : Option Estimate). DecidesBy trace s check which)
       (sym (names_it s check (ltb-true check.context (contexts trace) both.1.context) both.0)) (record { in_range = both.0.in_range; asked = both.0.decision }))
       (effect e).check (if_both ByRead (IsOwnCheck trace c) (effect e).check by own.0.check)
@@ -89,7 +89,7 @@ module _ (trace : Trace) (j : Journal) (r : Run) (w : Worked trace j r) (c : ℕ
         λ own. if_weaker (λ (check : CheckEntry). ByRead check × IsOwnCheck trace c check) (NamesEstimate trace all)
             (λ check both. record {
               named = both.1.context;
-              within = nth_within check.estimate (first_at r.opened) (estimates_of check.context all) both.0.estimate (names_it s check (ltb-true check.context (contexts trace) both.1.context) both.0);
+              within = nth_within check.estimate (first_estimate trace check.context r.opened) (estimates_of check.context all) both.0.estimate (names_it s check (ltb-true check.context (contexts trace) both.1.context) both.0);
             })
             (effect e).check (if_both ByRead (IsOwnCheck trace c) (effect e).check by own.check),
         tt,

@@ -24,9 +24,10 @@ use Rattle.wbt_num.specs.Arithmetic.{halvings, log2}
 use Rattle.wbt_pause.specs.Decision.{decided, decision_of}
 use Rattle.wbt_pause.specs.Reads.{IsCounted}
 use Rattle.wbt_pause.specs.declared.reads.Task.{Task}
-use Rattle.wbt_published.specs.Known.{first_one}
+use Rattle.wbt_published.specs.Known.{first_in, first_one}
 use Rattle.wbt_published.specs.Publishing.{IsAmong, IsComplete as KnowsAll}
 use Rattle.wbt_published.proofs.Places.{first_version, note_first}
+use Rattle.wbt_rules.specs.First.{first_estimates}
 use Rattle.wbt_rules.specs.Strict.{is_strict}
 use Rattle.wbt_strict.specs.Decision.{decision_for}
 use Rattle.wbt_task.specs.Allowance.{first, page_after, ended}
@@ -179,7 +180,7 @@ none_seen : (context version : ℕ) → (of_first (knows true (first_one ∷ [])
 none_seen zero version = omega arith
 none_seen (suc context) version = omega arith
 
-eight_told_for : (context : ℕ) → IsTold 1 [] ((eight_run.first_notes 0).estimates context) ((eight_run.notes 0).estimates context)
+eight_told_for : (context : ℕ) → IsTold (first_in (first_estimates eight_trace 1) context) [] ((eight_run.first_notes 0).estimates context) ((eight_run.notes 0).estimates context)
 eight_told_for zero = record {
   right = refl;
   published = λ is. refl;
@@ -195,7 +196,7 @@ eight_told_for (suc context) = record {
   reads = λ note has. has;
 }
 
-eight_estimates : EstimatesGrew 1 0 eight_told (eight_run.first_notes 0) (eight_run.notes 0)
+eight_estimates : EstimatesGrew (first_estimates eight_trace 1) 0 eight_told (eight_run.first_notes 0) (eight_run.notes 0)
 eight_estimates = record {
   each = eight_told_for;
   names = record {
@@ -227,7 +228,7 @@ eight_since = noted_of_writers eight_trace 1 0 eight_told (first_shown eight_tra
   };
   shares = eight_shares;
   estimates = eight_estimates;
-  decided = (tt, (tt, (tt, (tt, (tt, (tt, (tt, (tt, (tt, (record { estimate = first_at 1; named = first_version 1; was_read = subst (λ (e : Estimate). Contains (first_one ∷ []) e) (sym (note_first 1)) (here first_one []); first = λ is. refl; in_range = free_in_range 2 4 eight_check.count eight_task (omega arith) (omega arith) eight_counted; decision = refl }, tt))))))))));
+  decided = (tt, (tt, (tt, (tt, (tt, (tt, (tt, (tt, (tt, (record { estimate = first_at 1; named = first_version 1; was_read = subst (λ (e : Estimate). Contains (first_one ∷ []) e) (sym (note_first (first_at 1) (first_version 1))) (here first_one []); first = λ is. refl; in_range = free_in_range 2 4 eight_check.count eight_task (omega arith) (omega arith) eight_counted; decision = refl }, tt))))))))));
 })
 
 -- ---- the timer

@@ -4,11 +4,12 @@ use Rattle.std.proofs.lemmas.Bool.{cond-true, ltb-true}
 use Rattle.std.proofs.lemmas.List.Elements.{All-contains}
 use mathlib.Core.Option.{some, some-injective, some-ne-none}
 use lib.ListN.{get_elem?}
-use Rattle.wbt_estimate.specs.Estimate.{first_at}
 use Rattle.wbt_estimate.specs.declared.estimate.Estimate.{Estimate}
-use Rattle.wbt_published.specs.Known.{first_one, note_of}
+use Rattle.wbt_published.specs.Known.{first_in, first_one, note_of}
 use Rattle.wbt_published.specs.Publishing.{IsAmong}
 use Rattle.wbt_published.proofs.Places.{note_other}
+use Rattle.wbt_rules.specs.First.{first_estimate, first_estimates}
+use Rattle.wbt_rules.proofs.Openings.{first_in_range}
 use Rattle.wbt_trace.specs.declared.trace.Trace.{Trace}
 use Rattle.wbt_journal.specs.Checks.{nth_estimate}
 use Rattle.wbt_journal.specs.Each.{Each}
@@ -68,10 +69,15 @@ module _ (trace : Trace) (j : Journal) (r : Run) (w : Worked trace j r) (context
       ∙ ap (λ (l : List Estimate). l ++ estimates_of context (part_at j publisher)) (w.passes_tell.opens context low)
       ∙ ap (λ (l : List Estimate). first_one ∷ l) (sym part_estimates)
 
-  pub they_follow : Along Follows newer (first_at r.opened) (estimates_of context (all_told j))
-  they_follow = subst (λ (l : List Estimate). Along Follows newer (first_at r.opened) l) (sym part_estimates)
-      (((w.since publisher publisher_is).estimates.each context).follow.allowed (first_at r.opened)
-      (record { later = []; all_are = w.passes_tell.opens context low; newest_is = refl }))
+  -- the context is there, so that the first estimate in its place is its own
+  pub first_is : first_in (first_estimates trace r.opened) context ≡ first_estimate trace context r.opened
+  first_is = first_in_range trace context r.opened first_one low
+
+  pub they_follow : Along Follows newer (first_estimate trace context r.opened) (estimates_of context (all_told j))
+  they_follow = subst (λ (first : Estimate). Along Follows newer first (estimates_of context (all_told j))) first_is
+      (subst (λ (l : List Estimate). Along Follows newer (first_in (first_estimates trace r.opened) context) l) (sym part_estimates)
+      (((w.since publisher publisher_is).estimates.each context).follow.allowed (first_in (first_estimates trace r.opened) context)
+      (record { later = []; all_are = w.passes_tell.opens context low; newest_is = refl })))
 
 -- ---- one after another
 
@@ -100,23 +106,23 @@ by_context false before estimate rest along = along
 module _ (trace : Trace) (opened : ℕ) (seen : List EstEntry) (more : ℕ → List Estimate) where
   abbrev AllFollow : (part : Option EstEntry) → Type 0
   AllFollow part = (context : ℕ) → context < contexts trace
-      → Along Follows newer (newest_of opened context seen) (of_part [] (λ (est : EstEntry). cond (eqb est.context context) (est.estimate ∷ []) []) part ++ more context)
+      → Along Follows newer (newest_of trace opened context seen) (of_part [] (λ (est : EstEntry). cond (eqb est.context context) (est.estimate ∷ []) []) part ++ more context)
 
   is_next : (part : Option EstEntry) → IfSome part (λ (est : EstEntry). nat_lt est.context (contexts trace) ≡ true) → AllFollow part → IfSome part (IsNext trace opened seen)
   is_next None named follow = tt
   is_next (Some est) named follow =
       let context = est.context in
       let own : cond (eqb context context) (est.estimate ∷ []) [] ≡ est.estimate ∷ [] = cond-true (eqb context context) (est.estimate ∷ []) [] (eq-eqb context context refl) in
-      let here = subst (λ (l : List Estimate). Along Follows newer (newest_of opened context seen) (l ++ more context)) own (follow context (ltb-true context (contexts trace) named)) in
+      let here = subst (λ (l : List Estimate). Along Follows newer (newest_of trace opened context seen) (l ++ more context)) own (follow context (ltb-true context (contexts trace) named)) in
       record { named = named; follows_last = here.0 }
 
   follow_on : (part : Option EstEntry) → AllFollow part → (context : ℕ) → context < contexts trace
-      → Along Follows newer (newest_of opened context (of_part seen (λ est. est ∷ seen) part)) (more context)
+      → Along Follows newer (newest_of trace opened context (of_part seen (λ est. est ∷ seen) part)) (more context)
   follow_on None follow context less = follow context less
-  follow_on (Some est) follow context less = by_context (eqb est.context context) (newest_of opened context seen) est.estimate (more context) (follow context less)
+  follow_on (Some est) follow context less = by_context (eqb est.context context) (newest_of trace opened context seen) est.estimate (more context) (follow context less)
 
 up : (trace : Trace) (opened : ℕ) (seen : List EstEntry) (items : List Item) → Each (IsNamed trace) items
-    → ((context : ℕ) → context < contexts trace → Along Follows newer (newest_of opened context seen) (flat_map (in_item context) items)) → Along (EstimatesFollow trace opened) estimates_after seen items
+    → ((context : ℕ) → context < contexts trace → Along Follows newer (newest_of trace opened context seen) (flat_map (in_item context) items)) → Along (EstimatesFollow trace opened) estimates_after seen items
 up trace opened seen [] named follow = tt
 up trace opened seen (begins cpu ∷ items) named follow = (tt, up trace opened seen items named.1 follow)
 up trace opened seen (tells cpu e ∷ items) named follow =
@@ -130,7 +136,7 @@ estimates_up trace j r w = subst (λ (n : ℕ). Along (EstimatesFollow trace n) 
     (up trace r.opened [] (items_from 0 (parts_of j))
     (each_item (IsNamed trace) (λ c. tt) 0 (parts_of j) (each_cpu (λ c part. Each (λ (e : Told). IsNamed trace (tells c e)) part) (parts_of j)
     (λ c less. each_weaker (IsOwn trace c) (λ (e : Told). IsNamed trace (tells c e)) (λ e own. own.estimate) (part_at j c) (own_part trace j r w c (in_parts trace j r w c less)))))
-    (λ context low. subst (λ (l : List Estimate). Along Follows newer (first_at r.opened) l) (ap (estimates_of context) (all_is trace j r w) ∙ sym (items_are context 0 (parts_of j))) (they_follow trace j r w context low)))
+    (λ context low. subst (λ (l : List Estimate). Along Follows newer (first_estimate trace context r.opened) l) (ap (estimates_of context) (all_is trace j r w) ∙ sym (items_are context 0 (parts_of j))) (they_follow trace j r w context low)))
 
 -- ---- what was read
 
@@ -140,10 +146,10 @@ nth_of zero (x ∷ xs) e is = ap Some (some-injective x e is)
 nth_of (suc place) (x ∷ xs) e is = nth_of place xs e is
 
 -- the estimate of a version among the first one and these, where its note is among all that was published
-nth_by : (opened v : ℕ) (later : List Estimate) (e : Estimate) → e.version ≡ v → (e.version ≡ 0 → e ≡ first_at opened) → IsAmong (first_one ∷ later) (note_of e)
-    → nth_estimate v (first_at opened ∷ later) ≡ Some e
-nth_by opened zero later e version first among = ap Some (sym (first version))
-nth_by opened (suc v) later e version first among =
+nth_by : (first : Estimate) (v : ℕ) (later : List Estimate) (e : Estimate) → e.version ≡ v → (e.version ≡ 0 → e ≡ first) → IsAmong (first_one ∷ later) (note_of e)
+    → nth_estimate v (first ∷ later) ≡ Some e
+nth_by first zero later e version is_first among = ap Some (sym (is_first version))
+nth_by first (suc v) later e version is_first among =
     let other : e.version ≢ 0 = λ none. omega arith in
     let is : note_of e ≡ e = note_other e other in
     let at : get_elem? (first_one ∷ later) e.version ≡ some e = subst (λ (n : Estimate). get_elem? (first_one ∷ later) n.version ≡ some n) is among in
@@ -159,9 +165,9 @@ nth_within (suc v) first (x ∷ xs) e is = let rest = nth_within v x xs e is in 
 
 -- an estimate that a CPU read is the one that the journal has of its version
 pub read_is_told : (trace : Trace) (j : Journal) (r : Run) → Worked trace j r → (c context : ℕ) → c < trace.cpus → context < contexts trace → (e : Estimate)
-    → (e.version ≡ 0 → e ≡ first_at r.opened) → Contains ((r.notes c).estimates context).reads (note_of e)
-    → nth_estimate e.version (first_at r.opened ∷ estimates_of context (all_told j)) ≡ Some e
+    → (e.version ≡ 0 → e ≡ first_in (first_estimates trace r.opened) context) → Contains ((r.notes c).estimates context).reads (note_of e)
+    → nth_estimate e.version (first_estimate trace context r.opened ∷ estimates_of context (all_told j)) ≡ Some e
 read_is_told trace j r w c context there low e first read =
     let complete = w.passes_tell.complete context low in
     let among = All-contains (IsAmong (r.all_known context).all) (r.all_known context).reads (note_of e) complete.read (w.passes_tell.have c context there low (note_of e) read) in
-    nth_by r.opened e.version (estimates_of context (all_told j)) e refl first (subst (λ (l : List Estimate). IsAmong l (note_of e)) (known_is trace j r w context low) among)
+    nth_by (first_estimate trace context r.opened) e.version (estimates_of context (all_told j)) e refl (λ is. first is ∙ first_is trace j r w context low) (subst (λ (l : List Estimate). IsAmong l (note_of e)) (known_is trace j r w context low) among)

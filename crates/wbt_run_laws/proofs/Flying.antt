@@ -41,7 +41,7 @@ module _ (trace : Trace) (cpu : ℕ) (flushers : List ToldFlusher) where
   one_flies : (part : Option Flight) → IfSome part (IsOwnFlight trace cpu) → ((g : ℕ) → IfSome part (λ (flight : Flight). flight.flusher ≡ g → MayMove flight.move (flusher_of flushers g).phase))
       → IfSome part (FliesBy trace cpu flushers)
   one_flies None own each = tt
-  one_flies (Some flight) own each = (own.own, each flight.flusher refl)
+  one_flies (Some flight) own each = (own.own, each flight.flusher refl, own.chunk)
 
   -- and each flusher's walk goes on after it
   all_go_on : (part : Option Flight) (more : List Told)

@@ -8,6 +8,7 @@ use Rattle.wbt_fraction.specs.Sums.{total as weigh}
 use Rattle.wbt_fraction.specs.declared.domain.note.Note.{Note}
 use Rattle.wbt_fraction.specs.declared.domain.note.Note.TheVariants.{Found, Added, Period}
 use Rattle.wbt_fraction.proofs.Sums.{total_append as weigh_append}
+use Rattle.wbt_published.specs.Known.{first_in}
 use Rattle.wbt_published.specs.declared.known.Known.{Known}
 use Rattle.wbt_journal.specs.Each.{Each}
 use Rattle.wbt_journal.specs.Effects.{effect}
@@ -77,9 +78,9 @@ tells_none context (e ∷ added) plain =
     ∙ tells_none context added plain.1
 
 pub plain_estimates : PlainEstimates
-plain_estimates opened cpu added old new plain same = record {
-  each = λ context. subst (λ (l : List Estimate). IsTold opened l (old.estimates context) (new.estimates context)) (sym (tells_none context added plain))
-      (subst (λ (k : Known). IsTold opened [] (old.estimates context) k) (sym (same context)) (told_none opened (old.estimates context)));
+plain_estimates firsts cpu added old new plain same = record {
+  each = λ context. subst (λ (l : List Estimate). IsTold (first_in firsts context) l (old.estimates context) (new.estimates context)) (sym (tells_none context added plain))
+      (subst (λ (k : Known). IsTold (first_in firsts context) [] (old.estimates context) k) (sym (same context)) (told_none (first_in firsts context) (old.estimates context)));
   names = walks_silent HasNamed NamesGoOn names_after old.estimates new.estimates (items_told cpu added)
       (each_map (IsSilent NamesGoOn names_after) (tells cpu) added (each_weaker IsPlain (λ (e : Told). IsSilent NamesGoOn names_after (tells cpu e)) (λ e is. names_silent cpu e is.no_check) added plain))
       (λ s named context version low. named context version (subst (λ (k : Known). k.seen ≤ version) (same context) low));

@@ -4,7 +4,9 @@ use Rattle.std.proofs.lemmas.List.Sums.{sum_by-append}
 use Rattle.wbt_estimate.specs.declared.estimate.Estimate.{Estimate}
 use Rattle.wbt_flex.specs.declared.share.Fraction.{Fraction}
 use Rattle.wbt_fraction.specs.declared.domain.note.Note.{Note}
+use Rattle.wbt_published.specs.Known.{first_in}
 use Rattle.wbt_published.specs.declared.known.Known.{Known}
+use Rattle.wbt_rules.specs.First.{first_estimates}
 use Rattle.wbt_trace.specs.declared.trace.Trace.{Trace}
 use Rattle.wbt_journal.specs.Counts.{reads_of}
 use Rattle.wbt_journal.specs.Each.{Each}
@@ -73,34 +75,34 @@ shares_more cpu a b old mid new p q = record {
 
 -- ---- estimates
 
-pub told_none : (opened : ℕ) (known : Known) → IsTold opened [] known known
-told_none opened known = record {
+pub told_none : (first : Estimate) (known : Known) → IsTold first [] known known
+told_none first known = record {
   right = refl;
   published = λ is. sym (append-nil known.all);
   silent = λ is. refl;
-  follow = walks_none (IsNewest opened) Follows newer known;
+  follow = walks_none (IsNewest first) Follows newer known;
   reads = λ note has. has;
 }
 
-told_both : (opened : ℕ) (a b : List Estimate) (old mid new : Known) → IsTold opened a old mid → IsTold opened b mid new → IsTold opened (a ++ b) old new
-told_both opened a b old mid new p q = record {
+told_both : (first : Estimate) (a b : List Estimate) (old mid new : Known) → IsTold first a old mid → IsTold first b mid new → IsTold first (a ++ b) old new
+told_both first a b old mid new p q = record {
   right = q.right ∙ p.right;
   published = λ is. q.published (p.right ∙ is) ∙ ap (λ (l : List Estimate). l ++ b) (p.published is) ∙ append_assoc old.all a b;
   silent = λ is. ap (λ (l : List Estimate). l ++ b) (p.silent is) ∙ q.silent (p.right ∙ is);
-  follow = walks_more (IsNewest opened) Follows newer old mid new a b p.follow q.follow;
+  follow = walks_more (IsNewest first) Follows newer old mid new a b p.follow q.follow;
   reads = λ note has. q.reads note (p.reads note has);
 }
 
-estimates_none : (opened cpu : ℕ) (notes : Notes) → EstimatesGrew opened cpu [] notes notes
-estimates_none opened cpu notes = record {
-  each = λ context. told_none opened (notes.estimates context);
+estimates_none : (firsts : List Estimate) (cpu : ℕ) (notes : Notes) → EstimatesGrew firsts cpu [] notes notes
+estimates_none firsts cpu notes = record {
+  each = λ context. told_none (first_in firsts context) (notes.estimates context);
   names = walks_none HasNamed NamesGoOn names_after notes.estimates;
 }
 
-estimates_more : (opened cpu : ℕ) (a b : List Told) (old mid new : Notes) → EstimatesGrew opened cpu a old mid → EstimatesGrew opened cpu b mid new → EstimatesGrew opened cpu (a ++ b) old new
-estimates_more opened cpu a b old mid new p q = record {
-  each = λ context. subst (λ (l : List Estimate). IsTold opened l (old.estimates context) (new.estimates context)) (sym (flat_append (estimate_in context) a b))
-      (told_both opened (estimates_of context a) (estimates_of context b) (old.estimates context) (mid.estimates context) (new.estimates context) (p.each context) (q.each context));
+estimates_more : (firsts : List Estimate) (cpu : ℕ) (a b : List Told) (old mid new : Notes) → EstimatesGrew firsts cpu a old mid → EstimatesGrew firsts cpu b mid new → EstimatesGrew firsts cpu (a ++ b) old new
+estimates_more firsts cpu a b old mid new p q = record {
+  each = λ context. subst (λ (l : List Estimate). IsTold (first_in firsts context) l (old.estimates context) (new.estimates context)) (sym (flat_append (estimate_in context) a b))
+      (told_both (first_in firsts context) (estimates_of context a) (estimates_of context b) (old.estimates context) (mid.estimates context) (new.estimates context) (p.each context) (q.each context));
   names = told_more HasNamed NamesGoOn names_after cpu old.estimates mid.estimates new.estimates a b p.names q.names;
 }
 
@@ -150,7 +152,7 @@ pub noted_now : NotedNow
 noted_now trace opened cpu shown notes = record {
   since = since_now trace opened cpu shown;
   shares = shares_none cpu notes;
-  estimates = estimates_none opened cpu notes;
+  estimates = estimates_none (first_estimates trace opened) cpu notes;
   decided = tt;
 }
 
@@ -161,7 +163,7 @@ noted_more trace opened cpu a b old mid new before between behind p q =
     record {
       since = since_more trace opened cpu a b old mid new p.since q.since;
       shares = shares_more cpu a b before between behind p.shares q.shares;
-      estimates = estimates_more opened cpu a b before between behind p.estimates q.estimates;
+      estimates = estimates_more (first_estimates trace opened) cpu a b before between behind p.estimates q.estimates;
       decided = along_more P next old.side p.since.side.events q.since.side.events
           (along_weaker (DecidesAlong trace opened between.estimates) P next
           (decides_longer trace opened between.estimates behind.estimates (λ context. (q.estimates.each context).reads)) old.side p.since.side.events p.decided)

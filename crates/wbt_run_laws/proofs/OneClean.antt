@@ -9,7 +9,8 @@ use Rattle.wbt_fraction.specs.Notes.{added_at}
 use Rattle.wbt_fraction.specs.Sums.{total as weigh}
 use Rattle.wbt_grant.specs.State.{no_record}
 use Rattle.wbt_num.specs.Arithmetic.{halvings, log2}
-use Rattle.wbt_published.specs.Known.{first_one}
+use Rattle.wbt_published.specs.Known.{first_in, first_one}
+use Rattle.wbt_rules.specs.First.{first_estimates}
 use Rattle.wbt_journal.specs.Estimates.{Follows, estimates_of}
 use Rattle.wbt_journal.specs.Reads.{added_to}
 use Rattle.wbt_journal.specs.Told.{claimed, batch, done, share, estimated, fault, gave_back}
@@ -77,13 +78,13 @@ second_follows : Follows (first_at 1) second_estimate
 unfolding first_at
 second_follows = record { version = refl; later = omega arith; bandwidth = refl; average = refl }
 
-newest_is_first : (s : Estimate) → IsNewest 1 (knows true (first_one ∷ []) [] 0) s → s ≡ first_at 1
+newest_is_first : (s : Estimate) → IsNewest (first_at 1) (knows true (first_one ∷ []) [] 0) s → s ≡ first_at 1
 newest_is_first s stands = stands.newest_is ∙ ap (after newer (first_at 1)) (sym (ap tail_of stands.all_are))
 
 none_told : (context : ℕ) → estimates_of (suc context) one_cleans ≡ []
 none_told context = ap (λ (b : Bool). cond b (second_estimate ∷ []) [] ++ []) (off context)
 
-clean_told : (context : ℕ) → IsTold 1 (estimates_of context one_cleans) ((one_first 1).estimates context) ((one_notes 1).estimates context)
+clean_told : (context : ℕ) → IsTold (first_in (first_estimates one_trace 1) context) (estimates_of context one_cleans) ((one_first 1).estimates context) ((one_notes 1).estimates context)
 clean_told zero = record {
   right = refl;
   published = λ is. refl;
@@ -94,7 +95,7 @@ clean_told zero = record {
   };
   reads = λ note has. absurd (let low = has.1 in omega arith);
 }
-clean_told (suc context) = subst (λ (l : List Estimate). IsTold 1 l knows_nothing knows_nothing) (sym (none_told context)) (record {
+clean_told (suc context) = subst (λ (l : List Estimate). IsTold (first_in (first_estimates one_trace 1) (suc context)) l knows_nothing knows_nothing) (sym (none_told context)) (record {
   right = refl;
   published = λ is. refl;
   silent = λ is. refl;
@@ -106,7 +107,7 @@ none_published : (context version : ℕ) → (of_first (knows true (first_one �
 none_published zero version = omega arith
 none_published (suc context) version = omega arith
 
-clean_estimates : EstimatesGrew 1 1 one_cleans (one_first 1) (one_notes 1)
+clean_estimates : EstimatesGrew (first_estimates one_trace 1) 1 one_cleans (one_first 1) (one_notes 1)
 clean_estimates = record {
   each = clean_told;
   names = record { allowed = λ seen named. (tt, (tt, (tt, (tt, (tt, (tt, (tt, (tt, tt)))))))); reached = λ seen named context version late. named context version (none_published context version) };
@@ -117,19 +118,19 @@ own_estimate : IsOwn one_trace 1 (estimated (record { context = 0; estimate = se
 own_estimate = record { write = tt; fold = tt; check = tt; flight = tt; share = tt; estimate = refl; wait = tt }
 
 own_claim : IsOwn one_trace 1 (claimed 0 0)
-own_claim = record { write = tt; fold = tt; check = tt; flight = record { own = refl; page = refl }; share = tt; estimate = tt; wait = tt }
+own_claim = record { write = tt; fold = tt; check = tt; flight = record { own = refl; page = refl; chunk = tt }; share = tt; estimate = tt; wait = tt }
 
 own_fault : IsOwn one_trace 1 (fault 0 1)
-own_fault = record { write = tt; fold = tt; check = tt; flight = record { own = refl; page = tt }; share = tt; estimate = tt; wait = tt }
+own_fault = record { write = tt; fold = tt; check = tt; flight = record { own = refl; page = tt; chunk = tt }; share = tt; estimate = tt; wait = tt }
 
 own_back : IsOwn one_trace 1 (gave_back 0 0 false)
-own_back = record { write = tt; fold = tt; check = tt; flight = record { own = refl; page = refl }; share = tt; estimate = tt; wait = tt }
+own_back = record { write = tt; fold = tt; check = tt; flight = record { own = refl; page = refl; chunk = tt }; share = tt; estimate = tt; wait = tt }
 
 own_batch : IsOwn one_trace 1 (batch 0 1 1202 1203)
-own_batch = record { write = tt; fold = tt; check = tt; flight = record { own = refl; page = tt }; share = tt; estimate = tt; wait = tt }
+own_batch = record { write = tt; fold = tt; check = tt; flight = record { own = refl; page = tt; chunk = tt }; share = tt; estimate = tt; wait = tt }
 
 own_done : IsOwn one_trace 1 (done 0 0)
-own_done = record { write = tt; fold = tt; check = tt; flight = record { own = refl; page = refl }; share = tt; estimate = tt; wait = tt }
+own_done = record { write = tt; fold = tt; check = tt; flight = record { own = refl; page = refl; chunk = tt }; share = tt; estimate = tt; wait = tt }
 
 own_share : IsOwn one_trace 1 (share 0 0 1)
 own_share = record { write = tt; fold = tt; check = tt; flight = tt; share = record { domain_named = refl; context_named = refl }; estimate = tt; wait = tt }

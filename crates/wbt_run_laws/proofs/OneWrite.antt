@@ -19,8 +19,9 @@ use Rattle.wbt_num.specs.Arithmetic.{halvings, log2}
 use Rattle.wbt_pause.specs.Decision.{decided, decision_of}
 use Rattle.wbt_pause.specs.Reads.{IsCounted}
 use Rattle.wbt_pause.specs.declared.reads.Task.{Task}
-use Rattle.wbt_published.specs.Known.{first_one}
+use Rattle.wbt_published.specs.Known.{first_in, first_one}
 use Rattle.wbt_published.proofs.Places.{first_version, note_first}
+use Rattle.wbt_rules.specs.First.{first_estimates}
 use Rattle.wbt_rules.specs.Strict.{is_strict}
 use Rattle.wbt_strict.specs.Decision.{decision_for}
 use Rattle.wbt_task.specs.Allowance.{first, page_after, ended}
@@ -144,7 +145,7 @@ write_shares = record {
 
 -- ---- and of estimates
 
-write_told : (context : ℕ) → IsTold 1 [] ((one_first 0).estimates context) ((one_notes 0).estimates context)
+write_told : (context : ℕ) → IsTold (first_in (first_estimates one_trace 1) context) [] ((one_first 0).estimates context) ((one_notes 0).estimates context)
 write_told zero = record {
   right = refl;
   published = λ is. refl;
@@ -164,7 +165,7 @@ none_seen : (context version : ℕ) → (of_first (knows false [] [] 0) knows_no
 none_seen zero version = omega arith
 none_seen (suc context) version = omega arith
 
-write_estimates : EstimatesGrew 1 0 one_writes (one_first 0) (one_notes 0)
+write_estimates : EstimatesGrew (first_estimates one_trace 1) 0 one_writes (one_first 0) (one_notes 0)
 write_estimates = record {
   each = write_told;
   names = record {
@@ -196,5 +197,5 @@ first_since = noted_of_writers one_trace 1 0 one_writes (first_shown one_trace o
   };
   shares = write_shares;
   estimates = write_estimates;
-  decided = (tt, (record { estimate = first_at 1; named = first_version 1; was_read = subst (λ (e : Estimate). Contains (first_one ∷ []) e) (sym (note_first 1)) (here first_one []); first = λ is. refl; in_range = free_in_range 2 1 one_check.count one_task (omega arith) (omega arith) one_counted; decision = refl }, tt));
+  decided = (tt, (record { estimate = first_at 1; named = first_version 1; was_read = subst (λ (e : Estimate). Contains (first_one ∷ []) e) (sym (note_first (first_at 1) (first_version 1))) (here first_one []); first = λ is. refl; in_range = free_in_range 2 1 one_check.count one_task (omega arith) (omega arith) one_counted; decision = refl }, tt));
 })

@@ -76,10 +76,10 @@ module _ (cpus cap size on : ℕ) (some_cpus : 1 ≤ cpus) (few_cpus : cpus ≤ 
       settings = record { ratio = omega arith; bg_ratio = omega arith; bytes = omega arith; bg_bytes = omega arith };
       avail = (refl, omega arith, omega arith, tt);
       few_avail = omega arith;
-      devices = record { each = one_of IsDevice (record { rate = 100; min = 0; max = 100; strict = false }) (record { rate = (omega arith, omega arith); shares = (omega arith, omega arith) }); shares = omega arith; few = omega arith };
+      devices = record { each = one_of IsDevice (record { rate = 100; min = 0; max = 100; strict = false; chunk = None }) (record { rate = (omega arith, omega arith); shares = (omega arith, omega arith); chunk = tt }); shares = omega arith; few = omega arith };
       cgroups = All-nil IsCgroup;
       few_cgroups = omega arith;
-      contexts = one_of (IsContext 1 0) (record { device = 0; domain = 0; expire = None }) (omega arith, omega arith, tt);
+      contexts = one_of (IsContext 1 0) (record { device = 0; domain = 0; expire = None; estimate = None }) (omega arith, omega arith, tt, tt);
       few_contexts = omega arith;
       inodes = record { each = one_of (IsInode 1) (record { context = 0; first = 0; pages = size }) (omega arith, some_size); firsts = (refl, tt); total = omega arith; few = omega arith };
       tasks = one_of (IsTask cpus) (record { cpu = 0 }) (omega arith);

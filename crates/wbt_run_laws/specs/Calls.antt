@@ -1,6 +1,5 @@
 -- What the calls on shares and on estimates give of a turn's notes.
 use Rattle.std.specs.Prelude.{◌≡◌, ℕ, suc, ◌+◌, ◌≤◌, true, ◌==◌, if◌then◌else◌, List, [], ◌∷◌}
-use Rattle.wbt_estimate.specs.Estimate.{first_at}
 use Rattle.wbt_estimate.specs.declared.estimate.Estimate.{Estimate}
 use Rattle.wbt_flex.specs.declared.share.Fraction.{Fraction}
 use Rattle.wbt_fraction.specs.Laws.{begun}
@@ -60,14 +59,14 @@ BeginIsNoted = (k : ℕ) (old new : Seated) → 1 ≤ k → Begins k true old ne
 
 -- a read publishes nothing
 abbrev pub ReadTellsNothing : Type 0
-ReadTellsNothing = (opened : ℕ) (known : Known) (estimate : Estimate) → IsTold opened [] known (after_read (note_of estimate) known)
+ReadTellsNothing = (first : Estimate) (known : Known) (estimate : Estimate) → IsTold first [] known (after_read (note_of estimate) known)
 
 -- what a pass publishes is told, where it follows the newest
 abbrev pub PublishIsTold : Type 0
-PublishIsTold = (opened : ℕ) (known : Known) (newest estimate : Estimate) → known.publishes ≡ true → IsNewest opened known newest
-    → Follows newest estimate → IsTold opened (estimate ∷ []) known (after_publish estimate known)
+PublishIsTold = (first : Estimate) (known : Known) (newest estimate : Estimate) → known.publishes ≡ true → IsNewest first known newest
+    → Follows newest estimate → IsTold first (estimate ∷ []) known (after_publish estimate known)
 
 -- and the pass that publishes reads the newest
 abbrev pub ReadIsNewest : Type 0
-ReadIsNewest = (opened : ℕ) (known : Known) (estimate : Estimate) → KnowsAll known → IsNewestNote known (note_of estimate)
-    → (estimate.version ≡ 0 → estimate ≡ first_at opened) → IsNewest opened known estimate
+ReadIsNewest = (first : Estimate) (known : Known) (estimate : Estimate) → KnowsAll known → IsNewestNote known (note_of estimate)
+    → (estimate.version ≡ 0 → estimate ≡ first) → IsNewest first known estimate

@@ -1,5 +1,6 @@
 -- Turns of a flusher on seats that were joined: what they note may be taken as noted by the flusher's CPU.
 use Rattle.std.specs.Prelude.{◌≡◌, ℕ, false, None, List, ◌++◌}
+use Rattle.wbt_estimate.specs.declared.estimate.Estimate.{Estimate}
 use Rattle.wbt_fraction.specs.declared.domain.note.Note.{Note}
 use Rattle.wbt_journal.specs.Each.{Each}
 use Rattle.wbt_journal.specs.Effects.{effect}
@@ -24,5 +25,5 @@ pub record IsPlain (entry : Told) : Type 0 where
 
 -- such entries leave what a pass knows of estimates, whatever its shares became
 abbrev pub PlainEstimates : Type 0
-PlainEstimates = (opened cpu : ℕ) (added : List Told) (old new : Notes) → Each IsPlain added
-    → ((context : ℕ) → new.estimates context ≡ old.estimates context) → EstimatesGrew opened cpu added old new
+PlainEstimates = (firsts : List Estimate) (cpu : ℕ) (added : List Told) (old new : Notes) → Each IsPlain added
+    → ((context : ℕ) → new.estimates context ≡ old.estimates context) → EstimatesGrew firsts cpu added old new

@@ -1,9 +1,9 @@
 -- Turns with what they note of shares and estimates, and with what their checks decide.
 use Rattle.std.specs.Prelude.{◌≡◌, ℕ, IfSome, List, [], ◌++◌, Contains}
-use Rattle.wbt_estimate.specs.Estimate.{first_at}
 use Rattle.wbt_estimate.specs.declared.estimate.Estimate.{Estimate}
-use Rattle.wbt_published.specs.Known.{note_of}
+use Rattle.wbt_published.specs.Known.{first_in, note_of}
 use Rattle.wbt_published.specs.declared.known.Known.{Known}
+use Rattle.wbt_rules.specs.First.{first_estimates}
 use Rattle.wbt_trace.specs.declared.trace.Trace.{Trace}
 use Rattle.wbt_journal.specs.Checks.{IsInRange, asked_by, task_numbers}
 use Rattle.wbt_journal.specs.Effects.{effect}
@@ -20,7 +20,7 @@ pub record DecidesByRead (trace : Trace) (opened : ℕ) (known : Known) (s : Sid
   pub estimate : Estimate
   pub named : estimate.version ≡ check.estimate
   pub was_read : Contains known.reads (note_of estimate)
-  pub first : estimate.version ≡ 0 → estimate ≡ first_at opened
+  pub first : estimate.version ≡ 0 → estimate ≡ first_in (first_estimates trace opened) check.context
   pub in_range : IsInRange check estimate (task_numbers trace s check)
   pub decision : check.decision ≡ asked_by trace s check estimate
 
@@ -39,19 +39,19 @@ AreDecided trace opened known s events = Along (DecidesAlong trace opened known)
 pub record NotedWriterTurn (trace : Trace) (opened cpu : ℕ) (added : List Told) (old new : Shown) (before behind : Notes) : Type 0 where
   pub turn : WriterTurn trace opened cpu added old new
   pub shares : SharesGrew cpu added before behind
-  pub estimates : EstimatesGrew opened cpu added before behind
+  pub estimates : EstimatesGrew (first_estimates trace opened) cpu added before behind
   pub decided : AreDecided trace opened behind.estimates old.side turn.side.events
 
 pub record NotedFlusherTurn (trace : Trace) (opened cpu flusher : ℕ) (added : List Told) (old new : Shown) (before behind : Notes) : Type 0 where
   pub turn : FlusherTurn trace opened cpu flusher added old new
   pub shares : SharesGrew cpu added before behind
-  pub estimates : EstimatesGrew opened cpu added before behind
+  pub estimates : EstimatesGrew (first_estimates trace opened) cpu added before behind
 
 -- any turns of the CPU, one after another
 pub record NotedSince (trace : Trace) (opened cpu : ℕ) (added : List Told) (old new : Shown) (before behind : Notes) : Type 0 where
   pub since : Since trace opened cpu added old new
   pub shares : SharesGrew cpu added before behind
-  pub estimates : EstimatesGrew opened cpu added before behind
+  pub estimates : EstimatesGrew (first_estimates trace opened) cpu added before behind
   pub decided : AreDecided trace opened behind.estimates old.side since.side.events
 
 -- ---- laws

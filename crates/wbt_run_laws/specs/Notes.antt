@@ -2,7 +2,6 @@
 use Rattle.std.specs.Prelude.{◌≡◌, ℕ, suc, ◌+◌, ◌≤◌, ◌⊎◌, true, false, IfSome, List, [], ◌∷◌, ◌++◌, Contains}
 use Rattle.std.specs.List.{list_all}
 use Rattle.wbt_estimate.specs.declared.estimate.Estimate.{Estimate}
-use Rattle.wbt_estimate.specs.Estimate.{first_at}
 use Rattle.wbt_flex.specs.Proportions.{fraction_of}
 use Rattle.wbt_flex.specs.declared.share.Fraction.{Fraction}
 use Rattle.wbt_fraction.specs.Laws.{begun}
@@ -11,7 +10,7 @@ use Rattle.wbt_fraction.specs.Sums.{total as weigh}
 use Rattle.wbt_fraction.specs.Words.{period_of, half_of}
 use Rattle.wbt_fraction.specs.declared.domain.note.Note.{Note}
 use Rattle.wbt_fraction.specs.declared.domain.note.Note.TheVariants.{Found}
-use Rattle.wbt_published.specs.Known.{first_one}
+use Rattle.wbt_published.specs.Known.{first_in, first_one}
 use Rattle.wbt_published.specs.declared.known.Known.{Known}
 use Rattle.wbt_journal.specs.Counts.{reads_of}
 use Rattle.wbt_journal.specs.Each.{Each}
@@ -80,24 +79,25 @@ pub record SharesGrew (cpu : ℕ) (added : List Told) (old new : Notes) : Type 0
 abbrev pub newer : (old new : Estimate) → Estimate
 newer old new = new
 
--- the newest estimate of a context, of all that the pass knows, with the moment of the first one
-pub record IsNewest (opened : ℕ) (known : Known) (newest : Estimate) : Type 0 where
+-- the newest estimate of a context that begins with this one, of all that the pass knows
+pub record IsNewest (first : Estimate) (known : Known) (newest : Estimate) : Type 0 where
   pub later : List Estimate
   pub all_are : known.all ≡ first_one ∷ later
-  pub newest_is : newest ≡ after newer (first_at opened) later
+  pub newest_is : newest ≡ after newer first later
 
 -- these versions were named, and none of them is above what the pass has seen
 abbrev pub HasNamed : (estimates : ℕ → Known) (seen : List Named) → Type 0
 HasNamed estimates seen = (context version : ℕ) → (estimates context).seen ≤ version → list_all (is_no_newer context version) seen ≡ true
 
--- what is published for a context
-pub record IsTold (opened : ℕ) (told : List Estimate) (old new : Known) : Type 0 where
+-- what is published for a context that begins with this estimate
+pub record IsTold (first : Estimate) (told : List Estimate) (old new : Known) : Type 0 where
   pub right : new.publishes ≡ old.publishes
   pub published : old.publishes ≡ true → new.all ≡ old.all ++ told
   pub silent : old.publishes ≡ false → told ≡ []
-  pub follow : Walks (IsNewest opened) Follows newer old told new
+  pub follow : Walks (IsNewest first) Follows newer old told new
   pub reads : (note : Estimate) → Contains old.reads note → Contains new.reads note
 
-pub record EstimatesGrew (opened cpu : ℕ) (added : List Told) (old new : Notes) : Type 0 where
-  pub each : (context : ℕ) → IsTold opened (estimates_of context added) (old.estimates context) (new.estimates context)
+-- for each context, of which these are the first estimates
+pub record EstimatesGrew (firsts : List Estimate) (cpu : ℕ) (added : List Told) (old new : Notes) : Type 0 where
+  pub each : (context : ℕ) → IsTold (first_in firsts context) (estimates_of context added) (old.estimates context) (new.estimates context)
   pub names : Walks HasNamed NamesGoOn names_after old.estimates (items_told cpu added) new.estimates

@@ -5,7 +5,7 @@ use Rattle.wbt_counter.specs.declared.record.Fold.{Fold}
 use Rattle.wbt_journal.specs.Counts.{reads_of}
 use Rattle.wbt_journal.specs.Each.{Each}
 use Rattle.wbt_journal.specs.Effects.{Flight, Share, Wait, Write, effect}
-use Rattle.wbt_journal.specs.Flights.{is_own_flusher}
+use Rattle.wbt_journal.specs.Flights.{MeetsChunk, is_own_flusher}
 use Rattle.wbt_journal.specs.Machine.{domains, contexts, has_counter}
 use Rattle.wbt_journal.specs.Pages.{NamesPage}
 use Rattle.wbt_journal.specs.Reads.{IsShare}
@@ -13,6 +13,7 @@ use Rattle.wbt_journal.specs.Side.{is_own_task}
 use Rattle.wbt_journal.specs.Told.{Told}
 use Rattle.wbt_journal.specs.declared.entry.CheckEntry.{CheckEntry}
 use Rattle.wbt_journal.specs.declared.entry.EstEntry.{EstEntry}
+use Rattle.wbt_rules.specs.Flusher.{chunk_at}
 
 -- a check of a task of the CPU, in a context and of domains that there are
 pub record IsOwnCheck (trace : Trace) (cpu : ℕ) (check : CheckEntry) : Type 0 where
@@ -20,10 +21,11 @@ pub record IsOwnCheck (trace : Trace) (cpu : ℕ) (check : CheckEntry) : Type 0 
   pub context : nat_lt check.context (contexts trace) ≡ true
   pub each_domain : Each (λ read. nat_lt read.domain (domains trace) ≡ true) (reads_of check)
 
--- a flusher of the CPU, with a page that there is, if its move names one
+-- a flusher of the CPU, with a page that there is, if its move names one, and no more pages than its device's line says
 pub record IsOwnFlight (trace : Trace) (cpu : ℕ) (flight : Flight) : Type 0 where
   pub own : is_own_flusher trace cpu flight.flusher ≡ true
   pub page : NamesPage trace flight.move
+  pub chunk : MeetsChunk (chunk_at trace flight.flusher) flight.move
 
 pub record IsOwn (trace : Trace) (cpu : ℕ) (entry : Told) : Type 0 where
   pub write : IfSome (effect entry).write (λ (write : Write). is_own_task trace cpu write.task ≡ true)

@@ -30,9 +30,9 @@ small_trace cpus cap size flusher_on = record {
   cap = cap;
   settings = record { ratio = 40; bg_ratio = 20; bytes = 0; bg_bytes = 0 };
   avail = record { from = 0; pages = 100 } ∷ [];
-  devices = record { rate = 100; min = 0; max = 100; strict = false } ∷ [];
+  devices = record { rate = 100; min = 0; max = 100; strict = false; chunk = None } ∷ [];
   cgroups = [];
-  contexts = record { device = 0; domain = 0; expire = None } ∷ [];
+  contexts = record { device = 0; domain = 0; expire = None; estimate = None } ∷ [];
   inodes = record { context = 0; first = 0; pages = size } ∷ [];
   tasks = record { cpu = 0 } ∷ [];
   flushers = record { device = 0; cpu = flusher_on } ∷ [];

@@ -8,6 +8,7 @@ use Rattle.std.proofs.lemmas.List.{length-map}
 use Rattle.std.proofs.lemmas.List.Sums.{sum_by-cons}
 use Rattle.wbt_book.specs.Ledger.{times_in}
 use Rattle.wbt_counter.specs.Sums.{total}
+use Rattle.wbt_rules.specs.First.{first_estimates}
 use Rattle.wbt_run_seats.specs.Parts.{AreParts, IsPart, noted}
 use Rattle.wbt_run_seats.specs.Rooms.{AreBacked}
 use Rattle.wbt_run_seats.proofs.Firsts.{first_has_totals, first_held, part_is_first}
@@ -177,6 +178,7 @@ module _ (trace : Trace) (now : ℕ) (kit : Kit) (first part : Seats) (cpu : ℕ
         shared_domains = is.domains_are;
         homes = is.homes;
         published = is.contexts_are;
+        firsts = is.firsts ∙ ap (first_estimates trace) (sym is.moment);
         queues = opened.devices_are;
         few_page_steps = opened.page_steps;
       }

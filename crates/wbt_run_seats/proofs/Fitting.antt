@@ -17,6 +17,7 @@ use Rattle.wbt_trace.specs.declared.trace.Context.{Context}
 use Rattle.wbt_trace.specs.declared.trace.FlusherLine.{FlusherLine}
 use Rattle.wbt_trace.specs.declared.trace.Trace.{Trace}
 use Rattle.wbt_journal.specs.Machine.{domains, pages}
+use Rattle.wbt_rules.specs.First.{first_estimates}
 use Rattle.wbt_rules.specs.Things.{first_flusher, flusher_device}
 use Rattle.wbt_kit.specs.Kit.{IsKitOf}
 use Rattle.wbt_kit.specs.Opening.{layout_of, homes_of, first_cpu}
@@ -44,7 +45,7 @@ found_there (y ∷ xs) zero x d e = (omega arith, (let f = e in cc))
 found_there (y ∷ xs) (suc k) x d e = let rest = found_there xs k x d e in (omega (arith, rest.0), rest.1)
 
 abbrev no_context : Context
-no_context = record { device = 0; domain = 0; expire = None }
+no_context = record { device = 0; domain = 0; expire = None; estimate = None }
 
 -- ---- the plan
 
@@ -95,8 +96,8 @@ module _ (trace : Trace) (now : ℕ) (lawful : IsLawful trace) (kit : Kit) (is :
 
   its_device : IsDevice plan.shares
   its_device =
-      let there = found_there trace.devices plan.device plan.shares (record { rate = 0; min = 0; max = 0; strict = false }) of.shares in
-      subst IsDevice there.1 (lawful.within.devices.each plan.device (record { rate = 0; min = 0; max = 0; strict = false }) there.0)
+      let there = found_there trace.devices plan.device plan.shares (record { rate = 0; min = 0; max = 0; strict = false; chunk = None }) of.shares in
+      subst IsDevice there.1 (lawful.within.devices.each plan.device (record { rate = 0; min = 0; max = 0; strict = false; chunk = None }) there.0)
 
   is_plan : IsPlan plain
   is_plan = record {
@@ -111,6 +112,7 @@ module _ (trace : Trace) (now : ℕ) (lawful : IsLawful trace) (kit : Kit) (is :
     few_inodes = omega (arith, lawful.within.inodes.few);
     expires = λ context less. (lawful.within.contexts context no_context less).2;
     shares = its_device.shares;
+    chunk = its_device.chunk;
     least = lawful.within.devices.shares;
   }
 
@@ -149,8 +151,14 @@ module _ (trace : Trace) (now : ℕ) (lawful : IsLawful trace) (kit : Kit) (is :
   its_suits = subst (λ (p : FlusherPlan). Suits p kit) same_plan (subst (λ (k : Kit). Suits plain k) same_kit suits_named)
 
 pub plan_suits : PlanSuits
-plan_suits trace now kit first plan lawful is seats are of has_pages =
-    (its_suits trace now lawful kit is plan of has_pages (first_has_totals kit first seats are), record { plan_is = of; throttle = (kit_is_opened trace now kit lawful is).throttle })
+plan_suits trace now kit first plan lawful is seats are of has_pages = (
+  its_suits trace now lawful kit is plan of has_pages (first_has_totals kit first seats are),
+  record {
+    plan_is = of;
+    throttle = (kit_is_opened trace now kit lawful is).throttle;
+    firsts = is.firsts ∙ ap (first_estimates trace) (sym is.moment);
+  },
+)
 
 -- ---- its CPU's part
 

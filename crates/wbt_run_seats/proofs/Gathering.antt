@@ -6,7 +6,7 @@ use Rattle.wbt_fraction.specs.Laws.{begun}
 use Rattle.wbt_fraction.specs.Sums.{total as weigh}
 use Rattle.wbt_fraction.specs.declared.domain.note.Note.{Note}
 use Rattle.wbt_fraction.proofs.Sums.{total_append}
-use Rattle.wbt_published.specs.Known.{knows_both}
+use Rattle.wbt_published.specs.Known.{first_in, knows_both}
 use Rattle.wbt_published.specs.Passes.{known_of, Seats as EstPass}
 use Rattle.wbt_published.proofs.Turns.{joined-at}
 use Rattle.wbt_published.specs.declared.known.Known.{Known}
@@ -19,7 +19,7 @@ use Rattle.wbt_run_seats.proofs.Noting.{begun_append, none_begun, no_weight, not
 use Rattle.wbt_run_seats.proofs.Passing.{or_second, or_neither, passes_same, passes_first, passes_along, tells_none, all_stays}
 
 pub grown_are_notes : GrownAreNotes
-grown_are_notes trace kit opened cpu added first seats notes many is shares estimates mine known = record {
+grown_are_notes trace kit firsts cpu added first seats notes many is shares estimates mine known = record {
   shares = mine;
   estimates = known;
   begins_none = λ domain. shares.begins_none domain ∙ ap begun (is.nothing.shares domain) ∙ none_begun;
@@ -94,7 +94,7 @@ timer_takes_in trace cpus publisher notes mine from new est came both here there
     }
 
 pub moved_are_gathered : MovedAreGathered
-moved_are_gathered trace opened cpus cpu publisher notes timer old new added before behind gathered less grew estimates plain old_shares new_shares old_known new_known =
+moved_are_gathered trace firsts cpus cpu publisher notes timer old new added before behind gathered less grew estimates plain old_shares new_shares old_known new_known =
     let more = λ (domain : ℕ). (grew.longer domain).more in
     let known = λ (context : ℕ). known_of context new.est in
     let told = λ (context : ℕ). estimates.each context in
@@ -108,7 +108,7 @@ moved_are_gathered trace opened cpus cpu publisher notes timer old new added bef
             let was = had.published context low low_publisher in
             let yes : (before.estimates context).publishes ≡ true = ap (λ (k : Known). k.publishes) (old_known context) ∙ was.0 in (
               ap (λ (k : Known). k.publishes) (sym (new_known context)) ∙ (told context).right ∙ yes,
-              ap (λ (k : Known). k.all) (sym (new_known context)) ∙ all_stays opened (estimates_of context added) (before.estimates context) (behind.estimates context) (tells_none context added plain) (told context) yes
+              ap (λ (k : Known). k.all) (sym (new_known context)) ∙ all_stays (first_in firsts context) (estimates_of context added) (before.estimates context) (behind.estimates context) (tells_none context added plain) (told context) yes
                   ∙ ap (λ (k : Known). k.all) (old_known context) ∙ was.1 ∙ ap (λ (k : Known). k.all) (sym (moved_known notes cpu more (publisher context) context)),
             );
         others = λ context low high. ap (λ (k : Known). k.publishes) (sym (new_known context)) ∙ (told context).right ∙ ap (λ (k : Known). k.publishes) (old_known context) ∙ had.others context low high;

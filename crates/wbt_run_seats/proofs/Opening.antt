@@ -87,7 +87,7 @@ module _ (trace : Trace) (now : ℕ) (lawful : IsLawful trace) where
     contexts_are = length-map trace.contexts (λ (c : Context). c.domain);
     pages_are = enough_pages;
     writers_are = length-map (all_writers trace) (seated trace);
-    groups = λ context. map_at (λ (c : Context). c.domain) trace.contexts context (record { device = 0; domain = 0; expire = None });
+    groups = λ context. map_at (λ (c : Context). c.domain) trace.contexts context (record { device = 0; domain = 0; expire = None; estimate = None });
     homes = λ page less. (page_lies 0 trace.inodes page in_order (omega arith) (omega (arith, enough_pages))).context;
     homes_are = home_there;
     works_in = λ w less. ap (λ (x : Writer). x.context) (writer_same w less);
@@ -137,8 +137,8 @@ module _ (trace : Trace) (now : ℕ) (lawful : IsLawful trace) where
   pub owner_there : (k : ℕ) → k < length (owners_of trace) → get_or (owners_of trace) k 0 < trace.cpus
   owner_there k less =
       let long = length-map trace.contexts (λ (c : Context). first_cpu c.device trace.flushers) in
-      subst (λ (n : ℕ). n < trace.cpus) (sym (get_or-map (λ (c : Context). first_cpu c.device trace.flushers) trace.contexts k (record { device = 0; domain = 0; expire = None }) 0 (omega (arith, long))))
-      (first_cpu_there (get_or trace.contexts k (record { device = 0; domain = 0; expire = None })).device (length trace.devices) trace.cpus trace.flushers lawful.whole.cpus lawful.within.flushers)
+      subst (λ (n : ℕ). n < trace.cpus) (sym (get_or-map (λ (c : Context). first_cpu c.device trace.flushers) trace.contexts k (record { device = 0; domain = 0; expire = None; estimate = None }) 0 (omega (arith, long))))
+      (first_cpu_there (get_or trace.contexts k (record { device = 0; domain = 0; expire = None; estimate = None })).device (length trace.devices) trace.cpus trace.flushers lawful.whole.cpus lawful.within.flushers)
 
   pub sizes_long : (n : ℕ) → length (sizes_of trace n) ≡ n
   sizes_long zero = refl

@@ -101,8 +101,8 @@ tells_none context (e ∷ added) plain =
     ap (λ (l : List Estimate). l ++ estimates_of context added) (part_none [] (λ (est : EstEntry). if est.context == context then est.estimate ∷ [] else []) (effect e).estimate plain.0.no_estimate)
     ∙ tells_none context added plain.1
 
-pub all_stays : (opened : ℕ) (told : List Estimate) (old new : Known) → told ≡ [] → IsTold opened told old new → old.publishes ≡ true → new.all ≡ old.all
-all_stays opened told old new none is right = is.published right ∙ ap (λ (l : List Estimate). old.all ++ l) none ∙ nil old.all
+pub all_stays : (first : Estimate) (told : List Estimate) (old new : Known) → told ≡ [] → IsTold first told old new → old.publishes ≡ true → new.all ≡ old.all
+all_stays first told old new none is right = is.published right ∙ ap (λ (l : List Estimate). old.all ++ l) none ∙ nil old.all
   where
     nil : (xs : List Estimate) → xs ++ [] ≡ xs
     nil [] = refl

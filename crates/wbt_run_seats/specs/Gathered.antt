@@ -69,8 +69,8 @@ HasOneStake kit seats = (domain : ℕ) → domain < length kit.shares.domains �
 
 -- notes that grew from those of a first part are such
 abbrev pub GrownAreNotes : Type 0
-GrownAreNotes = (trace : Trace) (kit : Kit) (opened cpu : ℕ) (added : List Told) (first seats : Seats) (notes : Notes) → length kit.published.names ≡ contexts trace
-    → IsFirstPart kit cpu first → SharesGrew cpu added (first_notes first) notes → EstimatesGrew opened cpu added (first_notes first) notes
+GrownAreNotes = (trace : Trace) (kit : Kit) (firsts : List Estimate) (cpu : ℕ) (added : List Told) (first seats : Seats) (notes : Notes) → length kit.published.names ≡ contexts trace
+    → IsFirstPart kit cpu first → SharesGrew cpu added (first_notes first) notes → EstimatesGrew firsts cpu added (first_notes first) notes
     → ((domain : ℕ) → notes.shares domain ≡ noted seats.share domain) → ((context : ℕ) → notes.estimates context ≡ known_of context seats.est)
     → AreNotesOf trace (owner_of kit) cpu notes seats
 
@@ -93,8 +93,8 @@ MoreAreGathered = (trace : Trace) (kit : Kit) (cpus : ℕ) (publisher : (context
 
 -- a turn on gathered seats that tells neither a check nor an estimate may be taken as a turn of its CPU
 abbrev pub MovedAreGathered : Type 0
-MovedAreGathered = (trace : Trace) (opened cpus cpu : ℕ) (publisher : (context : ℕ) → ℕ) (notes : ℕ → Notes) (timer : (domain : ℕ) → List Note) (old new : Seats) (added : List Told) (before behind : Notes)
-    → AreGathered trace cpus publisher notes timer old → cpu < cpus → (grew : SharesGrew cpu added before behind) → EstimatesGrew opened cpu added before behind → Each IsPlain added
+MovedAreGathered = (trace : Trace) (firsts : List Estimate) (cpus cpu : ℕ) (publisher : (context : ℕ) → ℕ) (notes : ℕ → Notes) (timer : (domain : ℕ) → List Note) (old new : Seats) (added : List Told) (before behind : Notes)
+    → AreGathered trace cpus publisher notes timer old → cpu < cpus → (grew : SharesGrew cpu added before behind) → EstimatesGrew firsts cpu added before behind → Each IsPlain added
     → ((domain : ℕ) → before.shares domain ≡ noted old.share domain) → ((domain : ℕ) → behind.shares domain ≡ noted new.share domain)
     → ((context : ℕ) → before.estimates context ≡ known_of context old.est) → ((context : ℕ) → behind.estimates context ≡ known_of context new.est)
     → AreGathered trace cpus publisher (put notes cpu (with_shares (notes cpu) (λ domain. (grew.longer domain).more))) timer new

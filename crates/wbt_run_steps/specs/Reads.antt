@@ -1,18 +1,18 @@
 -- What a turn reads of estimates and of fractions.
-use Rattle.std.specs.Prelude.{◌≡◌, ℕ, ◌≤◌, set}
-use Rattle.wbt_estimate.specs.Estimate.{IsSound, first_at}
+use Rattle.std.specs.Prelude.{◌≡◌, ℕ, ◌≤◌, List, set}
+use Rattle.wbt_estimate.specs.Estimate.{IsSound}
 use Rattle.wbt_estimate.specs.declared.estimate.Estimate.{Estimate}
 use Rattle.wbt_flex.specs.declared.share.Fraction.{Fraction}
 use Rattle.wbt_fraction.specs.Seat.{Seated, Between, Reads}
 use Rattle.wbt_fraction.specs.declared.domain.words.Again.{Again}
-use Rattle.wbt_published.specs.Known.{after_read, note_of}
+use Rattle.wbt_published.specs.Known.{after_read, first_in, note_of}
 use Rattle.wbt_published.specs.Passes as est
 use Rattle.wbt_published.specs.Passes.{known_of}
 
 -- an estimate of the context was read, and nothing else
-pub record ReadsEstimate (opened context : ℕ) (estimate : Estimate) (old new : est.Seats) : Type 0 where
+pub record ReadsEstimate (firsts : List Estimate) (context : ℕ) (estimate : Estimate) (old new : est.Seats) : Type 0 where
   pub noted : new ≡ record old { known = set old.known context (after_read (note_of estimate) (known_of context old)) }
-  pub first : estimate.version ≡ 0 → estimate ≡ first_at opened
+  pub first : estimate.version ≡ 0 → estimate ≡ first_in firsts context
   pub sound : IsSound estimate
   pub no_older : (known_of context old).seen ≤ estimate.version
 

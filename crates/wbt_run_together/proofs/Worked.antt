@@ -6,6 +6,7 @@ use Rattle.std.specs.List.{count_by, sum_by}
 use Rattle.std.proofs.lemmas.List.Sums.{sum_by-cons}
 use Rattle.std.specs.Option.{IfSome}
 use Rattle.std.proofs.lemmas.Bool.{cases_eq}
+use Rattle.wbt_rules.specs.First.{first_estimates}
 use Rattle.wbt_run_seats.specs.Gathered.{AreNotesOf, HasOneStake}
 use Rattle.wbt_run_seats.specs.Opened.{first_notes}
 use Rattle.wbt_run_seats.specs.Parts.{HoldsOnly, owner_of}
@@ -189,7 +190,7 @@ module _ {D : Type 0} (told : ℕ → Type 0) (said : ℕ → ℕ → Bool → T
   notes_are many =
       let same : (worker_by written faults trace cpu old).notes ≡ first_notes old.seats = ap (λ (w : turns.Worker). w.notes) is_first.worker_is in
       let notes = (worker_by written faults trace cpu new).notes in
-      grown_are_notes trace kit kit.published.moment cpu goes.went.went.added old.seats new.seats notes many is_first.first_part
+      grown_are_notes trace kit (first_estimates trace kit.published.moment) cpu goes.went.went.added old.seats new.seats notes many is_first.first_part
       (subst (λ (n : Notes). SharesGrew cpu goes.went.went.added n notes) same goes.went.went.since.shares)
-      (subst (λ (n : Notes). EstimatesGrew kit.published.moment cpu goes.went.went.added n notes) same goes.went.went.since.estimates)
+      (subst (λ (n : Notes). EstimatesGrew (first_estimates trace kit.published.moment) cpu goes.went.went.added n notes) same goes.went.went.since.estimates)
       (λ domain. refl) (λ context. refl)

@@ -1,5 +1,5 @@
 -- What a flusher's turn answers to its CPU's side.
-use Rattle.std.proofs.Common.{◌≡◌, ℕ, ◌<◌, ◌≤◌, Bool, false, length, set, get_or, refl, sym, subst, true≢false, arith}
+use Rattle.std.proofs.Common.{◌≡◌, ℕ, ◌<◌, Bool, false, length, set, get_or, refl, sym, subst, true≢false, arith}
 use Rattle.wbt_flusher.specs.Answers.{FlusherAnswers, IsLeft, wait_of}
 use Rattle.wbt_flusher.specs.Answers as flusher
 use Rattle.wbt_flusher.specs.Did as flusher_did

@@ -1,5 +1,5 @@
 -- A turn of one of a CPU's flushers as a turn of their CPU's side.
-use Rattle.std.proofs.Common.{◌≡◌, ◌≢◌, ℕ, ◌+◌, ◌<◌, ◌≤◌, ◌==◌, if◌then◌else◌, Bool, List, [], length, set, get_or, Some, IfSome, Contains, refl, sym, ap, ◌∙◌, subst, arith, eq-eqb}
+use Rattle.std.proofs.Common.{◌≡◌, ◌≢◌, ℕ, ◌+◌, ◌<◌, ◌==◌, if◌then◌else◌, Bool, List, [], length, set, get_or, Some, IfSome, Contains, refl, sym, ap, ◌∙◌, subst, arith, eq-eqb}
 use Rattle.std.specs.List.{count_by, sum_by}
 use Rattle.wbt_flusher.specs.Answers as flusher
 use Rattle.wbt_flusher.specs.Answers.{FlusherAnswers, IsLeft, IsUntouched}
@@ -23,6 +23,7 @@ use Rattle.wbt_journal.specs.declared.entry.EstEntry.{EstEntry}
 use Rattle.wbt_kit.specs.declared.kit.Kit.{Kit}
 use Rattle.wbt_kit.specs.declared.kit.Seats.{Seats}
 use Rattle.wbt_published.specs.Passes.{known_of}
+use Rattle.wbt_rules.specs.First.{first_estimates}
 use Rattle.wbt_run_steps.specs.Records.{IsApart, record_of}
 use Rattle.wbt_table.specs.Layout.{setting}
 use Rattle.wbt_table.specs.declared.layout.Layout.{Layout}
@@ -134,7 +135,7 @@ module _ (told : ℕ → Type 0) (said : ℕ → ℕ → Bool → Type 0) (kit :
         written_stays = λ task. refl;
       };
       shares = subst (λ (c : ℕ). SharesGrew c added (worker_of trace cpu old seats).notes (worker_of trace cpu new seats').notes) mine.cpu_is its_turn.shares;
-      estimates = subst (λ (c : ℕ). EstimatesGrew kit.published.moment c added (worker_of trace cpu old seats).notes (worker_of trace cpu new seats').notes) mine.cpu_is
+      estimates = subst (λ (c : ℕ). EstimatesGrew (first_estimates trace kit.published.moment) c added (worker_of trace cpu old seats).notes (worker_of trace cpu new seats').notes) mine.cpu_is
           its_turn.estimates;
     }
 

@@ -1,5 +1,5 @@
 -- A turn of a flusher that did nothing, as memory was refused.
-use Rattle.std.proofs.Common.{◌≡◌, ⊎_elim, ℕ, ◌+◌, ◌<◌, ◌≤◌, false, [], length, set, get_or, All, Some, refl, sym, ap, ◌∙◌, subst, arith}
+use Rattle.std.proofs.Common.{◌≡◌, ⊎_elim, ℕ, ◌+◌, ◌<◌, false, [], length, set, get_or, All, Some, refl, sym, ap, ◌∙◌, subst, arith}
 use Rattle.std.proofs.lemmas.List.Sums.{sum_by-set}
 use Rattle.wbt_flusher.specs.Ages.{HasWheel, pairs_of}
 use Rattle.wbt_flusher.specs.Answers.{IsUntouched}

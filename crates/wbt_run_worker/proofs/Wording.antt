@@ -1,5 +1,5 @@
 -- The steps of a CPU's turns: those of whole turns, and where its side was halted perhaps of a last one that was cut off.
-use Rattle.std.proofs.Common.{◌≡◌, ℕ, Bool, Option, Some, List, [], ◌∷◌, ◌++◌, refl, sym, ap, ◌∙◌, subst}
+use Rattle.std.proofs.Common.{◌≡◌, ℕ, Bool, Some, List, [], ◌∷◌, ◌++◌, refl, sym, ap, ◌∙◌, subst}
 use Rattle.wbt_grant.specs.declared.who.StepKind.{StepKind}
 use Rattle.wbt_journal.specs.Each.{Each}
 use Rattle.wbt_kit.specs.declared.kit.Kit.{Kit}
@@ -13,7 +13,7 @@ use Rattle.wbt_turns.specs.Words.{IsCut, IsCutOff, IsTurn, IsWhole}
 use Rattle.wbt_turns.proofs.Following.{cut_more, whole_more, whole_none}
 use Rattle.wbt_run_worker.specs.Answers.{job_by}
 use Rattle.wbt_run_worker.specs.Course.{AreRounds, EndBy, GoesOn, HasRun, IsLast, Stance}
-use Rattle.wbt_run_worker.specs.Rounds.{ComesTo, JobTakes, NoneGoes, OneGoes, Rotates}
+use Rattle.wbt_run_worker.specs.Rounds.{ComesTo, OneGoes}
 use Rattle.wbt_run_worker.specs.Team.{Team}
 use Rattle.wbt_run_worker.specs.Words.{AreWordsBy}
 use Rattle.wbt_run_worker.specs.declared.round.JobOutcome.{JobOutcome}

@@ -32,16 +32,21 @@ fn has_part(text: &[u8], part: &[u8]) -> bool {
     false
 }
 
-// A run of the two pages over disks that fail at these writes.
+// A hundred pages, which the disk gets in one batch: so few are written in the drain alone.
+const HUNDRED_PAGES: &str =
+    "cpus 1\navail 0 100000\ndevice 0 100000 0 100\ncontext 0 0 0\ninode 0 0 100\ntask 0 0\nflusher 0 0 0\nwrite 0 0 0 100\n";
+
+// A run over disks that fail at some writes.
 fn run_faulty<H: Threads + Wait + Sync>(
     rt: &H,
     alloc: Global,
+    text: &str,
     rack: &mut FaultyRack,
 ) -> Result<Outcome, Fail> {
     call(
         rt,
         alloc,
-        &calm(&["run"], TWO_PAGES),
+        &calm(&["run"], text),
         &SlowClock::make(),
         &FreeGate,
         rack,
@@ -52,7 +57,7 @@ fn run_faulty<H: Threads + Wait + Sync>(
 fn a_disk_that_fails_once_has_its_pages_given_back(rt: HostRuntime) -> Result<(), Fail> {
     let alloc = rt.alloc();
     let mut rack = FaultyRack::make([1].to_vec(alloc)?);
-    let done = run_faulty(&rt, alloc, &mut rack)?;
+    let done = run_faulty(&rt, alloc, TWO_PAGES, &mut rack)?;
     assert_eq!(rt; done.status, Status::Good);
     assert_eq!(rt; (rack.fault_count(), rack.page_count()), (1, 2));
     assert!(rt;
@@ -68,10 +73,25 @@ fn a_disk_that_fails_once_has_its_pages_given_back(rt: HostRuntime) -> Result<()
 }
 
 #[test]
+fn a_large_batch_that_fails_is_told_and_given_back(rt: HostRuntime) -> Result<(), Fail> {
+    let alloc = rt.alloc();
+    let mut rack = FaultyRack::make([1].to_vec(alloc)?);
+    let done = run_faulty(&rt, alloc, HUNDRED_PAGES, &mut rack)?;
+    assert_eq!(rt; done.status, Status::Good);
+    assert_eq!(rt; (rack.fault_count(), rack.page_count()), (1, 100));
+    assert_eq!(rt; lines_like(done.held.as_slice(), "fault 0 100"), 1);
+    assert!(rt;
+        done.held
+            .ends_with(b"census 0 0\ntotals 100 100\nend done\n")
+    );
+    Ok(())
+}
+
+#[test]
 fn a_disk_that_fails_seven_times_writes_all_at_last(rt: HostRuntime) -> Result<(), Fail> {
     let alloc = rt.alloc();
     let mut rack = FaultyRack::make([1, 2, 3, 4, 5, 6, 7].to_vec(alloc)?);
-    let done = run_faulty(&rt, alloc, &mut rack)?;
+    let done = run_faulty(&rt, alloc, TWO_PAGES, &mut rack)?;
     assert_eq!(rt; done.status, Status::Good);
     assert_eq!(rt; (rack.fault_count(), rack.page_count()), (7, 2));
     assert_eq!(rt; lines_like(done.held.as_slice(), "fault 0 2"), 7);
@@ -83,7 +103,7 @@ fn a_disk_that_fails_seven_times_writes_all_at_last(rt: HostRuntime) -> Result<(
 fn a_disk_that_fails_eight_times_is_told_with_what_is_left(rt: HostRuntime) -> Result<(), Fail> {
     let alloc = rt.alloc();
     let mut rack = FaultyRack::make([1, 2, 3, 4, 5, 6, 7, 8].to_vec(alloc)?);
-    let faulted = run_faulty(&rt, alloc, &mut rack)?;
+    let faulted = run_faulty(&rt, alloc, TWO_PAGES, &mut rack)?;
     assert_eq!(rt; faulted.status, Status::DiskFault);
     assert_eq!(rt; code(&faulted.status), 5);
     assert_eq!(rt; (rack.fault_count(), rack.page_count()), (8, 0));

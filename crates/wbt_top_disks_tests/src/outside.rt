@@ -7,7 +7,7 @@ use std::sync::atomic::{AtomicU64, Ordering};
 use std::test::Fail;
 use std::thread::Threads;
 use std::time::Instant;
-use top_in_use::{SlowClock, TWO_PAGES, call, calm};
+use top_in_use::{SlowClock, call, calm};
 use wbt_io::{Clock, FaultyRack, FreeGate, HandClock, ModelRack, RealClock};
 use wbt_top_plain::Status;
 
@@ -93,7 +93,11 @@ impl Clock for RestClock {
     }
 }
 
-// The disk writes both pages within a tick, so the drain rests no longer either.
+// Memory is so small that the writer waits for the flusher, and its worker rests. The disk writes all pages in eight ticks, so the drain rests no
+// longer.
+const WRITER_WAITS: &str =
+    "cpus 1\ncap 1\navail 0 100\ndevice 0 25600 0 100\ncontext 0 0 0\ninode 0 0 200\ntask 0 0\nflusher 0 0 0\nwrite 0 0 0 200\n";
+
 #[test]
 fn a_worker_rests_ten_ticks_at_most(rt: HostRuntime) -> Result<(), Fail> {
     let clock = RestClock {
@@ -103,7 +107,7 @@ fn a_worker_rests_ten_ticks_at_most(rt: HostRuntime) -> Result<(), Fail> {
     let done = call(
         &rt,
         rt.alloc(),
-        &calm(&["run"], TWO_PAGES),
+        &calm(&["run"], WRITER_WAITS),
         &clock,
         &FreeGate,
         &mut ModelRack::make(),

@@ -53,7 +53,7 @@ action_is n (suc (suc (suc zero))) enough less same = (omega arith, omega arith,
 action_is n (suc (suc (suc (suc i)))) enough less same = omega (arith, less)
 
 disk_is : IsDevice disk
-disk_is = record { rate = (omega arith, omega arith); shares = (omega arith, omega arith) }
+disk_is = record { rate = (omega arith, omega arith); shares = (omega arith, omega arith); chunk = tt }
 
 -- The trace of a bulk run of 4 to 2097152 pages is lawful.
 pub bulk_is_lawful : (n : ℕ) → 4 ≤ n → n ≤ 2097152 → IsLawful (bulk_trace n)
@@ -67,7 +67,7 @@ bulk_is_lawful n enough few = record {
     devices = record { each = two IsDevice disk disk disk_is disk_is; shares = omega arith; few = omega arith };
     cgroups = All-nil IsCgroup;
     few_cgroups = omega arith;
-    contexts = two (IsContext 2 0) _ _ (omega arith, omega arith, tt) (omega arith, omega arith, tt);
+    contexts = two (IsContext 2 0) _ _ (omega arith, omega arith, tt, tt) (omega arith, omega arith, tt, tt);
     few_contexts = omega arith;
     inodes = inodes_are n enough few;
     tasks = four (IsTask 4) _ _ _ _ (omega arith) (omega arith) (omega arith) (omega arith);

@@ -15,7 +15,7 @@ pages_of n i = n / 4 + (if nat_lt i (n % 4) then 1 else 0)
 
 -- a disk without a least share, as fast as one may be
 abbrev pub disk : Device
-disk = record { rate = MOST_DEVICE_RATE; min = 0; max = MOST_PERCENT; strict = false }
+disk = record { rate = MOST_DEVICE_RATE; min = 0; max = MOST_PERCENT; strict = false; chunk = None }
 
 -- each begins where the one before ends, and they take turns on the two disks
 abbrev pub bulk_inodes : (n : ℕ) → List Inode
@@ -41,7 +41,7 @@ bulk_trace n = record {
   avail = record { from = 0; pages = BULK_AVAIL } ∷ [];
   devices = disk ∷ disk ∷ [];
   cgroups = [];
-  contexts = record { device = 0; domain = 0; expire = None } ∷ record { device = 1; domain = 0; expire = None } ∷ [];
+  contexts = record { device = 0; domain = 0; expire = None; estimate = None } ∷ record { device = 1; domain = 0; expire = None; estimate = None } ∷ [];
   inodes = bulk_inodes n;
   tasks = record { cpu = 0 } ∷ record { cpu = 0 } ∷ record { cpu = 1 } ∷ record { cpu = 1 } ∷ [];
   flushers = record { device = 0; cpu = 2 } ∷ record { device = 1; cpu = 3 } ∷ [];

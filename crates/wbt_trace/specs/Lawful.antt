@@ -11,6 +11,7 @@ use Rattle.wbt_trace.specs.declared.trace.Avail.{Avail}
 use Rattle.wbt_trace.specs.declared.trace.Cgroup.{Cgroup}
 use Rattle.wbt_trace.specs.declared.trace.Context.{Context}
 use Rattle.wbt_trace.specs.declared.trace.Device.{Device}
+use Rattle.wbt_trace.specs.declared.trace.FirstEstimate.{FirstEstimate}
 use Rattle.wbt_trace.specs.declared.trace.FlusherLine.{FlusherLine}
 use Rattle.wbt_trace.specs.declared.trace.Inode.{Inode}
 use Rattle.wbt_trace.specs.declared.trace.Order.{Order}
@@ -18,7 +19,7 @@ use Rattle.wbt_trace.specs.declared.trace.Order.TheVariants.{Steps, Timer, Tick}
 use Rattle.wbt_trace.specs.declared.trace.TaskLine.{TaskLine}
 use Rattle.wbt_trace.specs.declared.trace.Trace.{Trace}
 use Rattle.wbt_trace.specs.declared.writers.Writer.{Writer}
-use Rattle.wbt_trace.specs.declared.ranges.TheConstants.{MOST_AVAIL_PAGES, MOST_COUNT, MOST_DEVICE_RATE, MOST_EXPIRE, MOST_PERCENT, MOST_SETTING_BYTES}
+use Rattle.wbt_trace.specs.declared.ranges.TheConstants.{MOST_AVAIL_PAGES, MOST_COUNT, MOST_DEVICE_RATE, MOST_EXPIRE, MOST_PERCENT, MOST_FIRST_RATE, MOST_SETTING_BYTES}
 
 pub record AreSettings (settings : Settings) : Type 0 where
   pub ratio : settings.ratio ≤ MOST_PERCENT
@@ -36,9 +37,14 @@ abbrev pub AreAvails : (last : Option ℕ) (avails : List Avail) → Type 0
 AreAvails last [] = Unit {0}
 AreAvails last (a ∷ more) = IsNext last a.from × (a.from ≤ MOST_COUNT) × (a.pages ≤ MOST_AVAIL_PAGES) × AreAvails (Some a.from) more
 
+-- a scan ends with so many pages at the latest
+abbrev pub IsChunk : (pages : ℕ) → Type 0
+IsChunk pages = (1 ≤ pages) × (pages ≤ MOST_PAGES)
+
 pub record IsDevice (device : Device) : Type 0 where
   pub rate : (1 ≤ device.rate) × (device.rate ≤ MOST_DEVICE_RATE)
   pub shares : (device.min ≤ device.max) × (device.max ≤ MOST_PERCENT)
+  pub chunk : IfSome device.chunk IsChunk
 
 pub record AreDevices (devices : List Device) : Type 0 where
   pub each : All IsDevice devices
@@ -52,9 +58,19 @@ IsCgroup cgroup = (cgroup.filepages ≤ MOST_AVAIL_PAGES) × (cgroup.headroom �
 abbrev pub IsExpire : (centi : ℕ) → Type 0
 IsExpire centi = (1 ≤ centi) × (centi ≤ MOST_EXPIRE)
 
+-- a rate of a first estimate, in pages a second
+abbrev pub IsFirstRate : (rate : ℕ) → Type 0
+IsFirstRate rate = (1 ≤ rate) × (rate ≤ MOST_FIRST_RATE)
+
+pub record IsFirstEstimate (estimate : FirstEstimate) : Type 0 where
+  pub bandwidth : IsFirstRate estimate.bandwidth
+  pub average : IsFirstRate estimate.average
+  pub ratelimit : IsFirstRate estimate.ratelimit
+
 -- of so many devices and cgroups
 abbrev pub IsContext : (devices cgroups : ℕ) (context : Context) → Type 0
 IsContext devices cgroups context = (context.device < devices) × (context.domain ≤ cgroups) × IfSome context.expire IsExpire
+    × IfSome context.estimate IsFirstEstimate
 
 -- of so many contexts
 abbrev pub IsInode : (contexts : ℕ) (inode : Inode) → Type 0

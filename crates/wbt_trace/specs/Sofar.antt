@@ -6,6 +6,7 @@ use Rattle.wbt_trace.specs.declared.trace.Avail.{Avail}
 use Rattle.wbt_trace.specs.declared.trace.Cgroup.{Cgroup}
 use Rattle.wbt_trace.specs.declared.trace.Context.{Context}
 use Rattle.wbt_trace.specs.declared.trace.Device.{Device}
+use Rattle.wbt_trace.specs.declared.trace.FirstEstimate.{FirstEstimate}
 use Rattle.wbt_trace.specs.declared.trace.FlusherLine.{FlusherLine}
 use Rattle.wbt_trace.specs.declared.trace.Inode.{Inode}
 use Rattle.wbt_trace.specs.declared.trace.Order.{Order}
@@ -86,19 +87,27 @@ least_shares devices = sum_by (λ device. device.min) devices
 
 -- the device of the number; not a page a second where there is none
 abbrev pub device_at : (d : ℕ) (devices : List Device) → Device
-device_at d devices = slice_index_or devices d (record { rate = 0; min = 0; max = 0; strict = false })
+device_at d devices = slice_index_or devices d (record { rate = 0; min = 0; max = 0; strict = false; chunk = None })
 
 -- the devices, of which that of the number is strict
 abbrev pub with_strict : (d : ℕ) (devices : List Device) → List Device
 with_strict d devices = slice_set devices d (record (device_at d devices) { strict = true })
 
+-- the devices, of which that of the number says with how many pages a scan ends at the latest
+abbrev pub with_chunk : (d pages : ℕ) (devices : List Device) → List Device
+with_chunk d pages devices = slice_set devices d (record (device_at d devices) { chunk = Some pages })
+
 -- the context of the number; of the first device, in no cgroup, where there is none
 abbrev pub context_at : (w : ℕ) (contexts : List Context) → Context
-context_at w contexts = slice_index_or contexts w (record { device = 0; domain = 0; expire = None })
+context_at w contexts = slice_index_or contexts w (record { device = 0; domain = 0; expire = None; estimate = None })
 
 -- the contexts, of which that of the number says after how long its inodes are due
 abbrev pub with_expire : (w centi : ℕ) (contexts : List Context) → List Context
 with_expire w centi contexts = slice_set contexts w (record (context_at w contexts) { expire = Some centi })
+
+-- the contexts, of which that of the number says its estimate at the opening
+abbrev pub with_estimate : (w : ℕ) (estimate : FirstEstimate) (contexts : List Context) → List Context
+with_estimate w estimate contexts = slice_set contexts w (record (context_at w contexts) { estimate = Some estimate })
 
 -- the inodes' pages together
 abbrev pub pages_in : (inodes : List Inode) → ℕ

@@ -35,6 +35,7 @@ fn disk() -> Device
         min: 0,
         max: MOST_PERCENT as u32,
         strict: false,
+        chunk: None,
     }
 }
 
@@ -110,11 +111,13 @@ fn whole(alloc: Global, n: u64) -> Result<Trace, AllocError>
             device: 0,
             domain: 0,
             expire: None,
+            estimate: None,
         },
         Context {
             device: 1,
             domain: 0,
             expire: None,
+            estimate: None,
         },
     ];
     let tasks = [

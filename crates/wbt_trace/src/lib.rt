@@ -20,9 +20,10 @@ mod writers;
 pub use bulk::{BULK_AVAIL, LEAST_BULK_PAGES, generate};
 pub use ranges::{
     DEFAULT_BACKGROUND_RATIO, DEFAULT_RATIO, MOST_AVAIL_PAGES, MOST_COUNT, MOST_DEVICE_RATE,
-    MOST_EXPIRE, MOST_PERCENT, MOST_SETTING_BYTES,
+    MOST_EXPIRE, MOST_FIRST_RATE, MOST_PERCENT, MOST_SETTING_BYTES,
 };
 pub use trace::{
-    Action, Avail, Cgroup, Context, Device, FlusherLine, Inode, Order, TaskLine, Trace,
+    Action, Avail, Cgroup, Context, Device, FirstEstimate, FlusherLine, Inode, Order, TaskLine,
+    Trace,
 };
 pub use writers::{Writer, Writers};

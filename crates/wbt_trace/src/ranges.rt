@@ -18,6 +18,9 @@ pub const MOST_DEVICE_RATE: u64 = 1048576;
 /// Hundredths of a second after which an inode of a context is due: 1000 seconds.
 pub const MOST_EXPIRE: u64 = 100000;
 
+/// Pages a second that a first estimate says: 2^40.
+pub const MOST_FIRST_RATE: u64 = 1099511627776;
+
 /// The ratio of the threshold where no line says it, in percent.
 pub const DEFAULT_RATIO: u32 = 20;
 

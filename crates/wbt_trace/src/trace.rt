@@ -25,6 +25,8 @@ pub struct Device {
     pub max: u32,
     /// Whether each context of the device is held to its own part of the threshold, even where the domain has room.
     pub strict: bool,
+    /// With so many pages in its batch a scan for the device ends at the latest, 1 to 2^21; None where no line says it.
+    pub chunk: Option<u32>,
 }
 
 /// A memory cgroup, which is a domain of its own.
@@ -36,6 +38,17 @@ pub struct Cgroup {
     pub headroom: u64,
 }
 
+/// What a line says of a context's estimate at the opening, in pages a second, each 1 to 2^40.
+#[derive(Clone, Copy, Debug, PartialEq, Eq)]
+pub struct FirstEstimate {
+    /// What the device writes of the context.
+    pub bandwidth: u64,
+    /// The average of that.
+    pub average: u64,
+    /// How fast the context's writers may go.
+    pub ratelimit: u64,
+}
+
 /// A writeback context: the pages of one domain on one device.
 #[derive(Clone, Copy, Debug, PartialEq, Eq)]
 pub struct Context {
@@ -45,6 +58,8 @@ pub struct Context {
     pub domain: u32,
     /// After how long an inode of the context is due, in hundredths of a second; None where no line says it.
     pub expire: Option<u32>,
+    /// Its estimate at the opening; None where no line says it.
+    pub estimate: Option<FirstEstimate>,
 }
 
 /// An inode, whose pages lie one after another.

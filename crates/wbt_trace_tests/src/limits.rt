@@ -10,7 +10,7 @@ static FRONT: &[u8] =
     b"cpus 64\navail 0 5\ndevice 0 1 60 100\ncgroup 1 0 0\ncontext 0 0 1\ninode 0 0 9\ntask 0 63\nflusher 0 0 63\n";
 
 // Lines at the ends of the ranges. A device that has no flusher yet is missing one, and its line is taken.
-static TAKEN: [&[u8]; 39] = [
+static TAKEN: [&[u8]; 43] = [
     b"cap 1\n",
     b"cap 1024\n",
     b"set dirty_ratio 0\n",
@@ -27,12 +27,16 @@ static TAKEN: [&[u8]; 39] = [
     b"device 1 1048576 40 100\n",
     b"device 1 7 40 40\n",
     b"strict 0\n",
+    b"chunk 0 1\n",
+    b"chunk 0 2097152\n",
     b"cgroup 2 0 0\n",
     b"cgroup 2 1099511627776 1099511627776\n",
     b"context 1 0 0\n",
     b"context 1 0 1\n",
     b"expire 0 1\n",
     b"expire 0 100000\n",
+    b"estimate 0 1 1 1\n",
+    b"estimate 0 1099511627776 1099511627776 1099511627776\n",
     b"inode 1 0 1\n",
     b"inode 1 0 2097143\n",
     b"task 1 0\n",
@@ -53,7 +57,7 @@ static TAKEN: [&[u8]; 39] = [
 ];
 
 // Lines with a number that is one past the end of its range.
-static PAST: [&[u8]; 41] = [
+static PAST: [&[u8]; 49] = [
     b"cap 0\n",
     b"cap 1025\n",
     b"set dirty_ratio 101\n",
@@ -69,12 +73,20 @@ static PAST: [&[u8]; 41] = [
     b"device 1 1 40 39\n",
     b"device 1 1 41 100\n",
     b"device 2 1 0 100\n",
+    b"chunk 0 0\n",
+    b"chunk 0 2097153\n",
     b"cgroup 2 1099511627777 0\n",
     b"cgroup 2 0 1099511627777\n",
     b"cgroup 3 0 0\n",
     b"context 2 0 0\n",
     b"expire 0 0\n",
     b"expire 0 100001\n",
+    b"estimate 0 0 1 1\n",
+    b"estimate 0 1 0 1\n",
+    b"estimate 0 1 1 0\n",
+    b"estimate 0 1099511627777 1 1\n",
+    b"estimate 0 1 1099511627777 1\n",
+    b"estimate 0 1 1 1099511627777\n",
     b"inode 1 0 0\n",
     b"inode 1 0 2097153\n",
     b"inode 2 0 1\n",
@@ -98,11 +110,13 @@ static PAST: [&[u8]; 41] = [
 ];
 
 // Lines that name a thing one past the last, and one that makes a page too many.
-static OTHERS: [(&[u8], TraceFault); 10] = [
+static OTHERS: [(&[u8], TraceFault); 12] = [
     (b"strict 1\n", TraceFault::UnknownName { line: 9 }),
+    (b"chunk 1 1\n", TraceFault::UnknownName { line: 9 }),
     (b"context 1 1 0\n", TraceFault::UnknownName { line: 9 }),
     (b"context 1 0 2\n", TraceFault::UnknownName { line: 9 }),
     (b"expire 1 1\n", TraceFault::UnknownName { line: 9 }),
+    (b"estimate 1 1 1 1\n", TraceFault::UnknownName { line: 9 }),
     (b"inode 1 1 1\n", TraceFault::UnknownName { line: 9 }),
     (b"flusher 1 1 0\n", TraceFault::UnknownName { line: 9 }),
     (b"write 1 0 0 1\n", TraceFault::UnknownName { line: 9 }),

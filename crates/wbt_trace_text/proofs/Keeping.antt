@@ -3,8 +3,8 @@ use Rattle.std.proofs.Common.{◌≡◌, ℕ, zero, suc, ◌+◌, ◌^◌, ◌<�
 use Rattle.std.specs.List.{All, AllByRecursion}
 use Rattle.std.proofs.lemmas.List.Elements.{All-append, All-cons, All-nil, All-set, recursion_from_All}
 use Rattle.std.proofs.lemmas.List.Sums.{sum_by-append, sum_by-cons}
-use Rattle.wbt_trace_text.specs.Accept.{is_unknown, is_twice, is_out_of_range, is_over_limit, is_too_early, is_no_count, after}
-use Rattle.wbt_trace.specs.Lawful.{AreSettings, IsNext, AreAvails, IsDevice, AreDevices, IsCgroup, IsContext, IsInode, AreFirsts, AreInodes, IsTask, IsFlusher, IsCount, IsAction, writers_after, writers_of, IsOrder, IsExpire}
+use Rattle.wbt_trace_text.specs.Accept.{is_unknown, is_twice, is_out_of_range, is_over_limit, is_too_early, is_no_count, is_no_rate, after}
+use Rattle.wbt_trace.specs.Lawful.{AreSettings, IsNext, AreAvails, IsDevice, AreDevices, IsCgroup, IsContext, IsInode, AreFirsts, AreInodes, IsTask, IsFlusher, IsCount, IsAction, writers_after, writers_of, IsOrder, IsExpire, IsChunk, IsFirstRate, IsFirstEstimate}
 use Rattle.wbt_trace.specs.Sofar.{Sofar, trace_so_far, last_from, least_shares, device_at, context_at, pages_in, inode_at}
 use Rattle.wbt_trace.specs.WriterList.{with_writer}
 use Rattle.wbt_trace_text.specs.declared.line.Line.{Line}
@@ -13,12 +13,13 @@ use Rattle.wbt_trace.specs.declared.trace.Action.{Action}
 use Rattle.wbt_trace.specs.declared.trace.Action.TheVariants as action
 use Rattle.wbt_trace.specs.declared.trace.Avail.{Avail}
 use Rattle.wbt_trace.specs.declared.trace.Device.{Device}
+use Rattle.wbt_trace.specs.declared.trace.FirstEstimate.{FirstEstimate}
 use Rattle.wbt_trace.specs.declared.trace.Inode.{Inode}
 use Rattle.wbt_trace.specs.declared.trace.Order.{Order}
 use Rattle.wbt_trace.specs.declared.trace.Order.TheVariants as order
 use Rattle.wbt_trace.specs.declared.writers.Writer.{Writer}
-use Rattle.wbt_trace_text.proofs.Contexts.{same_length as as_many}
-use Rattle.wbt_trace_text.proofs.Devices.{same_shares, same_length}
+use Rattle.wbt_trace_text.proofs.Contexts.{same_length as as_many, estimate_length}
+use Rattle.wbt_trace_text.proofs.Devices.{same_shares, same_length, chunk_shares, chunk_length}
 use Rattle.wbt_trace_text.proofs.Tests.{left_off, right_off, not_below, not_to, not_none, not_given}
 
 -- The line has no fault.
@@ -118,21 +119,31 @@ good_device s d rate min max is =
       together = not_below 100 (least_shares s.devices + min) (right_off ((((a || b) || c) || e) || f) g is);
     }
 
+pub chunk_of : (pages : ℕ) → (pages == 0 || nat_lt 2097152 pages) ≡ false → IsChunk pages
+chunk_of pages is = (not_none pages (left_off (pages == 0) (nat_lt 2097152 pages) is), not_below 2097152 pages (right_off (pages == 0) (nat_lt 2097152 pages) is))
+
 pub keeps_devices : (l : Line) (s : Sofar) → IsGood l s → AreDevices s.devices → AreDevices (after l s).devices
 keeps_devices (line.Device d rate min max) s good are =
     let g = good_device s d rate min max good.range in
-    let device : Device = record { rate = rate; min = min; max = max; strict = false } in
+    let device : Device = record { rate = rate; min = min; max = max; strict = false; chunk = None } in
     record {
-      each = push IsDevice s.devices device are.each (record { rate = (g.some, g.rate_most); shares = (g.shares, g.most) });
+      each = push IsDevice s.devices device are.each (record { rate = (g.some, g.rate_most); shares = (g.shares, g.most); chunk = tt });
       shares = omega (arith, sum_by-append (λ (x : Device). x.min) s.devices (device ∷ []), g.together);
       few = one_more 16 s.devices device good.limit;
     }
 keeps_devices (line.Strict d) s good are =
-    let is = are.each d (record { rate = 0; min = 0; max = 0; strict = false }) (not_to (length s.devices) d good.known) in
+    let is = are.each d (record { rate = 0; min = 0; max = 0; strict = false; chunk = None }) (not_to (length s.devices) d good.known) in
     record {
-      each = All-set IsDevice s.devices d (record (device_at d s.devices) { strict = true }) (record { rate = is.rate; shares = is.shares }) are.each;
+      each = All-set IsDevice s.devices d (record (device_at d s.devices) { strict = true }) (record { rate = is.rate; shares = is.shares; chunk = is.chunk }) are.each;
       shares = omega (arith, are.shares, same_shares d s.devices);
       few = omega (arith, are.few, same_length d s.devices);
+    }
+keeps_devices (line.Chunk d pages) s good are =
+    let is = are.each d (record { rate = 0; min = 0; max = 0; strict = false; chunk = None }) (not_to (length s.devices) d good.known) in
+    record {
+      each = All-set IsDevice s.devices d (record (device_at d s.devices) { chunk = Some pages }) (record { rate = is.rate; shares = is.shares; chunk = chunk_of pages good.range }) are.each;
+      shares = omega (arith, are.shares, chunk_shares d pages s.devices);
+      few = omega (arith, are.few, chunk_length d pages s.devices);
     }
 keeps_devices other s good are = are
 
@@ -151,24 +162,43 @@ keeps_few_cgroups other s good few = few
 pub expire_of : (centi : ℕ) → (centi == 0 || nat_lt 100000 centi) ≡ false → IsExpire centi
 expire_of centi is = (not_none centi (left_off (centi == 0) (nat_lt 100000 centi) is), not_below 100000 centi (right_off (centi == 0) (nat_lt 100000 centi) is))
 
+rate_of : (rate : ℕ) → is_no_rate rate ≡ false → IsFirstRate rate
+rate_of rate is = (not_none rate (left_off (rate == 0) (nat_lt (2 ^ 40) rate) is), not_below (2 ^ 40) rate (right_off (rate == 0) (nat_lt (2 ^ 40) rate) is))
+
+pub estimate_of : (bandwidth average ratelimit : ℕ) → (is_no_rate bandwidth || is_no_rate average || is_no_rate ratelimit) ≡ false
+    → IsFirstEstimate (record { bandwidth = bandwidth; average = average; ratelimit = ratelimit })
+estimate_of bandwidth average ratelimit is =
+    let a = is_no_rate bandwidth in
+    let b = is_no_rate average in
+    let c = is_no_rate ratelimit in
+    let ab = left_off (a || b) c is in
+    record { bandwidth = rate_of bandwidth (left_off a b ab); average = rate_of average (right_off a b ab); ratelimit = rate_of ratelimit (right_off (a || b) c is) }
+
 pub keeps_contexts : (l : Line) (s : Sofar) → IsGood l s → All (IsContext (length s.devices) (length s.cgroups)) s.contexts → All (IsContext (length (after l s).devices) (length (after l s).cgroups)) (after l s).contexts
 keeps_contexts (line.Device d rate min max) s good all =
-    λ k x less. let is = all k x less in (omega (arith, is.0, length-append s.devices ((record { rate = rate; min = min; max = max; strict = false }) ∷ [])), is.1, is.2)
-keeps_contexts (line.Strict d) s good all = λ k x less. let is = all k x less in (omega (arith, is.0, same_length d s.devices), is.1, is.2)
+    λ k x less. let is = all k x less in (omega (arith, is.0, length-append s.devices ((record { rate = rate; min = min; max = max; strict = false; chunk = None }) ∷ [])), is.1, is.2, is.3)
+keeps_contexts (line.Strict d) s good all = λ k x less. let is = all k x less in (omega (arith, is.0, same_length d s.devices), is.1, is.2, is.3)
+keeps_contexts (line.Chunk d pages) s good all = λ k x less. let is = all k x less in (omega (arith, is.0, chunk_length d pages s.devices), is.1, is.2, is.3)
 keeps_contexts (line.Cgroup g filepages headroom) s good all =
-    λ k x less. let is = all k x less in (is.0, omega (arith, is.1, length-append s.cgroups ((record { filepages = filepages; headroom = headroom }) ∷ [])), is.2)
+    λ k x less. let is = all k x less in (is.0, omega (arith, is.1, length-append s.cgroups ((record { filepages = filepages; headroom = headroom }) ∷ [])), is.2, is.3)
 keeps_contexts (line.Context w device domain) s good all =
     let a = nat_le (length s.devices) device in
     let b = nat_lt (length s.cgroups) domain in
-    push (IsContext (length s.devices) (length s.cgroups)) s.contexts (record { device = device; domain = domain; expire = None }) all (not_to (length s.devices) device (left_off a b good.known), not_below (length s.cgroups) domain (right_off a b good.known), tt)
+    push (IsContext (length s.devices) (length s.cgroups)) s.contexts (record { device = device; domain = domain; expire = None; estimate = None }) all (not_to (length s.devices) device (left_off a b good.known), not_below (length s.cgroups) domain (right_off a b good.known), tt, tt)
 keeps_contexts (line.Expire w centi) s good all =
-    let is = all w (record { device = 0; domain = 0; expire = None }) (not_to (length s.contexts) w good.known) in
-    All-set (IsContext (length s.devices) (length s.cgroups)) s.contexts w (record (context_at w s.contexts) { expire = Some centi }) (is.0, is.1, expire_of centi good.range) all
+    let is = all w (record { device = 0; domain = 0; expire = None; estimate = None }) (not_to (length s.contexts) w good.known) in
+    All-set (IsContext (length s.devices) (length s.cgroups)) s.contexts w (record (context_at w s.contexts) { expire = Some centi }) (is.0, is.1, expire_of centi good.range, is.3) all
+keeps_contexts (line.Estimate w bandwidth average ratelimit) s good all =
+    let is = all w (record { device = 0; domain = 0; expire = None; estimate = None }) (not_to (length s.contexts) w good.known) in
+    let first : FirstEstimate = record { bandwidth = bandwidth; average = average; ratelimit = ratelimit } in
+    All-set (IsContext (length s.devices) (length s.cgroups)) s.contexts w (record (context_at w s.contexts) { estimate = Some first }) (is.0, is.1, is.2, estimate_of bandwidth average ratelimit good.range) all
 keeps_contexts other s good all = all
 
 pub keeps_few_contexts : (l : Line) (s : Sofar) → IsGood l s → length s.contexts ≤ 64 → length (after l s).contexts ≤ 64
-keeps_few_contexts (line.Context w device domain) s good few = one_more 64 s.contexts (record { device = device; domain = domain; expire = None }) good.limit
+keeps_few_contexts (line.Context w device domain) s good few = one_more 64 s.contexts (record { device = device; domain = domain; expire = None; estimate = None }) good.limit
 keeps_few_contexts (line.Expire w centi) s good few = omega (arith, few, as_many w centi s.contexts)
+keeps_few_contexts (line.Estimate w bandwidth average ratelimit) s good few =
+    omega (arith, few, estimate_length w (record { bandwidth = bandwidth; average = average; ratelimit = ratelimit }) s.contexts)
 keeps_few_contexts other s good few = few
 
 firsts_push : (n : ℕ) (inodes : List Inode) (x : Inode) → AreFirsts n inodes → x.first ≡ n + pages_in inodes → AreFirsts n (inodes ++ x ∷ [])
@@ -177,13 +207,19 @@ firsts_push n (i ∷ is) x are first = (are.0, firsts_push (n + i.pages) is x ar
 
 pub keeps_inodes : (l : Line) (s : Sofar) → IsGood l s → AreInodes (length s.contexts) s.inodes → AreInodes (length (after l s).contexts) (after l s).inodes
 keeps_inodes (line.Context w device domain) s good are = record {
-  each = λ k x less. let is = are.each k x less in (omega (arith, is.0, length-append s.contexts ((record { device = device; domain = domain; expire = None }) ∷ [])), is.1);
+  each = λ k x less. let is = are.each k x less in (omega (arith, is.0, length-append s.contexts ((record { device = device; domain = domain; expire = None; estimate = None }) ∷ [])), is.1);
   firsts = are.firsts;
   total = are.total;
   few = are.few;
 }
 keeps_inodes (line.Expire w centi) s good are = record {
   each = λ k x less. let is = are.each k x less in (omega (arith, is.0, as_many w centi s.contexts), is.1);
+  firsts = are.firsts;
+  total = are.total;
+  few = are.few;
+}
+keeps_inodes (line.Estimate w bandwidth average ratelimit) s good are = record {
+  each = λ k x less. let is = are.each k x less in (omega (arith, is.0, estimate_length w (record { bandwidth = bandwidth; average = average; ratelimit = ratelimit }) s.contexts), is.1);
   firsts = are.firsts;
   total = are.total;
   few = are.few;
@@ -216,8 +252,9 @@ keeps_few_tasks other s good few = few
 pub keeps_flushers : (l : Line) (s : Sofar) → IsGood l s → All (IsFlusher (length s.devices) (unwrap_or s.cpus 0)) s.flushers → All (IsFlusher (length (after l s).devices) (unwrap_or (after l s).cpus 0)) (after l s).flushers
 keeps_flushers (line.Cpus cpus) s good all = λ k x less. let is = all k x less in (is.0, omega (arith, is.1, not_given s.cpus good.once))
 keeps_flushers (line.Device d rate min max) s good all =
-    λ k x less. let is = all k x less in (omega (arith, is.0, length-append s.devices ((record { rate = rate; min = min; max = max; strict = false }) ∷ [])), is.1)
+    λ k x less. let is = all k x less in (omega (arith, is.0, length-append s.devices ((record { rate = rate; min = min; max = max; strict = false; chunk = None }) ∷ [])), is.1)
 keeps_flushers (line.Strict d) s good all = λ k x less. let is = all k x less in (omega (arith, is.0, same_length d s.devices), is.1)
+keeps_flushers (line.Chunk d pages) s good all = λ k x less. let is = all k x less in (omega (arith, is.0, chunk_length d pages s.devices), is.1)
 keeps_flushers (line.Flusher f device cpu) s good all =
     push (IsFlusher (length s.devices) (unwrap_or s.cpus 0)) s.flushers (record { device = device; cpu = cpu }) all
     (not_to (length s.devices) device (right_off (is_none s.cpus) (nat_le (length s.devices) device) good.known), not_to (unwrap_or s.cpus 0) cpu (right_off (nat_lt (length s.flushers) f) (nat_le (unwrap_or s.cpus 0) cpu) good.range))

@@ -5,13 +5,13 @@ use Rattle.std.proofs.lemmas.List.Sums.{sum_by-append, sum_by-cons}
 use Rattle.std.specs.List.{AllByRecursion}
 use Rattle.wbt_text.specs.Numbers.{AllShort, AreNumbers, numbers_text}
 use Rattle.wbt_text.specs.Reading.{Lead}
-use Rattle.wbt_trace_text.specs.Accept.{accept, after, is_unknown, is_twice, is_out_of_range, is_over_limit, unless, is_too_early, is_no_count}
-use Rattle.wbt_trace.specs.Lawful.{IsNext, AreAvails, IsDevice, IsCgroup, IsContext, IsInode, AreFirsts, IsTask, IsFlusher, IsCount, IsAction, writers_after, IsOrder, IsExpire}
+use Rattle.wbt_trace_text.specs.Accept.{accept, after, is_unknown, is_twice, is_out_of_range, is_over_limit, unless, is_too_early, is_no_count, is_no_rate}
+use Rattle.wbt_trace.specs.Lawful.{IsNext, AreAvails, IsDevice, IsCgroup, IsContext, IsInode, AreFirsts, IsTask, IsFlusher, IsCount, IsAction, writers_after, IsOrder, IsExpire, IsChunk, IsFirstRate, IsFirstEstimate}
 use Rattle.wbt_trace_text.specs.Lines.{numbers_of, IsLine}
 use Rattle.wbt_trace_text.specs.Reading.{traces}
-use Rattle.wbt_trace.specs.Sofar.{Sofar, last_from, least_shares, device_at, with_strict, context_at, with_expire, pages_in, inode_at}
+use Rattle.wbt_trace.specs.Sofar.{Sofar, last_from, least_shares, device_at, with_strict, with_chunk, context_at, with_expire, with_estimate, pages_in, inode_at}
 use Rattle.wbt_trace.specs.WriterList.{is_writer, with_writer}
-use Rattle.wbt_trace_text.specs.Writing.{line_text, lines_text, numbered, avail_line, device_line, strict_lines, cgroup_line, context_line, expire_line, expire_lines, inode_line, task_line, flusher_line, action_line, order_line}
+use Rattle.wbt_trace_text.specs.Writing.{line_text, lines_text, numbered, avail_line, device_line, strict_lines, chunk_line, chunk_lines, cgroup_line, context_line, expire_line, expire_lines, estimate_line, estimate_lines, inode_line, task_line, flusher_line, action_line, order_line}
 use Rattle.wbt_trace_text.specs.declared.fault.Refusal.TheVariants.{UnknownName, Twice, OutOfRange, Limit}
 use Rattle.wbt_trace_text.specs.declared.line.Line.{Line}
 use Rattle.wbt_trace_text.specs.declared.line.Line.TheVariants as line
@@ -21,6 +21,7 @@ use Rattle.wbt_trace.specs.declared.trace.Avail.{Avail}
 use Rattle.wbt_trace.specs.declared.trace.Cgroup.{Cgroup}
 use Rattle.wbt_trace.specs.declared.trace.Context.{Context}
 use Rattle.wbt_trace.specs.declared.trace.Device.{Device}
+use Rattle.wbt_trace.specs.declared.trace.FirstEstimate.{FirstEstimate}
 use Rattle.wbt_trace.specs.declared.trace.FlusherLine.{FlusherLine}
 use Rattle.wbt_trace.specs.declared.trace.Inode.{Inode}
 use Rattle.wbt_trace.specs.declared.trace.Order.{Order}
@@ -28,8 +29,8 @@ use Rattle.wbt_trace.specs.declared.trace.Order.TheVariants as order
 use Rattle.wbt_trace.specs.declared.trace.TaskLine.{TaskLine}
 use Rattle.wbt_trace.specs.declared.writers.Writer.{Writer}
 use Rattle.wbt_trace_text.proofs.Avails.{last_from_push}
-use Rattle.wbt_trace_text.proofs.Contexts.{plain as undue, plain_is as undue_is, at_front as context_at_front, made_due}
-use Rattle.wbt_trace_text.proofs.Devices.{plain, plain_is, at_front, made_strict}
+use Rattle.wbt_trace_text.proofs.Contexts.{plain as undue, plain_is as undue_is, unestimated, unestimated_is, at_front as context_at_front, made_due, made_estimate}
+use Rattle.wbt_trace_text.proofs.Devices.{plain, plain_is, unchunked, unchunked_is, at_front, made_strict, made_chunk}
 use Rattle.wbt_trace_text.proofs.Keeping.{IsGood}
 use Rattle.wbt_trace_text.proofs.Kept.{IsKept, taken, accept_kept}
 use Rattle.wbt_trace_text.proofs.Small.{small}
@@ -69,9 +70,11 @@ line_is l short = (numbers_text (numbers_of l), refl, spelled l short)
     spelled (line.Avail a b) is = (is, refl)
     spelled (line.Device a b c d) is = (is, refl)
     spelled (line.Strict a) is = (is, refl)
+    spelled (line.Chunk a b) is = (is, refl)
     spelled (line.Cgroup a b c) is = (is, refl)
     spelled (line.Context a b c) is = (is, refl)
     spelled (line.Expire a b) is = (is, refl)
+    spelled (line.Estimate a b c d) is = (is, refl)
     spelled (line.Inode a b c) is = (is, refl)
     spelled (line.Task a b) is = (is, refl)
     spelled (line.Flusher a b c) is = (is, refl)
@@ -133,13 +136,13 @@ devices n (x ∷ xs) s at all shares few =
     (u, passes (device_line n x) s good, subst (λ (ys : List Device). Accepts (numbered device_line (n + 1) xs) u (record s { devices = ys })) (append_assoc s.devices (plain x ∷ []) (map plain xs)) rest)
 
 -- each strict device is made strict after all devices have been declared
-pub stricts : (n : ℕ) (front xs : List Device) (s : Sofar) → n ≡ length front → s.devices ≡ front ++ map plain xs → Accepts (strict_lines n xs) s (record s { devices = front ++ xs })
+pub stricts : (n : ℕ) (front xs : List Device) (s : Sofar) → n ≡ length front → s.devices ≡ front ++ map plain xs → Accepts (strict_lines n xs) s (record s { devices = front ++ map unchunked xs })
 stricts n front [] s at are = λ i. record s { devices = are i }
 stricts n front (x ∷ xs) s at are =
-    by_line x.strict refl (λ t devices. stricts (n + 1) (front ++ x ∷ []) xs t (omega (arith, at, length-append front (x ∷ []))) (devices ∙ sym (append_assoc front (x ∷ []) (map plain xs))))
+    by_line x.strict refl (λ t devices. stricts (n + 1) (front ++ unchunked x ∷ []) xs t (omega (arith, at, length-append front (unchunked x ∷ []))) (devices ∙ sym (append_assoc front (unchunked x ∷ []) (map plain xs))))
   where
-    rejoin : (t : Sofar) → Accepts (strict_lines (n + 1) xs) t (record t { devices = (front ++ x ∷ []) ++ xs }) → Accepts (strict_lines (n + 1) xs) t (record t { devices = front ++ x ∷ xs })
-    rejoin t rest = subst (λ (ys : List Device). Accepts (strict_lines (n + 1) xs) t (record t { devices = ys })) (append_assoc front (x ∷ []) xs) rest
+    rejoin : (t : Sofar) → Accepts (strict_lines (n + 1) xs) t (record t { devices = (front ++ unchunked x ∷ []) ++ map unchunked xs }) → Accepts (strict_lines (n + 1) xs) t (record t { devices = front ++ unchunked x ∷ map unchunked xs })
+    rejoin t rest = subst (λ (ys : List Device). Accepts (strict_lines (n + 1) xs) t (record t { devices = ys })) (append_assoc front (unchunked x ∷ []) (map unchunked xs)) rest
 
     good : IsGood (line.Strict n) s
     good = record {
@@ -149,14 +152,44 @@ stricts n front (x ∷ xs) s at are =
       limit = refl;
     }
 
-    by_line : (b : Bool) → x.strict ≡ b → ((t : Sofar) → t.devices ≡ front ++ x ∷ map plain xs → Accepts (strict_lines (n + 1) xs) t (record t { devices = (front ++ x ∷ []) ++ xs }))
-        → Accepts ((if b then line.Strict n ∷ [] else []) ++ strict_lines (n + 1) xs) s (record s { devices = front ++ x ∷ xs })
+    by_line : (b : Bool) → x.strict ≡ b
+        → ((t : Sofar) → t.devices ≡ front ++ unchunked x ∷ map plain xs → Accepts (strict_lines (n + 1) xs) t (record t { devices = (front ++ unchunked x ∷ []) ++ map unchunked xs }))
+        → Accepts ((if b then line.Strict n ∷ [] else []) ++ strict_lines (n + 1) xs) s (record s { devices = front ++ unchunked x ∷ map unchunked xs })
     by_line true is more =
-        let u : Sofar = record s { devices = front ++ x ∷ map plain xs } in
+        let u : Sofar = record s { devices = front ++ unchunked x ∷ map plain xs } in
         let taken : accept (line.Strict n) s ≡ Ok u =
         passes (line.Strict n) s good ∙ ap (λ (ds : List Device). Ok (record s { devices = ds })) ((λ i. with_strict (at i) (are i)) ∙ made_strict front x (map plain xs) is) in
         (u, taken, rejoin u (more u refl))
     by_line false is more = rejoin s (more s (are ∙ ap (λ (d : Device). front ++ d ∷ map plain xs) (plain_is x is)))
+
+-- and then each gets its chunk
+pub chunks : (n : ℕ) (front xs : List Device) (s : Sofar) → n ≡ length front → s.devices ≡ front ++ map unchunked xs → AllByRecursion IsDevice xs → Accepts (chunk_lines n xs) s (record s { devices = front ++ xs })
+chunks n front [] s at are all = λ i. record s { devices = are i }
+chunks n front (x ∷ xs) s at are all =
+    by_line x.chunk refl (λ t devices. chunks (n + 1) (front ++ x ∷ []) xs t (omega (arith, at, length-append front (x ∷ []))) (devices ∙ sym (append_assoc front (x ∷ []) (map unchunked xs))) all.1)
+  where
+    rejoin : (t : Sofar) → Accepts (chunk_lines (n + 1) xs) t (record t { devices = (front ++ x ∷ []) ++ xs }) → Accepts (chunk_lines (n + 1) xs) t (record t { devices = front ++ x ∷ xs })
+    rejoin t rest = subst (λ (ys : List Device). Accepts (chunk_lines (n + 1) xs) t (record t { devices = ys })) (append_assoc front (x ∷ []) xs) rest
+
+    in_range : (pages : ℕ) → x.chunk ≡ Some pages → IsChunk pages
+    in_range pages is = subst (λ (o : Option ℕ). IfSome o IsChunk) is all.0.chunk
+
+    good : (pages : ℕ) → IsChunk pages → IsGood (line.Chunk n pages) s
+    good pages is = record {
+      known = to_off (length s.devices) n (omega (arith, at, ap (λ (ds : List Device). length ds) are, length-append front (unchunked x ∷ map unchunked xs)));
+      once = ap (λ (k : ℕ). is_some (device_at k s.devices).chunk) at ∙ ap (λ (ds : List Device). is_some (device_at (length front) ds).chunk) are ∙ ap (λ (d : Device). is_some d.chunk) (at_front front (unchunked x) (map unchunked xs));
+      range = both_off (pages == 0) (nat_lt 2097152 pages) (none_off pages is.0) (below_off 2097152 pages is.1);
+      limit = refl;
+    }
+
+    by_line : (o : Option ℕ) → x.chunk ≡ o → ((t : Sofar) → t.devices ≡ front ++ x ∷ map unchunked xs → Accepts (chunk_lines (n + 1) xs) t (record t { devices = (front ++ x ∷ []) ++ xs }))
+        → Accepts (chunk_line n o ++ chunk_lines (n + 1) xs) s (record s { devices = front ++ x ∷ xs })
+    by_line (Some pages) is more =
+        let u : Sofar = record s { devices = front ++ x ∷ map unchunked xs } in
+        let taken : accept (line.Chunk n pages) s ≡ Ok u =
+        passes (line.Chunk n pages) s (good pages (in_range pages is)) ∙ ap (λ (ds : List Device). Ok (record s { devices = ds })) ((λ i. with_chunk (at i) pages (are i)) ∙ made_chunk front x (map unchunked xs) pages is) in
+        (u, taken, rejoin u (more u refl))
+    by_line None is more = rejoin s (more s (are ∙ ap (λ (d : Device). front ++ d ∷ map unchunked xs) (unchunked_is x is)))
 
 pub cgroups : (n : ℕ) (xs : List Cgroup) (s : Sofar) → n ≡ length s.cgroups + 1 → AllByRecursion IsCgroup xs → length s.cgroups + length xs ≤ 8 → Accepts (numbered cgroup_line n xs) s (record s { cgroups = s.cgroups ++ xs })
 cgroups n [] s at all few = λ i. record s { cgroups = sym (append-nil s.cgroups) i }
@@ -188,13 +221,13 @@ contexts n (x ∷ xs) s at all few =
     (u, passes (context_line n x) s good, subst (λ (ys : List Context). Accepts (numbered context_line (n + 1) xs) u (record s { contexts = ys })) (append_assoc s.contexts (undue x ∷ []) (map undue xs)) rest)
 
 -- it is said after how long inodes are due after all contexts have been declared
-pub expires : (n : ℕ) (front xs : List Context) (s : Sofar) (d g : ℕ) → n ≡ length front → s.contexts ≡ front ++ map undue xs → AllByRecursion (IsContext d g) xs → Accepts (expire_lines n xs) s (record s { contexts = front ++ xs })
+pub expires : (n : ℕ) (front xs : List Context) (s : Sofar) (d g : ℕ) → n ≡ length front → s.contexts ≡ front ++ map undue xs → AllByRecursion (IsContext d g) xs → Accepts (expire_lines n xs) s (record s { contexts = front ++ map unestimated xs })
 expires n front [] s d g at are all = λ i. record s { contexts = are i }
 expires n front (x ∷ xs) s d g at are all =
-    by_line x.expire refl (λ t contexts. expires (n + 1) (front ++ x ∷ []) xs t d g (omega (arith, at, length-append front (x ∷ []))) (contexts ∙ sym (append_assoc front (x ∷ []) (map undue xs))) all.1)
+    by_line x.expire refl (λ t contexts. expires (n + 1) (front ++ unestimated x ∷ []) xs t d g (omega (arith, at, length-append front (unestimated x ∷ []))) (contexts ∙ sym (append_assoc front (unestimated x ∷ []) (map undue xs))) all.1)
   where
-    rejoin : (t : Sofar) → Accepts (expire_lines (n + 1) xs) t (record t { contexts = (front ++ x ∷ []) ++ xs }) → Accepts (expire_lines (n + 1) xs) t (record t { contexts = front ++ x ∷ xs })
-    rejoin t rest = subst (λ (ys : List Context). Accepts (expire_lines (n + 1) xs) t (record t { contexts = ys })) (append_assoc front (x ∷ []) xs) rest
+    rejoin : (t : Sofar) → Accepts (expire_lines (n + 1) xs) t (record t { contexts = (front ++ unestimated x ∷ []) ++ map unestimated xs }) → Accepts (expire_lines (n + 1) xs) t (record t { contexts = front ++ unestimated x ∷ map unestimated xs })
+    rejoin t rest = subst (λ (ys : List Context). Accepts (expire_lines (n + 1) xs) t (record t { contexts = ys })) (append_assoc front (unestimated x ∷ []) (map unestimated xs)) rest
 
     in_range : (centi : ℕ) → x.expire ≡ Some centi → IsExpire centi
     in_range centi is = subst (λ (o : Option ℕ). IfSome o IsExpire) is all.0.2
@@ -207,14 +240,50 @@ expires n front (x ∷ xs) s d g at are all =
       limit = refl;
     }
 
-    by_line : (o : Option ℕ) → x.expire ≡ o → ((t : Sofar) → t.contexts ≡ front ++ x ∷ map undue xs → Accepts (expire_lines (n + 1) xs) t (record t { contexts = (front ++ x ∷ []) ++ xs }))
-        → Accepts (expire_line n o ++ expire_lines (n + 1) xs) s (record s { contexts = front ++ x ∷ xs })
+    by_line : (o : Option ℕ) → x.expire ≡ o
+        → ((t : Sofar) → t.contexts ≡ front ++ unestimated x ∷ map undue xs → Accepts (expire_lines (n + 1) xs) t (record t { contexts = (front ++ unestimated x ∷ []) ++ map unestimated xs }))
+        → Accepts (expire_line n o ++ expire_lines (n + 1) xs) s (record s { contexts = front ++ unestimated x ∷ map unestimated xs })
     by_line (Some centi) is more =
-        let u : Sofar = record s { contexts = front ++ x ∷ map undue xs } in
+        let u : Sofar = record s { contexts = front ++ unestimated x ∷ map undue xs } in
         let taken : accept (line.Expire n centi) s ≡ Ok u =
         passes (line.Expire n centi) s (good centi (in_range centi is)) ∙ ap (λ (ws : List Context). Ok (record s { contexts = ws })) ((λ i. with_expire (at i) centi (are i)) ∙ made_due front x (map undue xs) centi is) in
         (u, taken, rejoin u (more u refl))
     by_line None is more = rejoin s (more s (are ∙ ap (λ (w : Context). front ++ w ∷ map undue xs) (undue_is x is)))
+
+rate_off : (rate : ℕ) → IsFirstRate rate → is_no_rate rate ≡ false
+rate_off rate is = both_off (rate == 0) (nat_lt (2 ^ 40) rate) (none_off rate is.0) (below_off (2 ^ 40) rate is.1)
+
+-- and then what first estimates are
+pub estimates : (n : ℕ) (front xs : List Context) (s : Sofar) (d g : ℕ) → n ≡ length front → s.contexts ≡ front ++ map unestimated xs → AllByRecursion (IsContext d g) xs → Accepts (estimate_lines n xs) s (record s { contexts = front ++ xs })
+estimates n front [] s d g at are all = λ i. record s { contexts = are i }
+estimates n front (x ∷ xs) s d g at are all =
+    by_line x.estimate refl (λ t contexts. estimates (n + 1) (front ++ x ∷ []) xs t d g (omega (arith, at, length-append front (x ∷ []))) (contexts ∙ sym (append_assoc front (x ∷ []) (map unestimated xs))) all.1)
+  where
+    rejoin : (t : Sofar) → Accepts (estimate_lines (n + 1) xs) t (record t { contexts = (front ++ x ∷ []) ++ xs }) → Accepts (estimate_lines (n + 1) xs) t (record t { contexts = front ++ x ∷ xs })
+    rejoin t rest = subst (λ (ys : List Context). Accepts (estimate_lines (n + 1) xs) t (record t { contexts = ys })) (append_assoc front (x ∷ []) xs) rest
+
+    in_range : (first : FirstEstimate) → x.estimate ≡ Some first → IsFirstEstimate first
+    in_range first is = subst (λ (o : Option FirstEstimate). IfSome o IsFirstEstimate) is all.0.3
+
+    good : (first : FirstEstimate) → IsFirstEstimate first → IsGood (line.Estimate n first.bandwidth first.average first.ratelimit) s
+    good first is = record {
+      known = to_off (length s.contexts) n (omega (arith, at, ap (λ (ws : List Context). length ws) are, length-append front (unestimated x ∷ map unestimated xs)));
+      once = ap (λ (k : ℕ). is_some (context_at k s.contexts).estimate) at ∙ ap (λ (ws : List Context). is_some (context_at (length front) ws).estimate) are ∙ ap (λ (w : Context). is_some w.estimate) (context_at_front front (unestimated x) (map unestimated xs));
+      range = both_off (is_no_rate first.bandwidth || is_no_rate first.average) (is_no_rate first.ratelimit)
+          (both_off (is_no_rate first.bandwidth) (is_no_rate first.average) (rate_off first.bandwidth is.bandwidth) (rate_off first.average is.average)) (rate_off first.ratelimit is.ratelimit);
+      limit = refl;
+    }
+
+    by_line : (o : Option FirstEstimate) → x.estimate ≡ o
+        → ((t : Sofar) → t.contexts ≡ front ++ x ∷ map unestimated xs → Accepts (estimate_lines (n + 1) xs) t (record t { contexts = (front ++ x ∷ []) ++ xs }))
+        → Accepts (estimate_line n o ++ estimate_lines (n + 1) xs) s (record s { contexts = front ++ x ∷ xs })
+    by_line (Some first) is more =
+        let u : Sofar = record s { contexts = front ++ x ∷ map unestimated xs } in
+        let l : Line = line.Estimate n first.bandwidth first.average first.ratelimit in
+        let taken : accept l s ≡ Ok u =
+        passes l s (good first (in_range first is)) ∙ ap (λ (ws : List Context). Ok (record s { contexts = ws })) ((λ i. with_estimate (at i) first (are i)) ∙ made_estimate front x (map unestimated xs) first is) in
+        (u, taken, rejoin u (more u refl))
+    by_line None is more = rejoin s (more s (are ∙ ap (λ (w : Context). front ++ w ∷ map unestimated xs) (unestimated_is x is)))
 
 pub inodes : (n : ℕ) (xs : List Inode) (s : Sofar) → n ≡ length s.inodes → AllByRecursion (IsInode (length s.contexts)) xs → AreFirsts (pages_in s.inodes) xs → pages_in s.inodes + pages_in xs ≤ 2097152 → length s.inodes + length xs ≤ 4096
     → Accepts (numbered inode_line n xs) s (record s { inodes = s.inodes ++ xs })

@@ -8,7 +8,7 @@ use Rattle.wbt_trace.specs.Sofar.{Sofar, last_from, pages_in, inode_at}
 use Rattle.wbt_trace_text.specs.declared.line.Line.{Line}
 use Rattle.wbt_trace_text.specs.declared.line.Line.TheVariants as line
 use Rattle.wbt_trace.specs.declared.trace.Inode.{Inode}
-use Rattle.wbt_trace_text.proofs.Keeping.{IsGood, good_device, expire_of}
+use Rattle.wbt_trace_text.proofs.Keeping.{IsGood, good_device, chunk_of, expire_of, estimate_of}
 use Rattle.wbt_trace_text.proofs.Kept.{IsKept, cpus_most}
 use Rattle.wbt_trace_text.proofs.Tests.{left_off, right_off, not_below, not_to}
 
@@ -36,6 +36,7 @@ small (line.Device d rate min max) s kept good =
     let g = good_device s d rate min max good.range in
     (omega (arith, g.number, kept.devices.few), (omega (arith, g.rate_most), (omega (arith, g.shares, g.most), (omega (arith, g.most), tt))))
 small (line.Strict d) s kept good = (omega (arith, not_to (length s.devices) d good.known, kept.devices.few), tt)
+small (line.Chunk d pages) s kept good = (omega (arith, not_to (length s.devices) d good.known, kept.devices.few), (omega (arith, (chunk_of pages good.range).1), tt))
 small (line.Cgroup g filepages headroom) s kept good =
     let a = nat_lt (length s.cgroups + 1) g in
     let b = nat_lt (2 ^ 40) filepages in
@@ -45,6 +46,9 @@ small (line.Context w device domain) s kept good =
     let a = nat_le (length s.devices) device in
     let b = nat_lt (length s.cgroups) domain in (omega (arith, not_below (length s.contexts) w good.range, kept.few_contexts), (omega (arith, not_to (length s.devices) device (left_off a b good.known), kept.devices.few), (omega (arith, not_below (length s.cgroups) domain (right_off a b good.known), kept.few_cgroups), tt)))
 small (line.Expire w centi) s kept good = (omega (arith, not_to (length s.contexts) w good.known, kept.few_contexts), (omega (arith, (expire_of centi good.range).1), tt))
+small (line.Estimate w bandwidth average ratelimit) s kept good =
+    let first = estimate_of bandwidth average ratelimit good.range in
+    (omega (arith, not_to (length s.contexts) w good.known, kept.few_contexts), (omega (arith, first.bandwidth.1), (omega (arith, first.average.1), (omega (arith, first.ratelimit.1), tt))))
 small (line.Inode i context pages) s kept good =
     let a = nat_lt (length s.inodes) i in
     let b = pages == 0 in

@@ -1,6 +1,6 @@
 -- Texts of lines, part after part.
 use Rattle.std.proofs.Common.{◌≡◌, ℕ, List, [], ◌∷◌, ◌++◌, refl, sym, ◌∙◌, ap, append_assoc}
-use Rattle.wbt_trace_text.specs.Writing.{line_text, lines_text, numbered, strict_lines, expire_lines}
+use Rattle.wbt_trace_text.specs.Writing.{line_text, lines_text, numbered, strict_lines, chunk_lines, expire_lines, estimate_lines}
 use Rattle.wbt_trace_text.specs.declared.line.Line.{Line}
 use Rattle.wbt_trace.specs.declared.trace.Context.{Context}
 use Rattle.wbt_trace.specs.declared.trace.Device.{Device}
@@ -31,3 +31,11 @@ join_stricts xs ys old t u before same is put = join old t u before (strict_line
 -- the lines of when inodes of contexts are due more
 pub join_expires : (xs ys : List Context) (old t u : List ℕ) (before : List Line) → xs ≡ ys → Has old t before → u ≡ t ++ lines_text (expire_lines 0 xs) → Has old u (before ++ expire_lines 0 ys)
 join_expires xs ys old t u before same is put = join old t u before (expire_lines 0 ys) is (put ∙ ap (λ (zs : List Context). t ++ lines_text (expire_lines 0 zs)) same)
+
+-- the lines of devices' chunks more
+pub join_chunks : (xs ys : List Device) (old t u : List ℕ) (before : List Line) → xs ≡ ys → Has old t before → u ≡ t ++ lines_text (chunk_lines 0 xs) → Has old u (before ++ chunk_lines 0 ys)
+join_chunks xs ys old t u before same is put = join old t u before (chunk_lines 0 ys) is (put ∙ ap (λ (zs : List Device). t ++ lines_text (chunk_lines 0 zs)) same)
+
+-- the lines of contexts' first estimates more
+pub join_estimates : (xs ys : List Context) (old t u : List ℕ) (before : List Line) → xs ≡ ys → Has old t before → u ≡ t ++ lines_text (estimate_lines 0 xs) → Has old u (before ++ estimate_lines 0 ys)
+join_estimates xs ys old t u before same is put = join old t u before (estimate_lines 0 ys) is (put ∙ ap (λ (zs : List Context). t ++ lines_text (estimate_lines 0 zs)) same)

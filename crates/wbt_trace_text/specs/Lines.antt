@@ -17,9 +17,11 @@ kind_text kind.BackgroundBytes = codes "set dirty_background_bytes"
 kind_text kind.Avail = codes "avail"
 kind_text kind.Device = codes "device"
 kind_text kind.Strict = codes "strict"
+kind_text kind.Chunk = codes "chunk"
 kind_text kind.Cgroup = codes "cgroup"
 kind_text kind.Context = codes "context"
 kind_text kind.Expire = codes "expire"
+kind_text kind.Estimate = codes "estimate"
 kind_text kind.Inode = codes "inode"
 kind_text kind.Task = codes "task"
 kind_text kind.Flusher = codes "flusher"
@@ -41,9 +43,11 @@ kind_of (line.BackgroundBytes a) = kind.BackgroundBytes
 kind_of (line.Avail a b) = kind.Avail
 kind_of (line.Device a b c d) = kind.Device
 kind_of (line.Strict a) = kind.Strict
+kind_of (line.Chunk a b) = kind.Chunk
 kind_of (line.Cgroup a b c) = kind.Cgroup
 kind_of (line.Context a b c) = kind.Context
 kind_of (line.Expire a b) = kind.Expire
+kind_of (line.Estimate a b c d) = kind.Estimate
 kind_of (line.Inode a b c) = kind.Inode
 kind_of (line.Task a b) = kind.Task
 kind_of (line.Flusher a b c) = kind.Flusher
@@ -65,9 +69,11 @@ numbers_of (line.BackgroundBytes a) = a ∷ []
 numbers_of (line.Avail a b) = a ∷ b ∷ []
 numbers_of (line.Device a b c d) = a ∷ b ∷ c ∷ d ∷ []
 numbers_of (line.Strict a) = a ∷ []
+numbers_of (line.Chunk a b) = a ∷ b ∷ []
 numbers_of (line.Cgroup a b c) = a ∷ b ∷ c ∷ []
 numbers_of (line.Context a b c) = a ∷ b ∷ c ∷ []
 numbers_of (line.Expire a b) = a ∷ b ∷ []
+numbers_of (line.Estimate a b c d) = a ∷ b ∷ c ∷ d ∷ []
 numbers_of (line.Inode a b c) = a ∷ b ∷ c ∷ []
 numbers_of (line.Task a b) = a ∷ b ∷ []
 numbers_of (line.Flusher a b c) = a ∷ b ∷ c ∷ []
@@ -94,6 +100,7 @@ of_one other a = None
 
 abbrev pub of_two : (k : Kind) (a b : ℕ) → Option Line
 of_two kind.Avail a b = Some (line.Avail a b)
+of_two kind.Chunk a b = Some (line.Chunk a b)
 of_two kind.Expire a b = Some (line.Expire a b)
 of_two kind.Task a b = Some (line.Task a b)
 of_two kind.Rest a b = Some (line.Rest a b)
@@ -109,6 +116,7 @@ of_three other a b c = None
 
 abbrev pub of_four : (k : Kind) (a b c d : ℕ) → Option Line
 of_four kind.Device a b c d = Some (line.Device a b c d)
+of_four kind.Estimate a b c d = Some (line.Estimate a b c d)
 of_four kind.Write a b c d = Some (line.Write a b c d)
 of_four other a b c d = None
 

@@ -10,6 +10,7 @@ use Rattle.wbt_trace.specs.declared.trace.Avail.{Avail}
 use Rattle.wbt_trace.specs.declared.trace.Cgroup.{Cgroup}
 use Rattle.wbt_trace.specs.declared.trace.Context.{Context}
 use Rattle.wbt_trace.specs.declared.trace.Device.{Device}
+use Rattle.wbt_trace.specs.declared.trace.FirstEstimate.{FirstEstimate}
 use Rattle.wbt_trace.specs.declared.trace.FlusherLine.{FlusherLine}
 use Rattle.wbt_trace.specs.declared.trace.Inode.{Inode}
 use Rattle.wbt_trace.specs.declared.trace.Order.{Order}
@@ -47,6 +48,16 @@ abbrev pub strict_lines : (n : ℕ) (devices : List Device) → List Line
 strict_lines n [] = []
 strict_lines n (d ∷ ds) = strict_line n d ++ strict_lines (n + 1) ds
 
+-- the line of a device's chunk, by the device's number; no line where it has none
+abbrev pub chunk_line : (n : ℕ) (chunk : Option ℕ) → List Line
+chunk_line n None = []
+chunk_line n (Some pages) = line.Chunk n pages ∷ []
+
+-- the lines of chunks, of devices that are numbered from n on
+abbrev pub chunk_lines : (n : ℕ) (devices : List Device) → List Line
+chunk_lines n [] = []
+chunk_lines n (d ∷ ds) = chunk_line n d.chunk ++ chunk_lines (n + 1) ds
+
 abbrev pub cgroup_line : (n : ℕ) (g : Cgroup) → Line
 cgroup_line n g = line.Cgroup n g.filepages g.headroom
 
@@ -62,6 +73,16 @@ expire_line n (Some centi) = line.Expire n centi ∷ []
 abbrev pub expire_lines : (n : ℕ) (contexts : List Context) → List Line
 expire_lines n [] = []
 expire_lines n (c ∷ cs) = expire_line n c.expire ++ expire_lines (n + 1) cs
+
+-- the line of a context's first estimate, by the context's number; no line where it doesn't say it
+abbrev pub estimate_line : (n : ℕ) (estimate : Option FirstEstimate) → List Line
+estimate_line n None = []
+estimate_line n (Some first) = line.Estimate n first.bandwidth first.average first.ratelimit ∷ []
+
+-- the lines of first estimates, of contexts that are numbered from n on
+abbrev pub estimate_lines : (n : ℕ) (contexts : List Context) → List Line
+estimate_lines n [] = []
+estimate_lines n (c ∷ cs) = estimate_line n c.estimate ++ estimate_lines (n + 1) cs
 
 abbrev pub inode_line : (n : ℕ) (i : Inode) → Line
 inode_line n i = line.Inode n i.context i.pages
@@ -96,7 +117,8 @@ setting_lines trace =
 unfoldable pub lines_of : (trace : Trace) → List Line
 lines_of trace =
     setting_lines trace ++ numbered avail_line 0 trace.avail ++ numbered device_line 0 trace.devices ++ strict_lines 0 trace.devices
-    ++ numbered cgroup_line 1 trace.cgroups ++ numbered context_line 0 trace.contexts ++ expire_lines 0 trace.contexts ++ numbered inode_line 0 trace.inodes
+    ++ chunk_lines 0 trace.devices ++ numbered cgroup_line 1 trace.cgroups ++ numbered context_line 0 trace.contexts ++ expire_lines 0 trace.contexts
+    ++ estimate_lines 0 trace.contexts ++ numbered inode_line 0 trace.inodes
     ++ numbered task_line 0 trace.tasks ++ numbered flusher_line 0 trace.flushers ++ numbered action_line 0 trace.actions ++ numbered order_line 0 trace.order ++ halt_lines trace.halt
 
 -- the text of a trace, as it is written

@@ -74,6 +74,7 @@ impl Builder {
                 max,
             } => self.device(*device, *rate, *min, *max),
             Line::Strict { device } => self.strict(*device),
+            Line::Chunk { device, pages } => self.chunk(*device, *pages),
             Line::Cgroup {
                 cgroup,
                 filepages,
@@ -85,6 +86,12 @@ impl Builder {
                 domain,
             } => self.context(*context, *device, *domain),
             Line::Expire { context, centi } => self.expire(*context, *centi),
+            Line::Estimate {
+                context,
+                bandwidth,
+                average,
+                ratelimit,
+            } => self.estimate(*context, *bandwidth, *average, *ratelimit),
             Line::Inode {
                 inode,
                 context,

@@ -16,9 +16,11 @@ pub enum Kind {
     Avail,
     Device,
     Strict,
+    Chunk,
     Cgroup,
     Context,
     Expire,
+    Estimate,
     Inode,
     Task,
     Flusher,
@@ -31,7 +33,7 @@ pub enum Kind {
 }
 
 // Each kind, those first of which a long trace has many lines.
-static KINDS: [Kind; 21] = [
+static KINDS: [Kind; 23] = [
     Kind::Write,
     Kind::Rest,
     Kind::Order,
@@ -42,9 +44,11 @@ static KINDS: [Kind; 21] = [
     Kind::Avail,
     Kind::Context,
     Kind::Expire,
+    Kind::Estimate,
     Kind::Flusher,
     Kind::Device,
     Kind::Strict,
+    Kind::Chunk,
     Kind::Cgroup,
     Kind::Cpus,
     Kind::Cap,
@@ -69,9 +73,11 @@ pub fn front_text(kind: Kind) -> &'static [u8]
         Kind::Avail => b"avail ",
         Kind::Device => b"device ",
         Kind::Strict => b"strict ",
+        Kind::Chunk => b"chunk ",
         Kind::Cgroup => b"cgroup ",
         Kind::Context => b"context ",
         Kind::Expire => b"expire ",
+        Kind::Estimate => b"estimate ",
         Kind::Inode => b"inode ",
         Kind::Task => b"task ",
         Kind::Flusher => b"flusher ",

@@ -44,6 +44,10 @@ pub enum Line {
     Strict {
         device: u64,
     },
+    Chunk {
+        device: u64,
+        pages: u64,
+    },
     Cgroup {
         cgroup: u64,
         filepages: u64,
@@ -57,6 +61,12 @@ pub enum Line {
     Expire {
         context: u64,
         centi: u64,
+    },
+    Estimate {
+        context: u64,
+        bandwidth: u64,
+        average: u64,
+        ratelimit: u64,
     },
     Inode {
         inode: u64,
@@ -119,6 +129,7 @@ impl fmt::Display for Line {
                 max,
             } => write!(f, "device {device} {rate} {min} {max}"),
             Line::Strict { device } => write!(f, "strict {device}"),
+            Line::Chunk { device, pages } => write!(f, "chunk {device} {pages}"),
             Line::Cgroup {
                 cgroup,
                 filepages,
@@ -130,6 +141,12 @@ impl fmt::Display for Line {
                 domain,
             } => write!(f, "context {context} {device} {domain}"),
             Line::Expire { context, centi } => write!(f, "expire {context} {centi}"),
+            Line::Estimate {
+                context,
+                bandwidth,
+                average,
+                ratelimit,
+            } => write!(f, "estimate {context} {bandwidth} {average} {ratelimit}"),
             Line::Inode {
                 inode,
                 context,
@@ -179,6 +196,10 @@ fn of_two(kind: Kind, a: u64, b: u64) -> Option<Line>
 {
     match kind {
         Kind::Avail => Some(Line::Avail { from: a, pages: b }),
+        Kind::Chunk => Some(Line::Chunk {
+            device: a,
+            pages: b,
+        }),
         Kind::Expire => Some(Line::Expire {
             context: a,
             centi: b,
@@ -227,6 +248,12 @@ fn of_four(kind: Kind, a: u64, b: u64, c: u64, d: u64) -> Option<Line>
             rate: b,
             min: c,
             max: d,
+        }),
+        Kind::Estimate => Some(Line::Estimate {
+            context: a,
+            bandwidth: b,
+            average: c,
+            ratelimit: d,
         }),
         Kind::Write => Some(Line::Write {
             task: a,

@@ -1,5 +1,5 @@
-//! Lines that declare things: available pages, devices, which of them are strict, cgroups, contexts, after how long their
-//! inodes are due, inodes, tasks and flushers.
+//! Lines that declare things: available pages, devices, which of them are strict and which have a chunk, cgroups, contexts, after how
+//! long their inodes are due and what their first estimates are, inodes, tasks and flushers.
 
 ghost use Rattle.std.specs.Prelude.{◌≡◌};
 ghost use Rattle.wbt_trace_text.specs.Accept as spec;
@@ -14,8 +14,8 @@ use wbt_num::{
     MOST_PAGES, MOST_TASKS,
 };
 use wbt_trace::{
-    Avail, Cgroup, Context, Device, FlusherLine, Inode, MOST_AVAIL_PAGES, MOST_COUNT,
-    MOST_DEVICE_RATE, MOST_EXPIRE, MOST_PERCENT, TaskLine,
+    Avail, Cgroup, Context, Device, FirstEstimate, FlusherLine, Inode, MOST_AVAIL_PAGES,
+    MOST_COUNT, MOST_DEVICE_RATE, MOST_EXPIRE, MOST_FIRST_RATE, MOST_PERCENT, TaskLine,
 };
 
 // Whether the tick of a line of available pages is not above the one before, or not 0 on the first.
@@ -26,6 +26,13 @@ fn is_too_early(tick: u64, last: Option<u64>) -> bool
         None => tick > 0,
         Some(last) => tick <= last,
     }
+}
+
+// Whether a number is no rate that a first estimate may say.
+fn is_no_rate(rate: u64) -> bool
+    ensures { result ≡ spec.is_no_rate rate }
+{
+    rate == 0 || rate > MOST_FIRST_RATE
 }
 
 impl Builder {
@@ -68,6 +75,7 @@ impl Builder {
             min: min as u32,
             max: max as u32,
             strict: false,
+            chunk: None,
         })?;
         self.least += min;
         Ok(())
@@ -84,6 +92,23 @@ impl Builder {
             return refused(Refusal::Twice);
         }
         self.devices[device as usize].strict = true;
+        Ok(())
+    }
+
+    #[tactic(auto, using(crate::proofs::Devices::chunk_shares, crate::proofs::Devices::chunk_length))]
+    pub fn chunk(&mut self, device: u64, pages: u64) -> Result<(), AcceptError>
+        ensures { Gives result (seen self.new) (spec.accept (Line.Chunk device pages) (seen self.old)) }
+    {
+        if device >= self.devices.len() as u64 {
+            return refused(Refusal::UnknownName);
+        }
+        if self.devices[device as usize].chunk.is_some() {
+            return refused(Refusal::Twice);
+        }
+        if pages == 0 || pages > MOST_PAGES as u64 {
+            return refused(Refusal::OutOfRange);
+        }
+        self.devices[device as usize].chunk = Some(pages as u32);
         Ok(())
     }
 
@@ -127,6 +152,7 @@ impl Builder {
             device: device as u32,
             domain: domain as u32,
             expire: None,
+            estimate: None,
         })?;
         Ok(())
     }
@@ -145,6 +171,33 @@ impl Builder {
             return refused(Refusal::OutOfRange);
         }
         self.contexts[context as usize].expire = Some(centi as u32);
+        Ok(())
+    }
+
+    #[tactic(auto, using(crate::proofs::Contexts::estimate_length))]
+    pub fn estimate(
+        &mut self,
+        context: u64,
+        bandwidth: u64,
+        average: u64,
+        ratelimit: u64,
+    ) -> Result<(), AcceptError>
+        ensures { Gives result (seen self.new) (spec.accept (Line.Estimate context bandwidth average ratelimit) (seen self.old)) }
+    {
+        if context >= self.contexts.len() as u64 {
+            return refused(Refusal::UnknownName);
+        }
+        if self.contexts[context as usize].estimate.is_some() {
+            return refused(Refusal::Twice);
+        }
+        if is_no_rate(bandwidth) || is_no_rate(average) || is_no_rate(ratelimit) {
+            return refused(Refusal::OutOfRange);
+        }
+        self.contexts[context as usize].estimate = Some(FirstEstimate {
+            bandwidth,
+            average,
+            ratelimit,
+        });
         Ok(())
     }
 

@@ -197,6 +197,36 @@ fn put_stricts(text: &mut String, devices: &[Device]) -> Result<(), AllocError>
     Ok(())
 }
 
+// Writes the line of the device's chunk, where it has one.
+fn put_chunk(text: &mut String, number: u64, device: &Device) -> Result<(), AllocError>
+    ensures { OnOk result (string_bytes text.new ≡ string_bytes text.old ++ spec.lines_text (spec.chunk_line number device.now.chunk)) }
+{
+    match device.chunk {
+        None => Ok(()),
+        Some(pages) => put_line(
+            text,
+            &Line::Chunk {
+                device: number,
+                pages: pages as u64,
+            },
+        ),
+    }
+}
+
+// Writes the chunks of devices.
+#[tactic(auto, using(crate::proofs::Texts::lines_text_append))]
+fn put_chunks(text: &mut String, devices: &[Device]) -> Result<(), AllocError>
+    requires { length devices.now < 2 ^ 64 }
+    ensures { OnOk result (string_bytes text.new ≡ string_bytes text.old ++ spec.lines_text (spec.chunk_lines 0 devices.now)) }
+{
+    let mut number = 0;
+    for device in devices {
+        put_chunk(text, number, device)?;
+        number += 1;
+    }
+    Ok(())
+}
+
 // Writes the line of when the context's inodes are due, where it says it.
 fn put_expire(text: &mut String, number: u64, context: &Context) -> Result<(), AllocError>
     ensures { OnOk result (string_bytes text.new ≡ string_bytes text.old ++ spec.lines_text (spec.expire_line number context.now.expire)) }
@@ -222,6 +252,38 @@ fn put_expires(text: &mut String, contexts: &[Context]) -> Result<(), AllocError
     let mut number = 0;
     for context in contexts {
         put_expire(text, number, context)?;
+        number += 1;
+    }
+    Ok(())
+}
+
+// Writes the line of the context's first estimate, where it says it.
+fn put_estimate(text: &mut String, number: u64, context: &Context) -> Result<(), AllocError>
+    ensures { OnOk result (string_bytes text.new ≡ string_bytes text.old ++ spec.lines_text (spec.estimate_line number context.now.estimate)) }
+{
+    match context.estimate {
+        None => Ok(()),
+        Some(first) => put_line(
+            text,
+            &Line::Estimate {
+                context: number,
+                bandwidth: first.bandwidth,
+                average: first.average,
+                ratelimit: first.ratelimit,
+            },
+        ),
+    }
+}
+
+// Writes the first estimates of contexts.
+#[tactic(auto, using(crate::proofs::Texts::lines_text_append))]
+fn put_estimates(text: &mut String, contexts: &[Context]) -> Result<(), AllocError>
+    requires { length contexts.now < 2 ^ 64 }
+    ensures { OnOk result (string_bytes text.new ≡ string_bytes text.old ++ spec.lines_text (spec.estimate_lines 0 contexts.now)) }
+{
+    let mut number = 0;
+    for context in contexts {
+        put_estimate(text, number, context)?;
         number += 1;
     }
     Ok(())
@@ -289,9 +351,11 @@ fn text_of(alloc: Global, trace: &Trace) -> Result<String, AllocError>
     put_things(&mut text, 0, trace.avail.as_slice())?;
     put_things(&mut text, 0, trace.devices.as_slice())?;
     put_stricts(&mut text, trace.devices.as_slice())?;
+    put_chunks(&mut text, trace.devices.as_slice())?;
     put_things(&mut text, 1, trace.cgroups.as_slice())?;
     put_things(&mut text, 0, trace.contexts.as_slice())?;
     put_expires(&mut text, trace.contexts.as_slice())?;
+    put_estimates(&mut text, trace.contexts.as_slice())?;
     put_things(&mut text, 0, trace.inodes.as_slice())?;
     put_things(&mut text, 0, trace.tasks.as_slice())?;
     put_things(&mut text, 0, trace.flushers.as_slice())?;
@@ -302,7 +366,8 @@ fn text_of(alloc: Global, trace: &Trace) -> Result<String, AllocError>
 }
 
 /// The text of a trace: each line that stands once, also where it says the default, and then each thing in order; which devices are
-/// strict is said after all of them, and after how long inodes are due after all contexts.
+/// strict is said after all of them, and then their chunks; and after all contexts, after how long their inodes are due, and then what
+/// their first estimates are.
 pub fn write_trace(alloc: Global, trace: &Trace) -> Result<Vec<u8>, NoMemory>
     requires { IsLawful trace.now }
     ensures text { IfOk result (λ text. text.items ≡ spec.trace_text trace.now) }

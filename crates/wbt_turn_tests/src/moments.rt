@@ -14,6 +14,10 @@ use wbt_journal::CpuJournal;
 const ONE_PAGE_A_CHECK: &[u8] =
     b"cpus 1\ncap 1\navail 0 100000\ndevice 0 25600 0 100\ncontext 0 0 0\ninode 0 0 2\ntask 0 0\nflusher 0 0 0\nwrite 0 0 0 2\n";
 
+// The same in a cgroup.
+const ONE_PAGE_A_CHECK_IN_A_CGROUP: &[u8] =
+    b"cpus 1\ncap 1\navail 0 100000\ndevice 0 25600 0 100\ncgroup 1 50000 50000\ncontext 0 0 1\ninode 0 0 2\ntask 0 0\nflusher 0 0 0\nwrite 0 0 0 2\n";
+
 // A clock that starts at 1. A gate moves it.
 #[derive(Drop)]
 struct StepClock {
@@ -59,23 +63,25 @@ fn first_moment(log: &CpuJournal) -> Option<u64> {
     }
 }
 
-// A page takes four steps, and then a check's loads take five: the clock shows 10 after them.
+// A page takes four steps, and then a check's loads take five: the clock shows 10 after them. In a cgroup they take five and nine.
 #[test]
 fn a_check_asks_the_clock_after_its_loads(rt: HostRuntime) -> Result<(), Fail> {
-    let mut rack = ModelRack::make();
-    let clock = StepClock {
-        shows: AtomicU64::new(1),
-    };
-    let gate = StepGate { clock: &clock };
-    let taken = take(
-        &rt,
-        rt.alloc(),
-        ONE_PAGE_A_CHECK,
-        &clock,
-        &gate,
-        &mut rack,
-        &[WRITES, WRITES],
-    )?;
-    assert_eq!(rt; first_moment(&taken.log), Some(10));
+    for (text, moment) in [(ONE_PAGE_A_CHECK, 10), (ONE_PAGE_A_CHECK_IN_A_CGROUP, 15)] {
+        let mut rack = ModelRack::make();
+        let clock = StepClock {
+            shows: AtomicU64::new(1),
+        };
+        let gate = StepGate { clock: &clock };
+        let taken = take(
+            &rt,
+            rt.alloc(),
+            text,
+            &clock,
+            &gate,
+            &mut rack,
+            &[WRITES, WRITES],
+        )?;
+        assert_eq!(rt; first_moment(&taken.log), Some(moment));
+    }
     Ok(())
 }

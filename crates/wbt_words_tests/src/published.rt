@@ -1,17 +1,18 @@
 //! What reads give: by one thread, and beside a publisher.
 
-ghost use Rattle.std.specs.Prelude.{◌≡◌, ◌+◌, ◌^◌, ◌<◌, ◌≤◌, true, All, length};
+ghost use Rattle.std.specs.Prelude.{◌≡◌, ◌+◌, ◌^◌, ◌<◌, ◌≤◌, true, All, length, IfOk};
 ghost use Rattle.std.specs.Thread.{IsSync};
 ghost use Rattle.wbt_estimate.specs.Estimate.{IsSound};
-ghost use Rattle.wbt_published.specs.Known.{next_version};
+ghost use Rattle.wbt_published.specs.Known.{next_version, IsFirst};
 ghost use Rattle.wbt_published.specs.Passes.{IsPassOf, known_of};
 
-use std::alloc::Global;
+use std::alloc::{AllocError, Global};
 use std::sync::Wait;
 use std::test::Fail;
 use std::thread;
 use std::thread::Threads;
-use wbt_estimate::{Estimate, first_estimate};
+use wbt_estimate::Estimate;
+use wbt_num::Items;
 use wbt_published::{EstPass, Published};
 
 // An estimate of which each number is told by its version.
@@ -32,19 +33,69 @@ fn estimate_of(version: u64) -> Estimate
     }
 }
 
+// A first estimate at moment 1, of which each rate is told by a number.
+fn first_of(rate: u64) -> Estimate
+    requires { rate < 2 ^ 20 }
+    ensures { IsFirst result }
+{
+    Estimate {
+        version: 0,
+        bw: rate + 1,
+        avg: rate + 2,
+        ratelimit: rate + 3,
+        balanced: rate + 4,
+        written_stamp: 0,
+        dirtied_stamp: 0,
+        at: 1,
+    }
+}
+
+// That of one context.
+fn one_first(alloc: Global) -> Result<Items<Estimate>, AllocError>
+    ensures { IfOk result (λ firsts. All IsFirst firsts × (length firsts ≡ 1)) }
+{
+    let mut firsts = Items::new(alloc);
+    firsts.push(first_of(10))?;
+    Ok(firsts)
+}
+
+// Those of two contexts.
+fn two_firsts(alloc: Global) -> Result<Items<Estimate>, AllocError>
+    ensures { IfOk result (λ firsts. All IsFirst firsts × (length firsts ≡ 2)) }
+{
+    let mut firsts = one_first(alloc)?;
+    firsts.push(first_of(20))?;
+    Ok(firsts)
+}
+
 #[test]
 fn a_publication_is_read_whole(rt: HostRuntime) -> Result<(), Fail> {
-    let (published, mut pass) = Published::make(rt.alloc(), 1, 1)?;
+    let firsts = one_first(rt.alloc())?;
+    let (published, mut pass) = Published::make(rt.alloc(), firsts, 1)?;
     let first = published.read(&rt, &mut pass, 0);
-    assert_eq!(rt; first, first_estimate(1));
+    assert_eq!(rt; first, first_of(10));
     published.publish(&rt, &mut pass, 0, estimate_of(1));
     assert_eq!(rt; published.read(&rt, &mut pass, 0), estimate_of(1));
     Ok(())
 }
 
 #[test]
+fn each_context_begins_with_its_own_estimate(rt: HostRuntime) -> Result<(), Fail> {
+    let firsts = two_firsts(rt.alloc())?;
+    let (published, mut pass) = Published::make(rt.alloc(), firsts, 1)?;
+    assert_eq!(rt; published.read(&rt, &mut pass, 1), first_of(20));
+    published.publish(&rt, &mut pass, 1, estimate_of(1));
+    let mut other = published.split(&rt, rt.alloc(), &mut pass, &[1, 1], 1)?;
+    assert_eq!(rt; published.read(&rt, &mut other, 0), first_of(10));
+    assert_eq!(rt; published.read(&rt, &mut other, 1), estimate_of(1));
+    published.join(&rt, &mut pass, other);
+    Ok(())
+}
+
+#[test]
 fn the_right_goes_to_the_owner(rt: HostRuntime) -> Result<(), Fail> {
-    let (published, mut pass) = Published::make(rt.alloc(), 2, 1)?;
+    let firsts = two_firsts(rt.alloc())?;
+    let (published, mut pass) = Published::make(rt.alloc(), firsts, 1)?;
     let mut other = published.split(&rt, rt.alloc(), &mut pass, &[0, 1], 1)?;
     assert_eq!(rt; (pass.publishes(0), pass.publishes(1)), (true, false));
     assert_eq!(rt; (other.publishes(0), other.publishes(1)), (false, true));
@@ -75,7 +126,7 @@ fn publish_some<R: Wait>(rt: &R, published: &Published, mut pass: EstPass) -> Es
 // Whether the estimate is one of those that were published, or the first one.
 fn is_whole(estimate: &Estimate) -> bool {
     if estimate.version == 0 || estimate.version > COUNT {
-        return *estimate == first_estimate(1);
+        return *estimate == first_of(10);
     }
     *estimate == estimate_of(estimate.version)
 }
@@ -124,7 +175,8 @@ fn read_by_two<R: Threads + Wait + Sync>(
 
 // One thread publishes, and two read beside it.
 fn read_beside_publisher<R: Threads + Wait + Sync>(rt: &R, alloc: Global) -> Result<bool, Fail> {
-    let (published, mut pass) = Published::make(alloc, 1, 1)?;
+    let firsts = one_first(alloc)?;
+    let (published, mut pass) = Published::make(alloc, firsts, 1)?;
     let one = published.split(rt, alloc, &mut pass, &[0], 1)?;
     let two = published.split(rt, alloc, &mut pass, &[0], 1)?;
     let shared = &published;

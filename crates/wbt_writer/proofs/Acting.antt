@@ -1,6 +1,7 @@
 -- What single calls did that read neither shares nor estimates: they told writes and folds, or nothing.
 use Rattle.std.proofs.Common.{◌≡◌, ℕ, List, [], ◌∷◌, None, Contains, refl, sym, ap, subst, arith}
 use Rattle.std.proofs.lemmas.List.Sums.{sum_by-cons}
+use Rattle.wbt_estimate.specs.declared.estimate.Estimate.{Estimate}
 use Rattle.wbt_fraction.specs.Several as fraction
 use Rattle.wbt_fraction.specs.declared.domain.note.Note.{Note}
 use Rattle.std.specs.Prelude.{get_or, slice_index_or}
@@ -15,6 +16,7 @@ use Rattle.wbt_journal.specs.declared.entry.CheckEntry.{CheckEntry}
 use Rattle.wbt_published.specs.Passes as est
 use Rattle.wbt_published.specs.Passes.{known_of}
 use Rattle.wbt_published.specs.declared.known.Known.{Known}
+use Rattle.wbt_rules.specs.First.{first_estimates}
 use Rattle.wbt_run_steps.specs.Records.{firsts_of}
 use Rattle.wbt_table.specs.Layout.{setting}
 use Rattle.wbt_table.specs.declared.layout.Layout.{Layout}
@@ -80,8 +82,8 @@ shares_stay cpu added notes quiet = record {
       (λ s keeps. keeps);
 }
 
-estimates_stay : (opened cpu : ℕ) (added : List Told) (notes : Notes) → Each IsQuietEntry added → EstimatesGrew opened cpu added notes notes
-estimates_stay opened cpu added notes quiet = plain_estimates opened cpu added notes notes (each_weaker IsQuietEntry IsPlain is_plain added quiet) (λ context. refl)
+estimates_stay : (firsts : List Estimate) (cpu : ℕ) (added : List Told) (notes : Notes) → Each IsQuietEntry added → EstimatesGrew firsts cpu added notes notes
+estimates_stay firsts cpu added notes quiet = plain_estimates firsts cpu added notes notes (each_weaker IsQuietEntry IsPlain is_plain added quiet) (λ context. refl)
 
 -- ---- one call
 
@@ -122,7 +124,7 @@ module _ (trace : Trace) (opened cpu : ℕ) (added : List Told) (old new : Sight
         flushers_stay = λ flusher. refl;
       };
       shares = subst (λ (n : Notes). SharesGrew cpu added (notes_of trace old) n) (sym notes_stay) (shares_stay cpu added (notes_of trace old) act.quiet);
-      estimates = subst (λ (n : Notes). EstimatesGrew opened cpu added (notes_of trace old) n) (sym notes_stay) (estimates_stay opened cpu added (notes_of trace old) act.quiet);
+      estimates = subst (λ (n : Notes). EstimatesGrew (first_estimates trace opened) cpu added (notes_of trace old) n) (sym notes_stay) (estimates_stay (first_estimates trace opened) cpu added (notes_of trace old) act.quiet);
       decided = along_any (DecidesAlong trace opened (notes_of trace new).estimates) (side_after trace opened) (side_of old.work.tasks) act.side.events
           (each_weaker IsQuietEvent (λ (event : Event). (s : Side) → DecidesAlong trace opened (notes_of trace new).estimates s event) (λ event quiet s. quiet trace opened (notes_of trace new).estimates s) act.side.events act.events_quiet);
     };

@@ -7,7 +7,7 @@ use Rattle.wbt_flex.specs.declared.share.Fraction.{Fraction}
 use Rattle.wbt_run_steps.specs.declared.loads.DomainLoad.{DomainLoad}
 use Rattle.wbt_counter.specs.History.{at_least_zero}
 use Rattle.wbt_counter.specs.declared.counter.Count.{Count}
-use Rattle.wbt_estimate.specs.Estimate.{IsSound, first_at}
+use Rattle.wbt_estimate.specs.Estimate.{IsSound}
 use Rattle.wbt_estimate.specs.declared.estimate.Estimate.{Estimate}
 use Rattle.wbt_journal.specs.Checks.{IsInRange, IsPart, IsRead, cgroup_read, domain_read}
 use Rattle.wbt_journal.specs.declared.entry.CheckEntry.{CheckEntry}
@@ -21,7 +21,7 @@ use Rattle.wbt_pause.specs.declared.decision.Kind.TheVariants.{Wait}
 use Rattle.wbt_pause.specs.declared.reads.Reads.{Reads}
 use Rattle.wbt_pause.specs.declared.reads.Task.{Task as Numbers}
 use Rattle.wbt_position.specs.declared.ratio.DomainRead.{DomainRead}
-use Rattle.wbt_published.specs.Known.{after_read, note_of}
+use Rattle.wbt_published.specs.Known.{after_read, first_in, note_of}
 use Rattle.wbt_published.specs.Passes.{known_of}
 use Rattle.wbt_rules.proofs.Parts.{part_is_within}
 use Rattle.wbt_rules.specs.Strict.{is_strict}
@@ -96,7 +96,7 @@ in_range check loads lines kept estimate numbers global cgroup count has proper 
 -- where the task is the one that is asked for, and all else is what it names
 pub asked_so : (trace : Trace) (kit : Kit) (task now : ℕ) (was is : WriterWork) (old new : Seats) (loads : Loads) (lines : Lines) (estimate : Estimate) (t : TaskPlace) (decision : Decision)
     → HasLines loads lines → LinesRead t.context lines (fractions_of t.context was) old.share new.share
-    → new.est ≡ record old.est { known = set old.est.known t.context (after_read (note_of estimate) (known_of t.context old.est)) } → (estimate.version ≡ 0 → estimate ≡ first_at kit.published.moment) → IsSound estimate
+    → new.est ≡ record old.est { known = set old.est.known t.context (after_read (note_of estimate) (known_of t.context old.est)) } → (estimate.version ≡ 0 → estimate ≡ first_in kit.published.firsts t.context) → IsSound estimate
     → (known_of t.context old.est).seen ≤ estimate.version → is.tasks ≡ was.tasks → is.fractions.items ≡ set was.fractions.items t.context (fractions_after lines (fractions_of t.context was)) → is.waiting.items ≡ was.waiting.items
     → new.cpu ≡ old.cpu → new.queue ≡ old.queue → decision ≡ decision_for (is_strict trace t.context) (reads_for trace t.context lines loads.count) estimate (writer_of (cpu_of was.tasks) t.writer).task now → decision.pause ≤ 200
     → (decision.kind ≢ Wait → MayBeGranted (reads_for trace t.context lines loads.count) decision) → (estimate.ratelimit < 2 ^ 44 → StaysSmall (writer_of (cpu_of was.tasks) t.writer).task decision.task)
@@ -126,7 +126,7 @@ asked_so trace kit task now was is old new loads lines estimate t decision has r
 pub asked_by_parts : (trace : Trace) (kit : Kit) (task now : ℕ) (was is : WriterWork) (old new : Seats) (loads : Loads) (lines : Lines) (estimate : Estimate) (t : TaskPlace) (kept after : Fractions) (numbers : Numbers) (strict : Bool) (reads : Reads) (decision : Decision)
     → t ≡ task_at was.tasks task → kept ≡ fractions_of t.context was → numbers ≡ (writer_of (cpu_of was.tasks) t.writer).task → strict ≡ is_strict trace t.context → after ≡ fractions_after lines kept → reads ≡ reads_for trace t.context lines loads.count
     → HasLines loads lines → LinesRead t.context lines kept old.share new.share
-    → new.est ≡ record old.est { known = set old.est.known t.context (after_read (note_of estimate) (known_of t.context old.est)) } → (estimate.version ≡ 0 → estimate ≡ first_at kit.published.moment) → IsSound estimate
+    → new.est ≡ record old.est { known = set old.est.known t.context (after_read (note_of estimate) (known_of t.context old.est)) } → (estimate.version ≡ 0 → estimate ≡ first_in kit.published.firsts t.context) → IsSound estimate
     → (known_of t.context old.est).seen ≤ estimate.version → is.tasks ≡ was.tasks → is.fractions.items ≡ set was.fractions.items t.context after → is.waiting.items ≡ was.waiting.items → new.cpu ≡ old.cpu → new.queue ≡ old.queue
     → decision ≡ decision_for strict reads estimate numbers now → decision.pause ≤ 200 → (decision.kind ≢ Wait → MayBeGranted reads decision) → (estimate.ratelimit < 2 ^ 44 → StaysSmall numbers decision.task)
     → AreProper after → AreInRange loads → IsCounted numbers → now < 2 ^ 62

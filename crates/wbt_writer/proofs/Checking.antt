@@ -36,6 +36,7 @@ use Rattle.wbt_published.specs.Passes.{known_of}
 use Rattle.wbt_journal.specs.declared.entry.DomainLine.{DomainLine}
 use Rattle.wbt_run_steps.specs.Records.{firsts_of, record_of}
 use Rattle.wbt_queue.specs.Passes as queue
+use Rattle.wbt_rules.specs.First.{first_estimates}
 use Rattle.wbt_rules.specs.Strict.{is_strict}
 use Rattle.wbt_strict.specs.Decision.{decision_for}
 use Rattle.wbt_table.specs.Layout.{setting}
@@ -122,7 +123,7 @@ module _ (trace : Trace) (kit : Kit) (cpu task now : ℕ) (was is : WriterWork) 
   module _ (at : AreAt trace cpu kit was s0) (going : IsGoing trace was.tasks task) (due_now : is_due_at (cpu_of was.tasks) (task_at was.tasks task).writer ≡ true) (have : HaveRead trace was s0)
       (loaded : LoadedAll (setting kit.throttle.layout) cpu (task_at was.tasks task).writer (task_at was.tasks task).context (context_domain trace (task_at was.tasks task).context) loads s0 s1)
       (has : HasLines loads lines) (read : LinesRead (task_at was.tasks task).context lines (fractions_of (task_at was.tasks task).context was) s1.share s2.share)
-      (estimated : ReadsEstimate kit.published.moment (task_at was.tasks task).context estimate s1.est s2.est) (same_cpu : s2.cpu ≡ s1.cpu) (same_queue : s2.queue ≡ s1.queue)
+      (estimated : ReadsEstimate kit.published.firsts (task_at was.tasks task).context estimate s1.est s2.est) (same_cpu : s2.cpu ≡ s1.cpu) (same_queue : s2.queue ≡ s1.queue)
       (gives : Gives cpu (task_at was.tasks task).writer check.decision s2 s3)
       (fractions : is.fractions.items ≡ set was.fractions.items (task_at was.tasks task).context (fractions_after lines (fractions_of (task_at was.tasks task).context was)))
       (tasks : TasksChecked trace kit.published.moment task now check.decision was.tasks is.tasks) (ranged : IsInRange check estimate numbers) where
@@ -252,13 +253,17 @@ module _ (trace : Trace) (kit : Kit) (cpu task now : ℕ) (was is : WriterWork) 
         let published = at.suits.published in
         let low = there in omega arith
 
-    estimates_two : EstimatesGrew opened cpu (checked check ∷ []) (notes_with trace was.fractions.items s1.share s1.est) (notes_with trace (set was.fractions.items t.context (fractions_after lines (fractions_of t.context was))) s2.share s2.est)
-    estimates_two = check_estimates opened t.context estimate s1.est s2.est estimated estimate_there cpu check
+    -- the kit's first estimates are those of the trace
+    estimated_first : ReadsEstimate (first_estimates trace opened) t.context estimate s1.est s2.est
+    estimated_first = subst (λ (firsts : List Estimate). ReadsEstimate firsts t.context estimate s1.est s2.est) at.suits.firsts estimated
+
+    estimates_two : EstimatesGrew (first_estimates trace opened) cpu (checked check ∷ []) (notes_with trace was.fractions.items s1.share s1.est) (notes_with trace (set was.fractions.items t.context (fractions_after lines (fractions_of t.context was))) s2.share s2.est)
+    estimates_two = check_estimates (first_estimates trace opened) t.context estimate s1.est s2.est estimated_first estimate_there cpu check
         (notes_with trace was.fractions.items s1.share s1.est) (notes_with trace (set was.fractions.items t.context (fractions_after lines (fractions_of t.context was))) s2.share s2.est)
         refl refl (λ k. refl) (λ k. refl) refl refl
 
-    estimates_grew : EstimatesGrew opened cpu (checked check ∷ []) (notes_of trace old) (notes_of trace new)
-    estimates_grew = subst (λ (z : Notes × Notes). EstimatesGrew opened cpu (checked check ∷ []) z.0 z.1) (λ i. (notes_old i, notes_new i)) estimates_two
+    estimates_grew : EstimatesGrew (first_estimates trace opened) cpu (checked check ∷ []) (notes_of trace old) (notes_of trace new)
+    estimates_grew = subst (λ (z : Notes × Notes). EstimatesGrew (first_estimates trace opened) cpu (checked check ∷ []) z.0 z.1) (λ i. (notes_old i, notes_new i)) estimates_two
 
     -- ---- the decision
 
@@ -269,8 +274,8 @@ module _ (trace : Trace) (kit : Kit) (cpu task now : ℕ) (was is : WriterWork) 
     decides = record {
       estimate = estimate;
       named = refl;
-      was_read = subst (λ (p : est.Seats). Contains (known_of t.context p).reads (note_of estimate)) (sym gives.on.est) (has_note opened t.context estimate s1.est s2.est estimated estimate_there);
-      first = estimated.first;
+      was_read = subst (λ (p : est.Seats). Contains (known_of t.context p).reads (note_of estimate)) (sym gives.on.est) (has_note (first_estimates trace opened) t.context estimate s1.est s2.est estimated_first estimate_there);
+      first = estimated_first.first;
       in_range = subst (λ (n : ℕ). IsInRange check estimate (writer_of (cpu_of was.tasks) n).task) (sym (number_is trace cpu kit was s0 at task going due_now)) ranged;
       decision = asked_is;
     }
@@ -321,7 +326,7 @@ module _ (trace : Trace) (kit : Kit) (cpu task now : ℕ) (was is : WriterWork) 
       fractions = subst (λ (z : fraction.Seats × fraction.Seats). LinesRead t.context lines (fractions_of t.context was) z.0 z.1) (λ i. (loaded.loaded.on.share i, sym gives.on.share i)) read;
       estimate = estimate;
       named = refl;
-      estimated = subst (λ (z : est.Seats × est.Seats). ReadsEstimate opened t.context estimate z.0 z.1) (λ i. (loaded.loaded.on.est i, sym gives.on.est i)) estimated;
+      estimated = subst (λ (z : est.Seats × est.Seats). ReadsEstimate kit.published.firsts t.context estimate z.0 z.1) (λ i. (loaded.loaded.on.est i, sym gives.on.est i)) estimated;
       decision = asked_is;
       rests = ap (λ (x : TaskPlace). x.rest) tasks.own;
     }

@@ -35,13 +35,13 @@ use Rattle.wbt_writer.proofs.Sharing.{IsGroupLine}
 
 pub domain_below : (trace : Trace) → IsLawful trace → (k : ℕ) → k < contexts trace → context_domain trace k < domains trace
 domain_below trace lawful k there =
-    let none : Context = record { device = 0; domain = 0; expire = None } in
+    let none : Context = record { device = 0; domain = 0; expire = None; estimate = None } in
     let at : IsContext (length trace.devices) (length trace.cgroups) (get_or trace.contexts k none) = All-get_or (IsContext (length trace.devices) (length trace.cgroups)) trace.contexts k none there lawful.within.contexts in
     let low = at.1 in omega arith
 
 pub device_below : (trace : Trace) → IsLawful trace → (k : ℕ) → k < contexts trace → (context_at trace k).device < length trace.devices
 device_below trace lawful k there =
-    let none : Context = record { device = 0; domain = 0; expire = None } in
+    let none : Context = record { device = 0; domain = 0; expire = None; estimate = None } in
     (All-get_or (IsContext (length trace.devices) (length trace.cgroups)) trace.contexts k none there lawful.within.contexts).0
 
 -- ---- a writer whose check is due

@@ -20,7 +20,7 @@ use Rattle.wbt_journal.specs.declared.entry.CheckEntry.{CheckEntry}
 use Rattle.wbt_journal.specs.declared.entry.DomainLine.{DomainLine}
 use Rattle.wbt_pause.specs.declared.decision.Kind.{Kind}
 use Rattle.wbt_pause.specs.declared.decision.Kind.TheVariants.{Exempt, Free, Go, Wait}
-use Rattle.wbt_published.specs.Known.{after_read, first_one, note_of}
+use Rattle.wbt_published.specs.Known.{after_read, first_in, first_one, note_of}
 use Rattle.wbt_published.specs.Passes.{known_of, Seats as EstPass}
 use Rattle.wbt_published.specs.declared.known.Known.{Known}
 use Rattle.wbt_run_laws.specs.Entries.{NamesSeen}
@@ -53,7 +53,7 @@ first_is e is = sym (eqb-true e.version 0 is)
 note_version : (e : Estimate) → (note_of e).version ≡ e.version
 note_version e = cond_both (eqb e.version 0) first_one e (λ (n : Estimate). n.version ≡ e.version) (λ is. first_is e is) (λ not. refl)
 
-module _ (opened context : ℕ) (estimate : Estimate) (old new : EstPass) (read : ReadsEstimate opened context estimate old new) (there : context < length old.known) where
+module _ (firsts : List Estimate) (context : ℕ) (estimate : Estimate) (old new : EstPass) (read : ReadsEstimate firsts context estimate old new) (there : context < length old.known) where
   pub known_here : known_of context new ≡ after_read (note_of estimate) (known_of context old)
   known_here = ap (λ (p : EstPass). known_of context p) read.noted ∙ get_or-set_same old.known context (after_read (note_of estimate) (known_of context old)) _ there
 
@@ -80,18 +80,18 @@ module _ (opened context : ℕ) (estimate : Estimate) (old new : EstPass) (read 
   }
 
   pub check_estimates : (cpu : ℕ) (check : CheckEntry) (before behind : Notes) → check.context ≡ context → check.estimate ≡ estimate.version → ((k : ℕ) → before.estimates k ≡ known_of k old) → ((k : ℕ) → behind.estimates k ≡ known_of k new)
-      → before.estimates ≡ (λ k. known_of k old) → behind.estimates ≡ (λ k. known_of k new) → EstimatesGrew opened cpu (checked check ∷ []) before behind
+      → before.estimates ≡ (λ k. known_of k old) → behind.estimates ≡ (λ k. known_of k new) → EstimatesGrew firsts cpu (checked check ∷ []) before behind
   check_estimates cpu check before behind at named old_is new_is old_are new_are = record {
-    each = λ k. subst (λ (z : Known × Known). IsTold opened [] z.0 z.1) (λ i. (sym (old_is k) i, sym (new_is k) i)) (told k);
+    each = λ k. subst (λ (z : Known × Known). IsTold (first_in firsts k) [] z.0 z.1) (λ i. (sym (old_is k) i, sym (new_is k) i)) (told k);
     names = check_names_seen cpu check before.estimates behind.estimates
         (subst (λ (z : (ℕ → Known) × (ℕ → Known)). NamesSeen check z.0 z.1) (λ i. (sym old_are i, sym new_are i)) (names_seen check at named));
   }
     where
-      told : (k : ℕ) → IsTold opened [] (known_of k old) (known_of k new)
+      told : (k : ℕ) → IsTold (first_in firsts k) [] (known_of k old) (known_of k new)
       told k = elim (cases_eq k context) [
-        | inl is ↦ subst (λ (z : ℕ). IsTold opened [] (known_of z old) (known_of z new)) (sym is)
-            (subst (λ (x : Known). IsTold opened [] (known_of context old) x) (sym known_here) (read_tells_nothing opened (known_of context old) estimate))
-        | inr other ↦ subst (λ (x : Known). IsTold opened [] (known_of k old) x) (sym (known_else k other)) (told_none opened (known_of k old))
+        | inl is ↦ subst (λ (z : ℕ). IsTold (first_in firsts z) [] (known_of z old) (known_of z new)) (sym is)
+            (subst (λ (x : Known). IsTold (first_in firsts context) [] (known_of context old) x) (sym known_here) (read_tells_nothing (first_in firsts context) (known_of context old) estimate))
+        | inr other ↦ subst (λ (x : Known). IsTold (first_in firsts k) [] (known_of k old) x) (sym (known_else k other)) (told_none (first_in firsts k) (known_of k old))
       ]
 
 -- ---- the record

@@ -44,7 +44,7 @@ homes_long trace kit suits = ap (λ (l : List ℕ). length l) suits.homes ∙ le
 
 home_is : (trace : Trace) (k : ℕ) → k < contexts trace → get_or (homes_of trace) k 0 ≡ context_domain trace k
 home_is trace k there =
-    let none : Context = record { device = 0; domain = 0; expire = None } in
+    let none : Context = record { device = 0; domain = 0; expire = None; estimate = None } in
     get_or-map (λ (c : Context). c.domain) trace.contexts k none
 
 pub has_share : (trace : Trace) (kit : Kit) (k : ℕ) → Suits trace kit → k < contexts trace → HasShare kit.shares.homes (context_domain trace k) k

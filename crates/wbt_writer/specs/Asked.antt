@@ -69,7 +69,7 @@ pub record Asked (trace : Trace) (kit : Kit) (task context now : ℕ) (numbers :
   pub check_is : check ≡ check_by trace task context now loads lines estimate numbers
   pub has_lines : HasLines loads lines
   pub read : LinesRead context lines (fractions_of context was) old.share new.share
-  pub estimated : ReadsEstimate kit.published.moment context estimate old.est new.est
+  pub estimated : ReadsEstimate kit.published.firsts context estimate old.est new.est
   pub fractions : is.fractions.items ≡ set was.fractions.items context (fractions_after lines (fractions_of context was))
   pub tasks : is.tasks ≡ was.tasks
   pub waiting : is.waiting.items ≡ was.waiting.items

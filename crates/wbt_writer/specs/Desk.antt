@@ -14,6 +14,7 @@ use Rattle.wbt_kit.specs.declared.kit.Seats.{Seats}
 use Rattle.wbt_fraction.specs.Several as fraction
 use Rattle.wbt_published.specs.Passes as est
 use Rattle.wbt_published.specs.Passes.{known_of}
+use Rattle.wbt_rules.specs.First.{first_estimates}
 use Rattle.wbt_run_steps.specs.Records.{firsts_of, record_of}
 use Rattle.wbt_table.specs.Layout as table
 use Rattle.wbt_table.specs.Layout.{setting}
@@ -81,6 +82,7 @@ pub record Suits (trace : Trace) (kit : Kit) : Type 0 where
   pub shared_domains : length kit.shares.domains ≡ domains trace
   pub homes : kit.shares.homes ≡ homes_of trace
   pub published : length kit.published.names ≡ contexts trace
+  pub firsts : kit.published.firsts ≡ first_estimates trace kit.published.moment
   pub queues : length kit.queues.sizes ≡ length trace.devices
   pub few_page_steps : kit.throttle.layout.page_steps ≤ MOST_PAGE_STEPS
 

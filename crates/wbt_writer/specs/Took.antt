@@ -46,7 +46,7 @@ pub record IsCheck (trace : Trace) (kit : Kit) (cpu task : ℕ) (added : List To
       old.seats.share new.seats.share
   pub estimate : Estimate
   pub named : estimate.version ≡ check.estimate
-  pub estimated : ReadsEstimate kit.published.moment check.context estimate old.seats.est new.seats.est
+  pub estimated : ReadsEstimate kit.published.firsts check.context estimate old.seats.est new.seats.est
   pub decision : check.decision ≡ asked_by trace (side_of old.work.tasks) check estimate
   pub rests : (task_at new.work.tasks task).rest ≡ rest_after check.decision check.now (task_at old.work.tasks task)
 

@@ -9,13 +9,13 @@ use Rattle.wbt_book.specs.Book.{clean}
 use Rattle.wbt_journal.specs.Machine.{domains}
 use Rattle.wbt_limits.specs.Thresholds.{ratelimit_pages_of}
 use Rattle.wbt_replay_moves.specs.Definition.State.{State}
-use Rattle.wbt_replay_order.specs.Definition.Opening.{first_context, first_cpus, first_domains, first_flushers, first_limits, first_tasks, first_timer, opening, running_of, stretch_of}
+use Rattle.wbt_replay_order.specs.Definition.Opening.{first_contexts, first_cpus, first_domains, first_flushers, first_limits, first_tasks, first_timer, opening, running_of, stretch_of}
 use Rattle.wbt_replay_order.specs.Kept.Opens.{ActionFits, DomainsFit, OpeningFits}
 use Rattle.wbt_replay_order.proofs.Facts.Inodes.{before_ends}
 
 pub opening_is : (trace : Trace) (s : State) → s.now ≡ 1 → s.pages ≡ pages_in trace.inodes → s.book ≡ (λ page. clean)
     → s.ratelimit_pages ≡ ratelimit_pages_of (first_limits trace 0).thresh trace.cpus → s.domains ≡ first_domains trace (domains trace)
-    → s.contexts ≡ replicate (length trace.contexts) first_context → s.marks ≡ replicate (length trace.inodes) false
+    → s.contexts ≡ first_contexts trace (length trace.contexts) → s.marks ≡ replicate (length trace.inodes) false
     → s.queues ≡ replicate (length trace.devices) [] → s.tasks ≡ first_tasks trace (length trace.tasks)
     → s.flushers ≡ first_flushers trace (length trace.flushers) → s.cpus ≡ first_cpus trace trace.cpus
     → s.running ≡ running_of (first_tasks trace (length trace.tasks)) → s.working ≡ length trace.flushers → s.stopped ≡ 0 → s.spent ≡ false
@@ -68,7 +68,7 @@ module _ (trace : Trace) (lawful : IsLawful trace) where
     tasks = lawful.within.few_tasks;
     flushers = lawful.within.few_flushers;
     contexts = omega (arith, lawful.within.few_contexts);
-    context_devices = λ k less. (lawful.within.contexts k (record { device = 0; domain = 0; expire = None }) less).0;
+    context_devices = λ k less. (lawful.within.contexts k (record { device = 0; domain = 0; expire = None; estimate = None }) less).0;
     cgroups = omega (arith, lawful.within.few_cgroups);
     actions = λ k d less. action_fits (get_or trace.actions k d) (lawful.within.actions k d less);
     domains = domain_fits;

@@ -140,7 +140,7 @@ module _ (trace : Trace) (facts : Facts trace) (s : State) (sound : Sound trace 
         look batch (phase.Idle until noted) at opened = tt
         look batch (phase.Taken n) at opened = tt
         look batch (phase.Scanning scan) at opened =
-            (omega (arith, opened, facts.inode_end scan.inode at.there, sound.holds.pages), omega (arith, opened, end_few trace facts s sound scan.inode at.there))
+            (omega (arith, opened.0, facts.inode_end scan.inode at.there, sound.holds.pages), omega (arith, opened.0, end_few trace facts s sound scan.inode at.there))
         look batch (phase.Flying n pages until) at opened = tt
         look batch phase.Finished at opened = tt
 

@@ -47,7 +47,7 @@ bases_long : (trace : Trace) (n : ℕ) → length (bases_of trace n) ≡ n
 bases_long trace zero = refl
 bases_long trace (suc n) = let rest = bases_long trace n in let long = length_push (bases_of trace n) (base_of trace n) in omega (arith, rest, long)
 
-each_home : (bound : ℕ) (contexts : List Context) → ((k : ℕ) → k < length contexts → (get_or contexts k (record { device = 0; domain = 0; expire = None })).domain < bound)
+each_home : (bound : ℕ) (contexts : List Context) → ((k : ℕ) → k < length contexts → (get_or contexts k (record { device = 0; domain = 0; expire = None; estimate = None })).domain < bound)
     → Each (λ home. home < bound) (map (λ c. c.domain) contexts)
 each_home bound [] all = tt
 each_home bound (c ∷ contexts) all = (all 0 (omega arith), each_home bound contexts (λ k less. all (suc k) (omega (arith, less))))

@@ -9,11 +9,11 @@ use native.Mathlib.Decide.{ℕ_discrete}
 use Rattle.wbt_trace.specs.declared.trace.Trace.{Trace}
 use Rattle.wbt_counter.specs.Sums.{one_if}
 use Rattle.wbt_book.specs.Ledger.{times_in}
-use Rattle.wbt_limits.specs.Flusher.{chunk_of}
 use Rattle.wbt_replay_moves.specs.Definition.Idle.{finish, rest_until, take, take_or_finish, take_or_rest, with_hard, scan_of, unmark_of, unmark_in, take_now, with_pairs, take_last, told_by, tell, waits, note, noticed, age, tested_by}
 use Rattle.wbt_replay_moves.specs.Definition.State.{State, cpu_of, flusher_of, queue_of, with_queue, writeback_of, in_phase, no_flusher, waiting_of, with_waiting}
+use Rattle.wbt_rules.specs.Flusher.{quota_of}
 use Rattle.wbt_rules.specs.declared.scan.Scan.{Scan}
-use Rattle.wbt_rules.specs.Things.{context_of, inode_of, device_of, flusher_device}
+use Rattle.wbt_rules.specs.Things.{context_of, device_at, inode_of, device_of, flusher_device}
 use Rattle.wbt_replay_moves.specs.declared.state.Flusher.{Flusher}
 use Rattle.wbt_replay_moves.specs.declared.state.ReplayPhase.{ReplayPhase}
 use Rattle.wbt_replay_moves.specs.declared.state.ReplayPhase.TheVariants as phase
@@ -306,7 +306,7 @@ module _ (trace : Trace) (facts : Facts trace) (i f : ℕ) (less : i < trace.cpu
     cleared_waits : (n : ℕ) → (flusher_of f s).phase ≡ phase.Taken n → n < length s.marks → list_any is_hand_over (cpu_of i s).todo ≡ false → Waiting trace (unmark_of trace i f n s)
     cleared_waits n at there shut =
         let p : ReplayPhase = scan_of trace f n s in
-        let quota : ℕ = chunk_of (writeback_of (context_of trace n) s).estimate.avg (flusher_of f s).hard in
+        let quota : ℕ = quota_of (device_at trace (flusher_device trace f)) (writeback_of (context_of trace n) s).estimate.avg (flusher_of f s).hard in
         let x : Flusher = record (flusher_of f s) { phase = p } in
         let t : State = unmark_of trace i f n s in
         let now : (flusher_of f t).phase ≡ p = ap (λ (y : Flusher). y.phase) (now_is trace i f less on s seats many w x t refl) in

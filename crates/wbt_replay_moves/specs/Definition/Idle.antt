@@ -8,13 +8,13 @@ use Rattle.wbt_expiry.specs.Waiting.{Waiting, with_pair, has_inode}
 use Rattle.wbt_expiry.specs.declared.due.Due.{Due}
 use Rattle.wbt_grant.specs.declared.who.StepKind.TheVariants as kind
 use Rattle.wbt_journal.specs.declared.entry.Entry.TheVariants as entry
-use Rattle.wbt_limits.specs.Flusher.{chunk_of}
 use Rattle.wbt_rules.specs.Age.{due_after}
+use Rattle.wbt_rules.specs.Flusher.{quota_of}
 use Rattle.wbt_rules.specs.declared.age.TheConstants.{MOST_NOTICED}
 use Rattle.wbt_rules.specs.declared.moments.TheConstants.{ESTIMATE_AGE, FLUSHER_REST}
 use Rattle.wbt_replay_moves.specs.Definition.Cpu.{then_do, do_last_at, log_at}
 use Rattle.wbt_replay_moves.specs.Definition.State.{State, cpu_of, flusher_of, with_flusher, waiting_of, with_waiting, queue_of, with_queue, writeback_of, plain_step, in_phase, is_drained}
-use Rattle.wbt_rules.specs.Things.{context_of, inode_of, flusher_device}
+use Rattle.wbt_rules.specs.Things.{context_of, device_at, inode_of, flusher_device}
 use Rattle.wbt_replay_moves.specs.declared.state.ReplayPhase.{ReplayPhase}
 use Rattle.wbt_replay_moves.specs.declared.state.ReplayPhase.TheVariants as phase
 use Rattle.wbt_replay_moves.specs.declared.state.ReplayTurn.{ReplayTurn}
@@ -204,13 +204,13 @@ test trace cpu s = test_by trace cpu (cpu_of cpu s).turn (cpu_of cpu s).turn.who
 
 -- ---- the mark of the inode that was taken
 
--- The scan begins at the inode's first page, with the chunk of the context's average as its quota.
+-- The scan begins at the inode's first page, with a quota by the flusher's device and the context's average.
 abbrev pub scan_of : (trace : Trace) (flusher inode : ℕ) (s : State) → ReplayPhase
 scan_of trace flusher inode s =
     phase.Scanning (record {
       inode = inode;
       page = (inode_of trace inode).first;
-      quota = chunk_of (writeback_of (context_of trace inode) s).estimate.avg (flusher_of flusher s).hard;
+      quota = quota_of (device_at trace (flusher_device trace flusher)) (writeback_of (context_of trace inode) s).estimate.avg (flusher_of flusher s).hard;
       noted = false;
     })
 

@@ -213,10 +213,11 @@ EndFits cpu s (whose.Flusher flusher) = Unit {0}
 abbrev pub EstimatesFit : (s : State) → Type 0
 EstimatesFit s = (k : ℕ) → k < length s.contexts → (writeback_of k s).estimate.at < 2 ^ 62
 
--- The inode that was taken is there.
+-- The inode that was taken is there, and so are the flusher and its device.
 abbrev pub TakenFits : (trace : Trace) (flusher : ℕ) (s : State) (phase : ReplayPhase) → Type 0
 TakenFits trace flusher s (phase.Taken inode) =
     HasInode trace inode (length s.marks) (length s.queues) × (context_of trace inode < length s.contexts)
+    × HasFlusher trace flusher (length s.flushers) (length s.queues)
 TakenFits trace flusher s other = Unit {0}
 
 -- An inode that a flusher may notice is there, with its context, below the wheel's number of inodes, and is due within its reach.

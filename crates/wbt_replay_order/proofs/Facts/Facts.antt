@@ -1,13 +1,15 @@
 -- What a lawful trace says of its things by number.
-use Rattle.std.proofs.Common.{◌≡◌, ℕ, suc, ◌<◌, Bool, true, false, ◌||◌, eqb, List, [], ◌∷◌, length, get_or, refl, arith, eqb-true, None, Option, Some, IfSome, unwrap_or, ◌*◌, ◌≤◌}
-use Rattle.wbt_trace.specs.Lawful.{IsLawful, IsContext, IsInode, IsExpire}
+use Rattle.std.proofs.Common.{◌≡◌, ℕ, suc, ◌<◌, Bool, true, false, ◌||◌, eqb, List, [], ◌∷◌, length, get_or, refl, sym, subst, arith, eqb-true, ⊎_elim, None, Option, Some, IfSome, unwrap_or, ◌*◌, ◌≤◌}
+use Rattle.std.proofs.lemmas.Bool.{cases_lt}
+use Rattle.std.proofs.lemmas.List.{get_or_past}
+use Rattle.wbt_trace.specs.Lawful.{IsLawful, IsChunk, IsContext, IsFirstEstimate, IsInode, IsExpire}
 use Rattle.wbt_trace.specs.Lawful.{has_flusher}
 use Rattle.wbt_trace.specs.declared.trace.Cgroup.{Cgroup}
 use Rattle.wbt_trace.specs.declared.trace.Context.{Context}
 use Rattle.wbt_trace.specs.declared.trace.Device.{Device}
 use Rattle.wbt_trace.specs.declared.trace.FlusherLine.{FlusherLine}
 use Rattle.wbt_trace.specs.declared.trace.Trace.{Trace}
-use Rattle.wbt_rules.specs.Things.{inode_of, context_of, context_at}
+use Rattle.wbt_rules.specs.Things.{inode_of, context_of, context_at, device_at}
 use Rattle.wbt_replay_order.specs.Definition.Opening.{tasks_from}
 use Rattle.wbt_replay_order.specs.Claims.Setting.{inode_with, writers_in}
 use Rattle.wbt_replay_order.specs.Kept.Facts.{Facts, IsPageOf}
@@ -19,13 +21,13 @@ use Rattle.wbt_rules.specs.Age.{expire_ticks}
 use Rattle.wbt_expiry.specs.Kept.{reach}
 
 abbrev no_context : Context
-no_context = record { device = 0; domain = 0; expire = None }
+no_context = record { device = 0; domain = 0; expire = None; estimate = None }
 
 abbrev no_cgroup : Cgroup
 no_cgroup = record { filepages = 0; headroom = 0 }
 
 abbrev no_device : Device
-no_device = record { rate = 1; min = 0; max = 100; strict = false }
+no_device = record { rate = 1; min = 0; max = 100; strict = false; chunk = None }
 
 -- a device's flusher has a number
 pub record HasFlusher (device : ℕ) (flushers : List FlusherLine) : Type 0 where
@@ -59,6 +61,19 @@ module _ (trace : Trace) (lawful : IsLawful trace) where
   context_here : (k : ℕ) → k < length trace.contexts → IsContext (length trace.devices) (length trace.cgroups) (context_at trace k)
   context_here k less = lawful.within.contexts k no_context less
 
+  -- a device or a context that isn't there has no such line
+  chunk_here : (d : ℕ) → IfSome (device_at trace d).chunk IsChunk
+  chunk_here d = ⊎_elim
+      (λ less. (lawful.within.devices.each d no_device less).chunk)
+      (λ past. subst (λ (x : Device). IfSome x.chunk IsChunk) (sym (get_or_past trace.devices d no_device past)) tt)
+      (cases_lt d (length trace.devices))
+
+  estimate_here : (k : ℕ) → IfSome (context_at trace k).estimate IsFirstEstimate
+  estimate_here k = ⊎_elim
+      (λ less. (context_here k less).3)
+      (λ past. subst (λ (x : Context). IfSome x.estimate IsFirstEstimate) (sym (get_or_past trace.contexts k no_context past)) tt)
+      (cases_lt k (length trace.contexts))
+
   page_is : (n p : ℕ) → IsPageOf trace n p → inode_with trace p ≡ n
   page_is n p page =
       let is = found_in 0 0 p trace.inodes lawful.within.inodes.firsts n page.there page.after_first page.before_end in
@@ -91,6 +106,8 @@ module _ (trace : Trace) (lawful : IsLawful trace) where
     context_group = λ k less. (context_here k less).1;
     shares = λ d less. (lawful.within.devices.each d no_device less).shares;
     rate = λ d less. (lawful.within.devices.each d no_device less).rate.0;
+    chunks = chunk_here;
+    firsts = estimate_here;
     flusher_cpu_is = λ f less. (lawful.within.flushers f no_line less).1;
     flusher_device_is = λ f less. (lawful.within.flushers f no_line less).0;
     manned = λ d less. let h = found_flusher d trace.flushers (lawful.whole.flushers d less) in (h.place, h.less, h.is);

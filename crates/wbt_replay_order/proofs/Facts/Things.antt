@@ -135,7 +135,7 @@ module _ (trace : Trace) (facts : Facts trace) (s : State) (sound : Sound trace 
 
       pub taken_fits : (p : ReplayPhase) → IsAt trace (flusher_of f s).batch p → TakenFits trace f (record s { cpus = cs }) p
       taken_fits (phase.Idle until kept) h = tt
-      taken_fits (phase.Taken n) h = (inode_fits n h.1, omega (arith, facts.inode_context n h.1, sound.holds.contexts.many))
+      taken_fits (phase.Taken n) h = (inode_fits n h.1, omega (arith, facts.inode_context n h.1, sound.holds.contexts.many), flusher_fits f less)
       taken_fits (phase.Scanning scan) h = tt
       taken_fits (phase.Flying n pages until) h = tt
       taken_fits phase.Finished h = tt

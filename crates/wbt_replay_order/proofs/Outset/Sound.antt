@@ -10,8 +10,6 @@ use Rattle.wbt_counter.specs.Batch.{domain_batch, context_batch}
 use Rattle.wbt_counter.specs.declared.counter.Counter.{Counter}
 use Rattle.wbt_counter.specs.declared.counter.Counter.TheVariants.{Domain as ofDomain, Context as ofContext}
 use Rattle.wbt_counter.proofs.Sums.{total_same, total_nothing}
-use Rattle.wbt_estimate.specs.Estimate.{first_at}
-use Rattle.wbt_estimate.proofs.Folding.{first_sound}
 use Rattle.wbt_journal.specs.Machine.{domains}
 use Rattle.wbt_task.specs.Allowance.{first}
 use Rattle.wbt_task.specs.History.{new_writer}
@@ -35,7 +33,7 @@ use Rattle.wbt_replay_moves.specs.declared.state.Held.{Held}
 use Rattle.wbt_replay_moves.specs.declared.state.ReplayTask.{ReplayTask}
 use Rattle.wbt_replay_moves.specs.declared.state.ReplayWork.{ReplayWork}
 use Rattle.wbt_replay_moves.specs.declared.state.Writeback.{Writeback}
-use Rattle.wbt_replay_order.specs.Definition.Opening.{opening, opening_moment, first_limits, first_domain, first_domains, first_context, works_of, first_task, first_tasks, contexts_from, strict_from, first_flusher, first_flushers, tasks_from, first_cpu, first_cpus, first_held, stretch_of}
+use Rattle.wbt_replay_order.specs.Definition.Opening.{opening, opening_moment, first_limits, first_domain, first_domains, first_context, first_contexts, works_of, first_task, first_tasks, contexts_from, strict_from, first_flusher, first_flushers, tasks_from, first_cpu, first_cpus, first_held, stretch_of}
 use Rattle.wbt_replay_order.specs.Definition.Order.{is_finished}
 use Rattle.wbt_replay_order.specs.Kept.Facts.{Facts}
 use Rattle.wbt_replay_order.specs.Kept.Horizon.{horizon, ticks_of, rests_of, credit_of, until_of}
@@ -47,6 +45,7 @@ use Rattle.wbt_replay_order.proofs.Facts.Settings.{firsts_lawful}
 use Rattle.wbt_replay_order.proofs.Outset.Cpus.{lines_on, counted_with, all_lines}
 use Rattle.wbt_replay_order.proofs.Outset.Numbered.{numbered_length, numbered_at, numbered_all, numbered_sum}
 use Rattle.wbt_replay_order.proofs.Outset.Tasks.{works_fit, all_rests, last_is}
+use Rattle.wbt_rules.proofs.Openings.{first_moment, first_sound}
 use Rattle.wbt_rules.specs.Age.{is_ageing}
 
 -- ---- domains and contexts
@@ -83,20 +82,20 @@ domains_fit trace = record {
       (first_domain_fits trace) (λ d. no_domain_fits) (domains trace);
 }
 
-first_context_fits : (trace : Trace) (ds : List Domain) (k : ℕ) → IsContext trace 0 opening_moment ds k first_context
-unfolding first_at
-first_context_fits trace ds k = record {
+first_context_fits : (trace : Trace) → IsLawful trace → (ds : List Domain) (k : ℕ) → IsContext trace 0 opening_moment ds k (first_context trace k)
+first_context_fits trace lawful ds k = record {
   count = record { version = omega arith; value = omega arith };
-  estimate = first_sound 1 (omega arith);
-  estimated = omega arith;
+  estimate = first_sound trace k opening_moment ((facts trace lawful).firsts k) (omega arith);
+  estimated = omega (arith, first_moment trace k opening_moment);
   part = omega arith;
   cgroup_part = omega arith;
 }
 
-contexts_fit : (trace : Trace) (ds : List Domain) → AreContexts trace 0 opening_moment ds (replicate (length trace.contexts) first_context)
-contexts_fit trace ds = record {
-  many = length-replicate (length trace.contexts) first_context;
-  each = λ k less. subst (IsContext trace 0 opening_moment ds k) (sym (get_or-replicate (length trace.contexts) k first_context no_context less)) (first_context_fits trace ds k);
+contexts_fit : (trace : Trace) → IsLawful trace → (ds : List Domain) → AreContexts trace 0 opening_moment ds (first_contexts trace (length trace.contexts))
+contexts_fit trace lawful ds = record {
+  many = numbered_length (first_contexts trace) (first_context trace) no_context refl (λ n. refl) (length trace.contexts);
+  each = λ k less. subst (IsContext trace 0 opening_moment ds k) (sym (numbered_at (first_contexts trace) (first_context trace) no_context refl (λ n. refl) (length trace.contexts) k less))
+      (first_context_fits trace lawful ds k);
 }
 
 -- one item so many times, and the default
@@ -106,19 +105,26 @@ repeated P n i x d here other = ⊎_elim
     (λ past. subst P (sym (get_or_past (replicate n x) i d (omega (arith, past, length-replicate n x)))) other)
     (cases_lt i n)
 
+-- what holds of a context at first, and of none
+of_contexts : (trace : Trace) (P : Writeback → Type 0) → ((k : ℕ) → P (first_context trace k)) → P no_context → (n k : ℕ) → P (get_or (first_contexts trace n) k no_context)
+of_contexts trace P each other n k =
+    numbered_all (first_contexts trace) (first_context trace) no_context refl (λ m. refl) (λ i x. P x) each (λ i. other) n k
+
 written_fits : (trace : Trace)
-    → AreWritten trace 0 0 (first_domains trace (domains trace)) (replicate (length trace.contexts) first_context) (first_flushers trace (length trace.flushers))
+    → AreWritten trace 0 0 (first_domains trace (domains trace)) (first_contexts trace (length trace.contexts)) (first_flushers trace (length trace.flushers))
 written_fits trace =
-    let none : sum_by written_of (replicate (length trace.contexts) first_context) ≡ 0 = omega (arith, sum_by-replicate written_of (length trace.contexts) first_context) in
+    let none : sum_by written_of (first_contexts trace (length trace.contexts)) ≡ 0 =
+    numbered_sum (first_contexts trace) (first_context trace) no_context refl (λ n. refl) written_of (length trace.contexts)
+    ∙ total_nothing (length trace.contexts) (λ k. 0) (λ k. refl) in
     let flown : sum_by flown_of (first_flushers trace (length trace.flushers)) ≡ 0 =
     numbered_sum (first_flushers trace) (first_flusher trace) no_flusher refl (λ n. refl) flown_of (length trace.flushers)
     ∙ total_nothing (length trace.flushers) (λ k. 0) (λ k. refl) in
     record {
       total = omega (arith, none, flown);
       events = λ d. numbered_all (first_domains trace) (λ d. first_domain (first_limits trace d)) no_domain refl (λ n. refl)
-          (λ i x. x.events.events ≤ sum_by written_of (replicate (length trace.contexts) first_context) + 1) (λ i. omega arith) (λ i. omega arith) (domains trace) d;
-      part = λ k. repeated (λ (x : Writeback). x.part.events ≤ sum_by written_of (replicate (length trace.contexts) first_context)) (length trace.contexts) k first_context no_context (omega arith) (omega arith);
-      cgroup_part = λ k. repeated (λ (x : Writeback). x.cgroup_part.events ≤ sum_by written_of (replicate (length trace.contexts) first_context)) (length trace.contexts) k first_context no_context (omega arith) (omega arith);
+          (λ i x. x.events.events ≤ sum_by written_of (first_contexts trace (length trace.contexts)) + 1) (λ i. omega arith) (λ i. omega arith) (domains trace) d;
+      part = λ k. of_contexts trace (λ (x : Writeback). x.part.events ≤ sum_by written_of (first_contexts trace (length trace.contexts))) (λ i. omega arith) (omega arith) (length trace.contexts) k;
+      cgroup_part = λ k. of_contexts trace (λ (x : Writeback). x.cgroup_part.events ≤ sum_by written_of (first_contexts trace (length trace.contexts))) (λ i. omega arith) (omega arith) (length trace.contexts) k;
     }
 
 -- ---- tasks
@@ -180,9 +186,10 @@ strict_fit_from trace n device number (c ∷ cs) known few all =
     (either (All (λ k. k < n)) ours (known ++ number ∷ []) known
     (λ is. All-push (λ k. k < n) known number all (omega (arith, few))) (λ other. all))
 
-flusher_fits : (trace : Trace) (f : ℕ) → IsFlusher trace (first_flusher trace f)
+flusher_fits : (trace : Trace) (f : ℕ) → IsFlusher trace f (first_flusher trace f)
 flusher_fits trace f = record {
   phase = refl;
+  quota = tt;
   hard = (firsts_lawful trace 0).hard_in_range;
   measures = either (All (λ k. k < length trace.contexts)) (leads trace f) (contexts_from (flusher_device trace f) 0 trace.contexts []) []
       (λ first_one. contexts_fit_from (length trace.contexts) (flusher_device trace f) 0 trace.contexts [] (omega arith) (All-nil (λ k. k < length trace.contexts)))
@@ -191,9 +198,9 @@ flusher_fits trace f = record {
   wheel = either (WheelFits trace) (is_ageing trace (flusher_device trace f)) _ None (λ ages. record { inodes = refl; each = tt }) (λ other. tt);
 }
 
-no_flusher_fits : (trace : Trace) → IsFlusher trace no_flusher
-no_flusher_fits trace =
-    let none = All-nil (λ k. k < length trace.contexts) in record { phase = refl; hard = omega arith; measures = none; weighs = none; wheel = tt }
+no_flusher_fits : (trace : Trace) (f : ℕ) → IsFlusher trace f no_flusher
+no_flusher_fits trace f =
+    let none = All-nil (λ k. k < length trace.contexts) in record { phase = refl; quota = tt; hard = omega arith; measures = none; weighs = none; wheel = tt }
 
 -- what holds of a flusher at first, and of none
 of_flushers : (trace : Trace) (P : Flusher → Type 0) → ((f : ℕ) → P (first_flusher trace f)) → P no_flusher → (n f : ℕ) → P (get_or (first_flushers trace n) f no_flusher)
@@ -203,7 +210,7 @@ of_flushers trace P each other n f =
 flushers_fit : (trace : Trace) → AreFlushers trace (first_flushers trace (length trace.flushers))
 flushers_fit trace = record {
   many = numbered_length (first_flushers trace) (first_flusher trace) no_flusher refl (λ n. refl) (length trace.flushers);
-  each = of_flushers trace (IsFlusher trace) (flusher_fits trace) (no_flusher_fits trace) (length trace.flushers);
+  each = numbered_all (first_flushers trace) (first_flusher trace) no_flusher refl (λ n. refl) (IsFlusher trace) (flusher_fits trace) (no_flusher_fits trace) (length trace.flushers);
 }
 
 all_open : (trace : Trace) (f : ℕ) → IsOpen trace (get_or (first_flushers trace (length trace.flushers)) f no_flusher)
@@ -316,7 +323,7 @@ opening_holds trace lawful = record {
   pages = refl;
   few = omega arith;
   domains = domains_fit trace;
-  contexts = contexts_fit trace (first_domains trace (domains trace));
+  contexts = contexts_fit trace lawful (first_domains trace (domains trace));
   written = written_fits trace;
   marks = length-replicate (length trace.inodes) false;
   queues = record {

@@ -1,12 +1,12 @@
 -- What each printed check decided: the control law, of what it printed.
 use Rattle.std.specs.Prelude.{◌≡◌, ℕ, ◌+◌, ◌<◌, ◌≤◌, ◌⊎◌, List, [], ◌∷◌, length, Contains}
 use Rattle.wbt_trace.specs.declared.trace.Trace.{Trace}
-use Rattle.wbt_estimate.specs.Estimate.{first_at}
 use Rattle.wbt_estimate.specs.declared.estimate.Estimate.{Estimate}
 use Rattle.wbt_journal.specs.Checks.{reads_by}
 use Rattle.wbt_journal.specs.declared.entry.CheckEntry.{CheckEntry}
 use Rattle.wbt_pause.specs.declared.pauses.TheConstants.{LONGEST_PAUSE}
 use Rattle.wbt_pause.specs.declared.reads.Task.{Task}
+use Rattle.wbt_rules.specs.First.{first_estimate}
 use Rattle.wbt_rules.specs.Strict.{is_strict}
 use Rattle.wbt_strict.specs.Decision.{decision_for}
 use Rattle.wbt_task.specs.declared.allowance.Due.TheVariants as due
@@ -24,10 +24,10 @@ abbrev pub IsPublished : (s : State) (cpus context : ℕ) (estimate : Estimate) 
 IsPublished s cpus context estimate =
     (i : ℕ) × (i < cpus) × Contains (cpu_of i s).estimates (record { context = context; estimate = estimate })
 
--- the estimate that a check names is the first one, or one that was published for its context
+-- the estimate that a check names is the first one of its context, or one that was published for it
 pub record IsNamed (trace : Trace) (s : State) (check : CheckEntry) (estimate : Estimate) : Type 0 where
   pub version : estimate.version ≡ check.estimate
-  pub told : (estimate ≡ first_at opening_moment) ⊎ IsPublished s trace.cpus check.context estimate
+  pub told : (estimate ≡ first_estimate trace check.context opening_moment) ⊎ IsPublished s trace.cpus check.context estimate
 
 -- The run was once where the check was made: the CPU had told just the checks before its place, and came to a decision in a turn of the
 -- check's task, of its context, which had loaded what the check prints. The check was due, the shares and the clock were those of the check, and the context's estimate

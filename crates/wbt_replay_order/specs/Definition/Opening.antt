@@ -11,7 +11,6 @@ use Rattle.wbt_trace.specs.declared.trace.Order.TheVariants as order
 use Rattle.wbt_trace.specs.declared.trace.TaskLine.{TaskLine}
 use Rattle.wbt_trace.specs.declared.trace.Trace.{Trace}
 use Rattle.wbt_book.specs.Book.{clean}
-use Rattle.wbt_estimate.specs.Estimate.{first_at}
 use Rattle.wbt_journal.specs.Machine.{domains}
 use Rattle.wbt_journal.specs.declared.timer.TimerEntry.{TimerEntry}
 use Rattle.wbt_journal.specs.declared.timer.TimerEntry.TheVariants as entry
@@ -19,6 +18,7 @@ use Rattle.wbt_limits.specs.Thresholds.{ratelimit_pages_of}
 use Rattle.wbt_task.specs.History.{new_writer}
 use Rattle.wbt_replay_moves.specs.Definition.Cpu.{turn_of}
 use Rattle.wbt_replay_moves.specs.Definition.State.{State, no_count, no_half, no_limits}
+use Rattle.wbt_rules.specs.First.{first_estimate}
 use Rattle.wbt_rules.specs.Strict.{is_strict}
 use Rattle.wbt_rules.specs.Things.{inode_of, flusher_device, leads}
 use Rattle.wbt_rules.specs.declared.moments.TheConstants.{TIMER_REST, PERIOD_TICKS}
@@ -60,8 +60,14 @@ abbrev pub first_domains : (trace : Trace) (n : ℕ) → List Domain
 first_domains trace zero = []
 first_domains trace (suc n) = first_domains trace n ++ first_domain (first_limits trace n) ∷ []
 
-abbrev pub first_context : Writeback
-first_context = record { count = no_count; written = 0; estimate = first_at opening_moment; part = no_half; cgroup_part = no_half }
+abbrev pub first_context : (trace : Trace) (context : ℕ) → Writeback
+first_context trace context =
+    record { count = no_count; written = 0; estimate = first_estimate trace context opening_moment; part = no_half; cgroup_part = no_half }
+
+-- so many contexts
+abbrev pub first_contexts : (trace : Trace) (n : ℕ) → List Writeback
+first_contexts trace zero = []
+first_contexts trace (suc n) = first_contexts trace n ++ first_context trace n ∷ []
 
 -- ---- tasks
 
@@ -226,7 +232,7 @@ opening trace = record {
   book = λ page. clean;
   ratelimit_pages = ratelimit_pages_of (first_limits trace 0).thresh trace.cpus;
   domains = first_domains trace (domains trace);
-  contexts = replicate (length trace.contexts) first_context;
+  contexts = first_contexts trace (length trace.contexts);
   marks = replicate (length trace.inodes) false;
   queues = replicate (length trace.devices) [];
   tasks = first_tasks trace (length trace.tasks);

@@ -1,6 +1,7 @@
 -- What a lawful trace says of its things by number.
-use Rattle.std.specs.Prelude.{◌≡◌, ℕ, ◌+◌, ◌^◌, ◌<◌, ◌≤◌, Bool, true, false, ◌==◌, length, count_by, All}
+use Rattle.std.specs.Prelude.{◌≡◌, ℕ, ◌+◌, ◌^◌, ◌<◌, ◌≤◌, Bool, true, false, ◌==◌, length, count_by, All, IfSome}
 use Rattle.wbt_num.specs.declared.most.TheConstants.{MOST_CPUS, MOST_CAP, MOST_PAGES, MOST_TASKS, MOST_FLUSHERS, MOST_CONTEXTS, MOST_CGROUPS, MOST_DEVICES, MOST_ORDER_LINES, MOST_ACTIONS, MOST_WRITERS}
+use Rattle.wbt_trace.specs.Lawful.{IsChunk, IsFirstEstimate}
 use Rattle.wbt_trace.specs.Sofar.{least_shares, pages_in}
 use Rattle.wbt_trace.specs.WriterList.{is_writer}
 use Rattle.wbt_trace.specs.declared.ranges.TheConstants.{MOST_PERCENT}
@@ -67,6 +68,9 @@ pub record Facts (trace : Trace) : Type 0 where
   pub context_group : (k : ℕ) → k < length trace.contexts → group_of trace k ≤ length trace.cgroups
   pub shares : (d : ℕ) → d < length trace.devices → ((device_at trace d).min ≤ (device_at trace d).max) × ((device_at trace d).max ≤ MOST_PERCENT)
   pub rate : (d : ℕ) → d < length trace.devices → 1 ≤ rate_of trace d
+  -- what lines say of scans and of first estimates is in range; a device or a context that isn't there has no such line
+  pub chunks : (d : ℕ) → IfSome (device_at trace d).chunk IsChunk
+  pub firsts : (k : ℕ) → IfSome (context_at trace k).estimate IsFirstEstimate
   pub flusher_cpu_is : (f : ℕ) → f < length trace.flushers → flusher_cpu trace f < trace.cpus
   pub flusher_device_is : (f : ℕ) → f < length trace.flushers → flusher_device trace f < length trace.devices
   -- each device has a flusher

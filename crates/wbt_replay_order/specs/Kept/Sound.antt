@@ -17,6 +17,7 @@ use Rattle.wbt_replay_moves.specs.Definition.Check.{writer_in}
 use Rattle.wbt_journal.specs.Machine.{batch_of}
 use Rattle.wbt_replay_moves.specs.Definition.Cpu.{own_of}
 use Rattle.wbt_replay_moves.specs.Definition.State.{State, cpu_of, no_cpu, no_task, no_flusher, no_domain, no_context, no_held}
+use Rattle.wbt_rules.specs.Flusher.{IsWithinChunk, chunk_at}
 use Rattle.wbt_rules.specs.declared.moments.TheConstants.{PERIOD_TICKS}
 use Rattle.wbt_rules.specs.declared.scan.Scan.{Scan}
 use Rattle.wbt_rules.specs.Things.{inode_of, context_of, device_of, end_of, group_of}
@@ -178,6 +179,7 @@ pub record IsScanAt (trace : Trace) (batch : List ℕ) (scan : Scan) : Type 0 wh
   pub behind : (inode_of trace scan.inode).first + length batch ≤ scan.page
   pub within : scan.page ≤ end_of trace scan.inode
   pub some : 1 ≤ scan.quota
+  pub few : length batch ≤ scan.quota
   pub ours : All (IsPageOf trace scan.inode) batch
 
 pub record IsFlightOf (trace : Trace) (batch : List ℕ) (inode pages : ℕ) : Type 0 where
@@ -202,8 +204,17 @@ abbrev pub WheelFits : (trace : Trace) (wheel : Option Wheel) → Type 0
 WheelFits trace None = Unit {0}
 WheelFits trace (Some list) = IsListOf trace list
 
-pub record IsFlusher (trace : Trace) (f : Flusher) : Type 0 where
+-- a scan ends with no more pages than the line of the flusher's device says
+abbrev pub IsQuotaOf : (trace : Trace) (flusher : ℕ) (phase : ReplayPhase) → Type 0
+IsQuotaOf trace flusher (phase.Idle until kept) = Unit {0}
+IsQuotaOf trace flusher (phase.Taken inode) = Unit {0}
+IsQuotaOf trace flusher (phase.Scanning scan) = IsWithinChunk (chunk_at trace flusher) scan.quota
+IsQuotaOf trace flusher (phase.Flying inode pages until) = Unit {0}
+IsQuotaOf trace flusher phase.Finished = Unit {0}
+
+pub record IsFlusher (trace : Trace) (flusher : ℕ) (f : Flusher) : Type 0 where
   pub phase : IsAt trace f.batch f.phase
+  pub quota : IsQuotaOf trace flusher f.phase
   pub hard : f.hard ≤ MAX_LIMIT
   pub measures : All (λ k. k < length trace.contexts) f.measures
   pub weighs : All (λ k. k < length trace.contexts) f.weighs
@@ -211,7 +222,7 @@ pub record IsFlusher (trace : Trace) (f : Flusher) : Type 0 where
 
 pub record AreFlushers (trace : Trace) (fs : List Flusher) : Type 0 where
   pub many : length fs ≡ length trace.flushers
-  pub each : (f : ℕ) → IsFlusher trace (get_or fs f no_flusher)
+  pub each : (f : ℕ) → IsFlusher trace f (get_or fs f no_flusher)
 
 -- ---- CPUs
 

@@ -247,11 +247,11 @@ IsFlying (phase.Scanning scan) = ⊥
 IsFlying (phase.Flying inode pages until) = Unit {0}
 IsFlying phase.Finished = ⊥
 
--- A scan comes to a page of its inode next; a flight has a page to complete.
+-- A scan comes to a page of its inode next, and has room for it; a flight has a page to complete.
 abbrev pub IsOpenAt : (trace : Trace) (batch : List ℕ) (phase : ReplayPhase) → Type 0
 IsOpenAt trace batch (phase.Idle until kept) = Unit {0}
 IsOpenAt trace batch (phase.Taken inode) = Unit {0}
-IsOpenAt trace batch (phase.Scanning scan) = scan.page < end_of trace scan.inode
+IsOpenAt trace batch (phase.Scanning scan) = (scan.page < end_of trace scan.inode) × (length batch < scan.quota)
 IsOpenAt trace batch (phase.Flying inode pages until) = 1 ≤ length batch
 IsOpenAt trace batch phase.Finished = Unit {0}
 

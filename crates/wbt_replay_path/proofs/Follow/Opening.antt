@@ -29,7 +29,7 @@ use Rattle.wbt_replay_moves.specs.declared.state.Writeback.{Writeback}
 use Rattle.wbt_run_laws.proofs.Lists.{longer_none}
 use Rattle.wbt_replay_order.specs.Claims.Path.{held_as}
 use Rattle.wbt_replay_order.specs.Claims.Setting.{writers_in, writer_at, setting_of}
-use Rattle.wbt_replay_order.specs.Definition.Opening.{opening, first_limits, first_domain, first_domains, first_context, works_of, first_task, first_tasks, first_flusher, first_flushers, first_cpu, first_cpus, first_held, first_entries}
+use Rattle.wbt_replay_order.specs.Definition.Opening.{opening, first_limits, first_domain, first_domains, first_context, first_contexts, works_of, first_task, first_tasks, first_flusher, first_flushers, first_cpu, first_cpus, first_held, first_entries}
 use Rattle.wbt_replay_order.specs.Kept.Facts.{Facts}
 use Rattle.wbt_replay_order.specs.Kept.Following.{Suits, heights_of, ScansInside, batch_on, batched, own_in, count_in, FollowsCpu, Follows}
 use Rattle.wbt_replay_path.proofs.Follow.Setting.{suits_of}
@@ -100,10 +100,11 @@ module _ (trace : Trace) where
       (λ f. if_nothing (eqb (flusher_cpu trace f) i) _
       (numbered_each (first_flusher trace) (first_flushers trace) refl (λ n. refl) (λ (x : Flusher). times_in p x.batch ≡ 0) (length trace.flushers) f no_flusher (λ k. refl) refl))
 
-  none_counted : (x : Counter) → count_in x (first_domains trace (domains trace)) (replicate (length trace.contexts) first_context) ≡ no_count
+  none_counted : (x : Counter) → count_in x (first_domains trace (domains trace)) (first_contexts trace (length trace.contexts)) ≡ no_count
   none_counted (ofDomain d) =
       numbered_each (λ k. first_domain (first_limits trace k)) (first_domains trace) refl (λ n. refl) (λ (q : Domain). q.count ≡ no_count) (domains trace) d no_domain (λ k. refl) refl
-  none_counted (ofContext k) = repeated (λ (q : Writeback). q.count ≡ no_count) (length trace.contexts) k first_context no_context refl refl
+  none_counted (ofContext k) =
+      numbered_each (first_context trace) (first_contexts trace) refl (λ n. refl) (λ (q : Writeback). q.count ≡ no_count) (length trace.contexts) k no_context (λ n. refl) refl
 
   domain_is : (d : ℕ) → d < domains trace → get_or (first_domains trace (domains trace)) d no_domain ≡ first_domain (first_limits trace d)
   domain_is d less = numbered (λ k. first_domain (first_limits trace k)) (first_domains trace) refl (λ n. refl) (domains trace) d no_domain less

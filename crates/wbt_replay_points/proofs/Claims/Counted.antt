@@ -126,7 +126,7 @@ turned : (a b : ℕ) → eqb a b ≡ eqb b a
 turned a b = dite (ℕ_discrete a b) (λ e. eq-eqb a b e ∙ sym (eq-eqb b a (sym e))) (λ e. ne_eqb a b e ∙ sym (ne_eqb b a (λ q. e (sym q))))
 
 home_at : (contexts : List Context) (k d : ℕ) → k < length contexts
-    → is_some_of d (slice_get (map (λ c. c.domain) contexts) k) ≡ eqb d (get_or contexts k (record { device = 0; domain = 0; expire = None })).domain
+    → is_some_of d (slice_get (map (λ c. c.domain) contexts) k) ≡ eqb d (get_or contexts k (record { device = 0; domain = 0; expire = None; estimate = None })).domain
 home_at [] k d less = absurd (omega (arith, less))
 home_at (c ∷ contexts) zero d less = turned c.domain d
 home_at (c ∷ contexts) (suc k) d less = home_at contexts k d (omega (arith, less))
@@ -161,7 +161,7 @@ same_bound trace hard d =
     counted_by_number (λ (w : Writer). replay.is_inside d (group_of trace w.context)) (record { task = 0; context = 0 }) (writers_in trace)
     ∙ sym (counted_map (replay.is_inside d) (λ (w : Writer). group_of trace w.context) (writers_in trace)) in
     let contexts : total (length trace.contexts) (λ k. one_if (is_inside set d k)) ≡ count_by (λ c. replay.is_inside d c.domain) trace.contexts =
-    counted_by_number (λ (c : Context). replay.is_inside d c.domain) (record { device = 0; domain = 0; expire = None }) trace.contexts in
+    counted_by_number (λ (c : Context). replay.is_inside d c.domain) (record { device = 0; domain = 0; expire = None; estimate = None }) trace.contexts in
     ap (λ (n : ℕ). hard d + fixed_bound trace.cpus n trace.cap (total (length trace.contexts) (λ k. one_if (is_inside set d k)))) writers
     ∙ ap (λ (n : ℕ). hard d + fixed_bound trace.cpus (count_by (replay.is_inside d) (writer_homes trace)) trace.cap n) contexts
     ∙ omega arith

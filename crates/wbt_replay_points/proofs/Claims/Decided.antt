@@ -2,12 +2,12 @@
 use Rattle.std.proofs.Common.{◌≡◌, ℕ, zero, suc, ◌+◌, ◌<◌, ◌≤◌, ◌⊎◌, inl, inr, List, [], ◌∷◌, ◌++◌, length, get_or, Contains, refl, sym, ◌∙◌, ap, subst, arith, length-append, Option, Some, None, ⊎_elim, Bool}
 use Rattle.std.proofs.Math.ListN.{set}
 use Rattle.std.proofs.lemmas.Bool.{cases_Bool, cases_lt}
-use Rattle.std.proofs.lemmas.List.{get_or_past, get_or_append_left, get_or_push, get_or-set_same, get_or-set_other, get_or-replicate, length-set, length-replicate}
+use Rattle.std.proofs.lemmas.List.{get_or_past, get_or_append_left, get_or_push, get_or-set_same, get_or-set_other, length-set}
 use Rattle.std.proofs.lemmas.List.Elements.{Contains-push, Contains-append_left}
 use mathlib.Core.Logic.{dite}
 use native.Mathlib.Decide.{ℕ_discrete}
 use Rattle.wbt_trace.specs.declared.trace.Trace.{Trace}
-use Rattle.wbt_estimate.specs.Estimate.{first_at, update_of}
+use Rattle.wbt_estimate.specs.Estimate.{update_of}
 use Rattle.wbt_estimate.specs.declared.estimate.Estimate.{Estimate}
 use Rattle.wbt_flex.specs.Proportions.{after_period}
 use Rattle.wbt_flex.specs.declared.half.Half.{Half}
@@ -15,6 +15,7 @@ use Rattle.wbt_journal.specs.declared.entry.CheckEntry.{CheckEntry}
 use Rattle.wbt_journal.specs.declared.entry.DomainLine.{DomainLine}
 use Rattle.wbt_journal.specs.declared.entry.EstEntry.{EstEntry}
 use Rattle.wbt_pause.proofs.Deciding.{longest_within_200}
+use Rattle.wbt_rules.specs.First.{first_estimate}
 use Rattle.wbt_rules.specs.Strict.{is_strict}
 use Rattle.wbt_strict.proofs.Deciding.{pauses_within_longest}
 use Rattle.wbt_strict.specs.Decision.{decision_for}
@@ -45,13 +46,14 @@ use Rattle.wbt_replay_moves.specs.declared.todo.TimerTodo.TheVariants as timer_t
 use Rattle.wbt_replay_moves.specs.declared.todo.Todo.{Todo}
 use Rattle.wbt_replay_moves.specs.declared.todo.Todo.TheVariants as todo
 use Rattle.wbt_replay_order.specs.Claims.Decided.{IsPublished, WasAsked, IsDecided, EachFrom, AreDecided}
-use Rattle.wbt_replay_order.specs.Definition.Opening.{opening, opening_moment, first_cpu, first_cpus, first_context}
+use Rattle.wbt_replay_order.specs.Definition.Opening.{opening, opening_moment, first_cpu, first_cpus, first_context, first_contexts}
 use Rattle.wbt_replay_order.specs.Definition.Order.{is_ended}
 use Rattle.wbt_replay_order.specs.Definition.Run.{most_moves, state_at}
 use Rattle.wbt_replay_order.proofs.Facts.Lists.{either}
 use Rattle.wbt_replay_order.proofs.Growth.Advancing.{advance_keeps}
 use Rattle.wbt_replay_order.proofs.Growth.Runs.{run_none, run_last, run_stays}
 use Rattle.wbt_replay_order.proofs.Growth.Quiet.{Quiet, same_at, quiet_cpu}
+use Rattle.wbt_replay_order.proofs.Outset.Numbered.{numbered_length, numbered_at}
 
 -- ---- estimates that were published
 
@@ -60,7 +62,7 @@ abbrev pub StaysPublished : (s u : State) → Type 0
 StaysPublished s u = (i : ℕ) (e : EstEntry) → Contains (cpu_of i s).estimates e → Contains (cpu_of i u).estimates e
 
 published_on : (trace : Trace) (s u : State) → StaysPublished s u → (context : ℕ) (e : Estimate)
-    → (e ≡ first_at opening_moment) ⊎ IsPublished s trace.cpus context e → (e ≡ first_at opening_moment) ⊎ IsPublished u trace.cpus context e
+    → (e ≡ first_estimate trace context opening_moment) ⊎ IsPublished s trace.cpus context e → (e ≡ first_estimate trace context opening_moment) ⊎ IsPublished u trace.cpus context e
 published_on trace s u stays context e = ⊎_elim (λ first. inl first)
     (λ there. inr (there.0, there.1, stays there.0 (record { context = context; estimate = e }) there.2))
 
@@ -91,7 +93,7 @@ pub record HasDecided (trace : Trace) (s : State) : Type 0 where
   pub seats : length s.cpus ≡ trace.cpus
   pub places : length s.contexts ≡ length trace.contexts
   pub told : (k : ℕ) → k < length trace.contexts
-      → ((writeback_of k s).estimate ≡ first_at opening_moment) ⊎ IsPublished s trace.cpus k (writeback_of k s).estimate
+      → ((writeback_of k s).estimate ≡ first_estimate trace k opening_moment) ⊎ IsPublished s trace.cpus k (writeback_of k s).estimate
   pub decided : (i : ℕ) → i < trace.cpus → EachFrom (IsDecided trace s i) 0 (cpu_of i s).checks
 
 -- a check that is decided next is due, in a context that there is
@@ -122,7 +124,7 @@ module _ (trace : Trace) where
         places = ap (λ (ws : List Writeback). length ws) contexts ∙ h.places;
         told = λ k less.
             let same : (writeback_of k u).estimate ≡ (writeback_of k s).estimate = ap (λ (ws : List Writeback). (get_or ws k no_context).estimate) contexts in
-            subst (λ (e : Estimate). (e ≡ first_at opening_moment) ⊎ IsPublished u trace.cpus k e) (sym same)
+            subst (λ (e : Estimate). (e ≡ first_estimate trace k opening_moment) ⊎ IsPublished u trace.cpus k e) (sym same)
             (published_on trace s u stays k (writeback_of k s).estimate (h.told k less));
         decided = λ i less.
             all_decided_on trace s u stays i 0 (cpu_of i u).checks
@@ -136,7 +138,7 @@ module _ (trace : Trace) where
         seats = quiet.seats ∙ h.seats;
         places = quiet.places ∙ h.places;
         told = λ k less.
-            subst (λ (e : Estimate). (e ≡ first_at opening_moment) ⊎ IsPublished u trace.cpus k e) (sym (quiet.estimate k))
+            subst (λ (e : Estimate). (e ≡ first_estimate trace k opening_moment) ⊎ IsPublished u trace.cpus k e) (sym (quiet.estimate k))
             (published_on trace s u stays k (writeback_of k s).estimate (h.told k less));
         decided = λ i less.
             all_decided_on trace s u stays i 0 (cpu_of i u).checks
@@ -267,11 +269,11 @@ module _ (trace : Trace) where
             ∙ ap (λ (x : Writeback). x.estimate) (get_or-set_same s.contexts context w no_context (omega (arith, same, k_less, h.places))) in
             let published : IsPublished u trace.cpus context e =
             (cpu, omega (arith, less, h.seats), subst (λ (es : List EstEntry). Contains es est) (sym here) (Contains-push (cpu_of cpu s).estimates est)) in
-            subst (λ (x : Estimate). (x ≡ first_at opening_moment) ⊎ IsPublished u trace.cpus k x) (sym new)
+            subst (λ (x : Estimate). (x ≡ first_estimate trace k opening_moment) ⊎ IsPublished u trace.cpus k x) (sym new)
             (inr (subst (λ (n : ℕ). IsPublished u trace.cpus n e) (sym same) published)))
             (λ apart.
             let old : (writeback_of k u).estimate ≡ (writeback_of k s).estimate = ap (λ (x : Writeback). x.estimate) (get_or-set_other s.contexts context k w no_context apart) in
-            subst (λ (x : Estimate). (x ≡ first_at opening_moment) ⊎ IsPublished u trace.cpus k x) (sym old)
+            subst (λ (x : Estimate). (x ≡ first_estimate trace k opening_moment) ⊎ IsPublished u trace.cpus k x) (sym old)
             (published_on trace s u stays k (writeback_of k s).estimate (h.told k k_less)));
         decided = λ i i_less.
             let same : (cpu_of i u).checks ≡ (cpu_of i s).checks = same_at (λ (x : Cpu). x.checks) s.cpus cpu c no_cpu refl i in
@@ -340,8 +342,8 @@ module _ (trace : Trace) where
   unfolding opening
   opening_decided = record {
     seats = many_first trace.cpus;
-    places = length-replicate (length trace.contexts) first_context;
-    told = λ k less. inl (ap (λ (w : Writeback). w.estimate) (get_or-replicate (length trace.contexts) k first_context no_context less));
+    places = numbered_length (first_contexts trace) (first_context trace) no_context refl (λ n. refl) (length trace.contexts);
+    told = λ k less. inl (ap (λ (w : Writeback). w.estimate) (numbered_at (first_contexts trace) (first_context trace) no_context refl (λ n. refl) (length trace.contexts) k less));
     decided = λ i less. subst (λ (cs : List CheckEntry). EachFrom (IsDecided trace (opening trace) i) 0 cs) (sym (no_checks trace.cpus i)) tt;
   }
 

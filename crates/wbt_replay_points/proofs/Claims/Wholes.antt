@@ -48,7 +48,7 @@ left_in_order (suc pages) page least book from =
 
 -- ---- homes
 
-all_based : (most : ℕ) (contexts : List Context) → ((k : ℕ) → k < length contexts → (get_or contexts k (record { device = 0; domain = 0; expire = None })).domain ≤ most)
+all_based : (most : ℕ) (contexts : List Context) → ((k : ℕ) → k < length contexts → (get_or contexts k (record { device = 0; domain = 0; expire = None; estimate = None })).domain ≤ most)
     → Each (λ home. home < suc most) (map (λ c. c.domain) contexts)
 all_based most [] all = tt
 all_based most (c ∷ contexts) all = (omega (arith, all 0 (omega arith)), all_based most contexts (λ k less. all (suc k) (omega (arith, less))))

@@ -2,8 +2,8 @@
 use Rattle.std.proofs.Common.{inl, inr, ◌≡◌, ℕ, zero, suc, ◌+◌, ◌<◌, Bool, true, false, ◌||◌, ◌&&◌, not, eqb, List, [], ◌∷◌, length, map, flat_map, get_or, All, Option, Some, None, IfSome, refl, sym, ◌∙◌, ap, subst, arith, eq-eqb, eqb-true, true≢false, ⊎_elim}
 use Rattle.std.proofs.lemmas.Bool.{cases_Bool, cond-true}
 use Rattle.std.proofs.lemmas.List.{get_or-replicate, length-replicate, nil_from_length}
-use Rattle.wbt_estimate.specs.Estimate.{first_at}
 use Rattle.wbt_estimate.specs.declared.estimate.Estimate.{Estimate}
+use Rattle.wbt_rules.specs.First.{first_estimate}
 use Rattle.wbt_rules.specs.Things.{context_of}
 use Rattle.wbt_task.specs.Allowance.{first}
 use Rattle.wbt_task.specs.History.{new_cpu, new_writer}
@@ -240,10 +240,10 @@ module _ (trace : Trace) (facts : Facts trace) (sides : HasSides trace (last_sta
   names_it x (item (tells cpu e)) by = by_check (effect e).check by
     where
       by_check : (which : Option CheckEntry) → IfSome which (DecidesNamed trace (among trace s) x)
-          → IfSome which (λ (check : CheckEntry). is_own_task trace cpu check.task ≡ true → DecidesBy trace x check (named_estimate opening_moment (joined parts) check))
+          → IfSome which (λ (check : CheckEntry). is_own_task trace cpu check.task ≡ true → DecidesBy trace x check (named_estimate trace opening_moment (joined parts) check))
       by_check None h = tt
       by_check (Some check) h = λ owns.
-          subst (λ (l : List Estimate). DecidesBy trace x check (nth_estimate check.estimate (first_at opening_moment ∷ l))) (sym (estimated.all_of trace facts estimates logs seats check.context h.0)) h.1
+          subst (λ (l : List Estimate). DecidesBy trace x check (nth_estimate check.estimate (first_estimate trace check.context opening_moment ∷ l))) (sym (estimated.all_of trace facts estimates logs seats check.context h.0)) h.1
 
   has_checks : (c : ℕ) → c < length s.cpus → HasChecks trace opening_moment (joined parts) (ending_of s) c (told_of (cpu_of c s))
   has_checks c low =

@@ -6,12 +6,12 @@ use Rattle.std.proofs.lemmas.Bool.{cases_Bool, cond-true, cond-false}
 use Rattle.std.proofs.lemmas.List.{append-nil, get_or-set_same, get_or-set_other, length-set, set-set}
 use mathlib.Core.Logic.{dite}
 use native.Mathlib.Decide.{ℕ_discrete}
-use Rattle.wbt_estimate.specs.Estimate.{first_at}
 use Rattle.wbt_estimate.specs.declared.estimate.Estimate.{Estimate}
 use Rattle.wbt_flex.specs.Proportions.{after_period}
 use Rattle.wbt_flex.specs.declared.half.Half.{Half}
 use Rattle.wbt_grant.specs.declared.who.StepKind.TheVariants as kind
 use Rattle.wbt_pause.specs.declared.decision.Decision.{Decision}
+use Rattle.wbt_rules.specs.First.{first_estimate}
 use Rattle.wbt_rules.specs.Things.{context_of, group_of}
 use Rattle.wbt_task.specs.History.{new_writer, wrote_page, wrote_writer, checked_writer}
 use Rattle.wbt_task.specs.declared.allowance.CpuLocal.{CpuLocal}
@@ -293,8 +293,8 @@ module _ (trace : Trace) (facts : Facts trace) (pages_there : (inode page : ℕ)
       let stands : StandsAs trace cpu (cpu_of cpu s).local (views u) side =
       check_stands trace opening_moment cpu task mine (cpu_of cpu s).local (views s) its_own.side its_own.stands by_itself now.is_due decision (views u) others is in
       let e : Estimate = (writeback_of k s).estimate in
-      let found : nth_estimate e.version (first_at opening_moment ∷ among trace s k) ≡ Some e =
-      ap (λ (n : ℕ). nth_estimate n (first_at opening_moment ∷ among trace s k)) (h.0.version k now.context_there) ∙ last_named (first_at opening_moment) (among trace s k)
+      let found : nth_estimate e.version (first_estimate trace k opening_moment ∷ among trace s k) ≡ Some e =
+      ap (λ (n : ℕ). nth_estimate n (first_estimate trace k opening_moment ∷ among trace s k)) (h.0.version k now.context_there) ∙ last_named (first_estimate trace k opening_moment) (among trace s k)
       ∙ ap (λ (z : Estimate). Some z) (h.0.chain k now.context_there).reached in
       let numbers : task_numbers trace its_own.side check ≡ (get_or (task_of task s).writers k (new_writer 0)).task =
       ap (λ (z : Writer). z.task) (checked_writer_is trace opening_moment cpu task mine (cpu_of cpu s).local (views s) its_own.side its_own.stands by_itself now.is_due) in
@@ -305,7 +305,7 @@ module _ (trace : Trace) (facts : Facts trace) (pages_there : (inode page : ℕ)
               (
                 now.context_there,
                 subst (DecidesBy trace its_own.side check)
-                    (sym (ap (λ (l : List Estimate). nth_estimate e.version (first_at opening_moment ∷ l)) (longer k).is ∙ nth_more e.version (first_at opening_moment ∷ among trace s k) (longer k).more e found)) decided,
+                    (sym (ap (λ (l : List Estimate). nth_estimate e.version (first_estimate trace k opening_moment ∷ l)) (longer k).is ∙ nth_more e.version (first_estimate trace k opening_moment ∷ among trace s k) (longer k).more e found)) decided,
               ),
               tt,
             ))

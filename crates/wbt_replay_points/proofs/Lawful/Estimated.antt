@@ -1,17 +1,19 @@
 -- At each moment of a run the estimates of a context are told by one CPU and follow one another, and checks name them.
-use Rattle.std.proofs.Common.{◌≡◌, ◌≢◌, ℕ, zero, suc, ◌+◌, ◌<◌, ◌≤◌, Bool, true, false, eqb, nat_lt, replicate, List, [], ◌∷◌, ◌++◌, length, map, get_or, Some, IfSome, refl, sym, ◌∙◌, ap, subst, arith, eq-eqb, ne_eqb, true≢false, ⊎_elim}
+use Rattle.std.proofs.Common.{◌≡◌, ◌≢◌, ℕ, zero, suc, ◌+◌, ◌<◌, ◌≤◌, Bool, true, false, eqb, nat_lt, List, [], ◌∷◌, ◌++◌, length, map, get_or, Some, IfSome, refl, sym, ◌∙◌, ap, subst, arith, eq-eqb, ne_eqb, true≢false, ⊎_elim}
 use Rattle.std.proofs.Math.ListN.{set}
 use Rattle.std.proofs.lemmas.Bool.{cases_Bool, cases_lt, lt-ltb, cond-false, ltb-true}
-use Rattle.std.proofs.lemmas.List.{length-set, get_or-replicate, length-replicate, length-map}
+use Rattle.std.proofs.lemmas.List.{length-set, length-map}
 use Rattle.wbt_counter.specs.declared.counter.Count.{Count}
 use Rattle.wbt_counter.specs.declared.counter.Counter.{Counter}
 use Rattle.wbt_counter.specs.declared.counter.Counter.TheVariants.{Domain as ofDomain, Context as ofContext}
-use Rattle.wbt_estimate.specs.Estimate.{update_of, first_at}
+use Rattle.wbt_estimate.specs.Estimate.{update_of}
 use Rattle.wbt_estimate.specs.declared.estimate.Estimate.{Estimate}
 use Rattle.wbt_flex.specs.Proportions.{aged, added}
 use Rattle.wbt_flex.specs.declared.half.Half.{Half}
 use Rattle.wbt_rules.specs.Things.{context_of, context_at, first_flusher as leader}
+use Rattle.wbt_rules.specs.First.{first_estimate}
 use Rattle.wbt_rules.specs.declared.scan.Scan.{Scan}
+use Rattle.wbt_rules.proofs.Openings.{first_version}
 use Rattle.wbt_trace.specs.declared.trace.Trace.{Trace}
 use Rattle.wbt_journal.specs.Each.{Each}
 use Rattle.wbt_journal.specs.Effects.{effect, WaitMove, notices, ages, takes_first}
@@ -32,7 +34,7 @@ use Rattle.wbt_replay_moves.specs.Definition.Writer.{end_now}
 use Rattle.wbt_replay_moves.specs.declared.state.Cpu.{Cpu}
 use Rattle.wbt_replay_moves.specs.declared.state.Flusher.{Flusher}
 use Rattle.wbt_replay_moves.specs.declared.state.ReplayPhase.TheVariants as phase
-use Rattle.wbt_replay_order.specs.Definition.Opening.{opening, first_cpu, first_cpus, first_flusher, first_flushers, first_context, opening_moment, measures_of}
+use Rattle.wbt_replay_order.specs.Definition.Opening.{opening, first_cpu, first_cpus, first_flusher, first_flushers, first_context, first_contexts, opening_moment, measures_of}
 use Rattle.wbt_replay_order.specs.Definition.Order.{advance, is_ended}
 use Rattle.wbt_replay_order.specs.Definition.Run.{state_at, last_state, part_of, journal_of, most_moves}
 use Rattle.wbt_replay_order.specs.Kept.Facts.{IsTaskOn, Facts, IsPageOf}
@@ -41,7 +43,7 @@ use Rattle.wbt_replay_order.specs.Kept.Turns.{is_measured}
 use Rattle.wbt_replay_order.proofs.Growth.Quiet.{same_at, is_name}
 use Rattle.wbt_replay_order.proofs.Growth.Runs.{run_none, run_last, run_stays}
 use Rattle.wbt_replay_order.proofs.Facts.Lists.{either}
-use Rattle.wbt_replay_order.proofs.Outset.Numbered.{numbered_all, numbered_at}
+use Rattle.wbt_replay_order.proofs.Outset.Numbered.{numbered_length, numbered_all, numbered_at}
 use Rattle.wbt_replay_points.proofs.Lawful.Plainly.{steps_seen, moves_seen, see_turn}
 use Rattle.wbt_replay_points.proofs.Lawful.Now.{DecidesNow, EndsNow, ScansNow, CompletesNow, EstimatesNow, entry_of, ListsNow}
 use Rattle.wbt_replay_points.proofs.Lawful.Leaving.{KnownWrites, FreshWrites, alone, over_known, over_fresh, over_step, over_move}
@@ -97,8 +99,8 @@ module _ (trace : Trace) (facts : Facts trace) where
         measures = λ f less. measures f ∙ h.measures f less;
         silent = λ i k other. told i k ∙ h.silent i k other;
         chain = λ k less.
-            subst (λ (l : List Estimate). Walked Follows newer (first_at opening_moment) l (estimate_at ks2 k)) (sym (told (publisher trace k) k))
-            (subst (λ (e : Estimate). Walked Follows newer (first_at opening_moment) (estimates_on k (get_or cpus (publisher trace k) no_cpu)) e) (sym (same k)) (h.chain k less));
+            subst (λ (l : List Estimate). Walked Follows newer (first_estimate trace k opening_moment) l (estimate_at ks2 k)) (sym (told (publisher trace k) k))
+            (subst (λ (e : Estimate). Walked Follows newer (first_estimate trace k opening_moment) (estimates_on k (get_or cpus (publisher trace k) no_cpu)) e) (sym (same k)) (h.chain k less));
         version = λ k less. ap (λ (e : Estimate). e.version) (same k) ∙ h.version k less ∙ ap (λ (l : List Estimate). length l) (sym (told (publisher trace k) k));
         named = λ i. subst (λ (q : List Entry × List CheckEntry × List EstEntry). Each (IsNamedIn trace ks2) q.1) (sym (logs i))
             (each_weaker (IsNamedIn trace ks) (IsNamedIn trace ks2) (λ check is. (is.0, (let more = up check.context in omega (arith, is.1, more)))) (get_or cpus i no_cpu).checks (h.named i));
@@ -230,33 +232,29 @@ module _ (trace : Trace) (facts : Facts trace) where
 
   -- ---- the opening, and each moment
 
-  first_version : (first_at opening_moment).version ≡ 0
-  unfolding first_at
-  first_version = refl
-
   pub first_estimates : HasEstimates trace (opening trace)
   unfolding opening
   first_estimates =
       let n : ℕ = length trace.contexts in
       let none : (i k : ℕ) → estimates_on k (get_or (first_cpus trace trace.cpus) i no_cpu) ≡ [] =
       λ i k. numbered_all (first_cpus trace) (first_cpu trace) no_cpu refl (λ j. refl) (λ j c. estimates_on k c ≡ []) (λ j. refl) (λ j. refl) trace.cpus i in
-      let first : (k : ℕ) → k < n → estimate_at (replicate n first_context) k ≡ first_at opening_moment =
-      λ k less. ap (λ (w : Writeback). w.estimate) (get_or-replicate n k first_context no_context less) in
+      let first : (k : ℕ) → k < n → estimate_at (first_contexts trace n) k ≡ first_estimate trace k opening_moment =
+      λ k less. ap (λ (w : Writeback). w.estimate) (numbered_at (first_contexts trace) (first_context trace) no_context refl (λ j. refl) n k less) in
       record {
         order = numbered_all (first_cpus trace) (first_cpu trace) no_cpu refl (λ j. refl) (λ j c. IsInOrder c) (λ j. (refl, refl)) (λ j. (refl, refl)) trace.cpus;
-        places = length-replicate n first_context;
+        places = numbered_length (first_contexts trace) (first_context trace) no_context refl (λ j. refl) n;
         measures = λ f less. ap (λ (v : Flusher). v.measures) (numbered_at (first_flushers trace) (first_flusher trace) no_flusher refl (λ j. refl) (length trace.flushers) f less);
         silent = λ i k other. none i k;
         chain = λ k less.
-            subst (λ (l : List Estimate). Walked Follows newer (first_at opening_moment) l (estimate_at (replicate n first_context) k)) (sym (none (publisher trace k) k))
+            subst (λ (l : List Estimate). Walked Follows newer (first_estimate trace k opening_moment) l (estimate_at (first_contexts trace n) k)) (sym (none (publisher trace k) k))
             (record { allowed = tt; reached = sym (first k less) });
-        version = λ k less. ap (λ (e : Estimate). e.version) (first k less) ∙ first_version ∙ ap (λ (l : List Estimate). length l) (sym (none (publisher trace k) k));
-        named = numbered_all (first_cpus trace) (first_cpu trace) no_cpu refl (λ j. refl) (λ j c. Each (IsNamedIn trace (replicate n first_context)) c.checks) (λ j. tt) (λ j. tt) trace.cpus;
-        names = numbered_all (first_cpus trace) (first_cpu trace) no_cpu refl (λ j. refl) (λ j c. HasNames j c (replicate n first_context)) (λ j. none_named) (λ j. none_named) trace.cpus;
+        version = λ k less. ap (λ (e : Estimate). e.version) (first k less) ∙ first_version trace k opening_moment ∙ ap (λ (l : List Estimate). length l) (sym (none (publisher trace k) k));
+        named = numbered_all (first_cpus trace) (first_cpu trace) no_cpu refl (λ j. refl) (λ j c. Each (IsNamedIn trace (first_contexts trace n)) c.checks) (λ j. tt) (λ j. tt) trace.cpus;
+        names = numbered_all (first_cpus trace) (first_cpu trace) no_cpu refl (λ j. refl) (λ j c. HasNames j c (first_contexts trace n)) (λ j. none_named) (λ j. none_named) trace.cpus;
       }
     where
-      none_named : Walks HasNamed NamesGoOn names_after known_none [] (known_of (replicate (length trace.contexts) first_context))
-      none_named = walks_silent HasNamed NamesGoOn names_after known_none (known_of (replicate (length trace.contexts) first_context)) [] tt (λ seen has k version low. has k version (omega arith))
+      none_named : Walks HasNamed NamesGoOn names_after known_none [] (known_of (first_contexts trace (length trace.contexts)))
+      none_named = walks_silent HasNamed NamesGoOn names_after known_none (known_of (first_contexts trace (length trace.contexts))) [] tt (λ seen has k version low. has k version (omega arith))
 
   module _ (sound : (moves : ℕ) → Sound trace (state_at trace moves)) where
     pub estimated_at : (moves : ℕ) → HasEstimates trace (state_at trace moves)
@@ -327,8 +325,8 @@ module _ (trace : Trace) (facts : Facts trace) (estimates : HasEstimates trace (
   estimates_up =
       subst (λ (n : ℕ). Along (EstimatesFollow trace n) estimates_after [] (items_from 0 parts)) (sym opened_is)
       (follow_parts trace opening_moment 0 parts [] named_all (λ k. ⊎_elim
-      (λ less. subst (λ (l : List Estimate). Along Follows newer (first_at opening_moment) l) (sym (all_of k less)) (estimates.chain k less).allowed)
-      (λ past. subst (λ (l : List Estimate). Along Follows newer (first_at opening_moment) l) (sym (no_estimates k (joined parts) named_all past)) tt)
+      (λ less. subst (λ (l : List Estimate). Along Follows newer (first_estimate trace k opening_moment) l) (sym (all_of k less)) (estimates.chain k less).allowed)
+      (λ past. subst (λ (l : List Estimate). Along Follows newer (first_estimate trace k opening_moment) l) (sym (no_estimates k (joined parts) named_all past)) tt)
       (cases_lt k (length trace.contexts))))
 
   pub named_right : NamesAreOfEstimates trace (journal_of trace)

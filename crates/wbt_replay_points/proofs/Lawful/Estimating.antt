@@ -6,10 +6,11 @@ use Rattle.std.proofs.lemmas.Bool.Decides.{nat_tests}
 use Rattle.std.proofs.lemmas.List.{get_or-set_same, get_or-set_other, length-set, map-append}
 use mathlib.Core.Logic.{dite}
 use native.Mathlib.Decide.{ℕ_discrete}
-use Rattle.wbt_estimate.specs.Estimate.{first_at, updated, update_of, elapsed_since}
+use Rattle.wbt_estimate.specs.Estimate.{updated, update_of, elapsed_since}
 use Rattle.wbt_estimate.specs.declared.estimate.Estimate.{Estimate}
 use Rattle.wbt_estimate.specs.declared.estimate.Sample.{Sample}
 use Rattle.wbt_published.specs.declared.known.Known.{Known}
+use Rattle.wbt_rules.specs.First.{first_estimate}
 use Rattle.wbt_rules.specs.Things.{context_at, flusher_cpu, flusher_device, first_flusher, leads}
 use Rattle.wbt_trace.specs.declared.trace.Context.{Context}
 use Rattle.wbt_trace.specs.declared.trace.Trace.{Trace}
@@ -44,7 +45,7 @@ abbrev pub publisher : (trace : Trace) (context : ℕ) → ℕ
 publisher trace context = flusher_cpu trace (first_flusher (context_at trace context).device 0 trace.flushers)
 
 abbrev no_line : Context
-no_line = record { device = 0; domain = 0; expire = None }
+no_line = record { device = 0; domain = 0; expire = None; estimate = None }
 
 measured_more : (k : ℕ) (xs : List ℕ) (x : ℕ) → is_measured k (xs ++ x ∷ []) ≡ true → (is_measured k xs ≡ true) ⊎ (x ≡ k)
 measured_more k [] x is = by (eqb x k) refl is
@@ -131,7 +132,7 @@ pub record AreEstimated (trace : Trace) (cpus : List Cpu) (flushers : List Flush
   pub measures : (f : ℕ) → f < length trace.flushers → (get_or flushers f no_flusher).measures ≡ measures_of trace f
   pub silent : (i k : ℕ) → i ≢ publisher trace k → estimates_on k (get_or cpus i no_cpu) ≡ []
   pub chain : (k : ℕ) → k < length trace.contexts
-      → Walked Follows newer (first_at opening_moment) (estimates_on k (get_or cpus (publisher trace k) no_cpu)) (get_or ks k no_context).estimate
+      → Walked Follows newer (first_estimate trace k opening_moment) (estimates_on k (get_or cpus (publisher trace k) no_cpu)) (get_or ks k no_context).estimate
   pub version : (k : ℕ) → k < length trace.contexts → (get_or ks k no_context).estimate.version ≡ length (estimates_on k (get_or cpus (publisher trace k) no_cpu))
   pub named : (i : ℕ) → Each (IsNamedIn trace ks) (get_or cpus i no_cpu).checks
   pub names : (i : ℕ) → HasNames i (get_or cpus i no_cpu) ks
@@ -180,7 +181,7 @@ module _ (trace : Trace) (cpus : List Cpu) (flushers : List Flusher) (ks : List 
         places = h.places;
         measures = h.measures;
         silent = λ i k other. same i k ∙ h.silent i k other;
-        chain = λ k less. subst (λ (l : List Estimate). Walked Follows newer (first_at opening_moment) l (get_or ks k no_context).estimate) (sym (same (publisher trace k) k)) (h.chain k less);
+        chain = λ k less. subst (λ (l : List Estimate). Walked Follows newer (first_estimate trace k opening_moment) l (get_or ks k no_context).estimate) (sym (same (publisher trace k) k)) (h.chain k less);
         version = λ k less. h.version k less ∙ ap (λ (l : List Estimate). length l) (sym (same (publisher trace k) k));
         named = λ i. dite (ℕ_discrete i cpu)
             (λ at. subst (λ (n : ℕ). Each (IsNamedIn trace ks) (get_or (set cpus cpu c) n no_cpu).checks) (sym at)
@@ -235,14 +236,14 @@ module _ (trace : Trace) (cpus : List Cpu) (flushers : List Flusher) (ks : List 
             (λ apart. others i n apart ∙ h.silent i n other);
         chain = λ n low. dite (ℕ_discrete n k)
             (λ same.
-            subst (λ (m : ℕ). Walked Follows newer (first_at opening_moment) (estimates_on m (get_or (set cpus cpu c) (publisher trace m) no_cpu)) (get_or ks2 m no_context).estimate) (sym same)
-            (subst (λ (l : List Estimate). Walked Follows newer (first_at opening_moment) l (get_or ks2 k no_context).estimate) (sym mine_at)
-            (subst (λ (x : Estimate). Walked Follows newer (first_at opening_moment) (estimates_on k (get_or cpus (publisher trace k) no_cpu) ++ e ∷ []) x) (sym at_k)
-            (walked_more Follows newer (first_at opening_moment) (get_or ks k no_context).estimate e (estimates_on k (get_or cpus (publisher trace k) no_cpu)) (e ∷ []) (h.chain k less)
+            subst (λ (m : ℕ). Walked Follows newer (first_estimate trace m opening_moment) (estimates_on m (get_or (set cpus cpu c) (publisher trace m) no_cpu)) (get_or ks2 m no_context).estimate) (sym same)
+            (subst (λ (l : List Estimate). Walked Follows newer (first_estimate trace k opening_moment) l (get_or ks2 k no_context).estimate) (sym mine_at)
+            (subst (λ (x : Estimate). Walked Follows newer (first_estimate trace k opening_moment) (estimates_on k (get_or cpus (publisher trace k) no_cpu) ++ e ∷ []) x) (sym at_k)
+            (walked_more Follows newer (first_estimate trace k opening_moment) (get_or ks k no_context).estimate e (estimates_on k (get_or cpus (publisher trace k) no_cpu)) (e ∷ []) (h.chain k less)
             (record { allowed = (follows, tt); reached = refl })))))
             (λ apart.
-            subst (λ (l : List Estimate). Walked Follows newer (first_at opening_moment) l (get_or ks2 n no_context).estimate) (sym (others (publisher trace n) n apart))
-            (subst (λ (x : Estimate). Walked Follows newer (first_at opening_moment) (estimates_on n (get_or cpus (publisher trace n) no_cpu)) x) (sym (at_other n apart)) (h.chain n low)));
+            subst (λ (l : List Estimate). Walked Follows newer (first_estimate trace n opening_moment) l (get_or ks2 n no_context).estimate) (sym (others (publisher trace n) n apart))
+            (subst (λ (x : Estimate). Walked Follows newer (first_estimate trace n opening_moment) (estimates_on n (get_or cpus (publisher trace n) no_cpu)) x) (sym (at_other n apart)) (h.chain n low)));
         version = λ n low. dite (ℕ_discrete n k)
             (λ same.
             let now : (get_or ks2 n no_context).estimate.version ≡ e.version = ap (λ (m : ℕ). (get_or ks2 m no_context).estimate.version) same ∙ ap (λ (x : Estimate). x.version) at_k in
@@ -266,7 +267,7 @@ module _ (trace : Trace) (cpus : List Cpu) (flushers : List Flusher) (ks : List 
 
 module _ (trace : Trace) (opened : ℕ) where
   abbrev AllFollow : (seen : List EstEntry) (es : List Told) → Type 0
-  AllFollow seen es = (k : ℕ) → Along Follows newer (newest_of opened k seen) (estimates_of k es)
+  AllFollow seen es = (k : ℕ) → Along Follows newer (newest_of trace opened k seen) (estimates_of k es)
 
   abbrev IsThere : (e : Told) → Type 0
   IsThere e = IfSome (effect e).estimate (λ (est : EstEntry). nat_lt est.context (contexts trace) ≡ true)
@@ -278,14 +279,14 @@ module _ (trace : Trace) (opened : ℕ) where
   follow_part cpu (est_told est ∷ part) more rest seen then_rest there all = (
     record {
       named = there.0;
-      follows_last = (subst (λ (l : List Estimate). Along Follows newer (newest_of opened est.context seen) (l ++ estimates_of est.context (part ++ more)))
+      follows_last = (subst (λ (l : List Estimate). Along Follows newer (newest_of trace opened est.context seen) (l ++ estimates_of est.context (part ++ more)))
           (cond-true (eqb est.context est.context) (est.estimate ∷ []) [] (eq-eqb est.context est.context refl)) (all est.context)).0;
     },
     follow_part cpu part more rest (est ∷ seen) then_rest there.1 (λ k. by_context k (eqb est.context k) (all k)),
   )
     where
-      by_context : (k : ℕ) (b : Bool) → Along Follows newer (newest_of opened k seen) (cond b (est.estimate ∷ []) [] ++ estimates_of k (part ++ more))
-          → Along Follows newer (cond b est.estimate (newest_of opened k seen)) (estimates_of k (part ++ more))
+      by_context : (k : ℕ) (b : Bool) → Along Follows newer (newest_of trace opened k seen) (cond b (est.estimate ∷ []) [] ++ estimates_of k (part ++ more))
+          → Along Follows newer (cond b est.estimate (newest_of trace opened k seen)) (estimates_of k (part ++ more))
       by_context k true along = along.1
       by_context k false along = along
   follow_part cpu (other ∷ part) more rest seen then_rest there all = (tt, follow_part cpu part more rest seen then_rest there.1 all)

@@ -19,8 +19,10 @@ use Rattle.wbt_grant.specs.declared.who.StepKind.TheVariants as kind
 use Rattle.wbt_journal.specs.Flights.{scanning, emptied}
 use Rattle.wbt_journal.specs.Machine.{batch_of, domains}
 use Rattle.wbt_journal.specs.declared.entry.Entry.TheVariants as entry
+use Rattle.wbt_rules.specs.Flusher.{IsWithinChunk, chunk_at}
 use Rattle.wbt_rules.specs.Things.{context_of, device_of, end_of, group_of, flusher_device, max_share}
 use Rattle.wbt_rules.specs.declared.scan.Scan.{Scan}
+use Rattle.wbt_rules.proofs.Quotas.{within_less}
 use Rattle.wbt_task.specs.declared.allowance.Due.{Due}
 use Rattle.wbt_task.specs.declared.allowance.Due.TheVariants as due
 use Rattle.wbt_replay_moves.specs.Definition.Check.{writer_of, decide_by, decide_for}
@@ -53,7 +55,7 @@ use Rattle.wbt_replay_moves.specs.declared.todo.Step.TheVariants as step
 use Rattle.wbt_replay_moves.specs.declared.todo.Todo.{Todo}
 use Rattle.wbt_replay_moves.specs.declared.todo.Todo.TheVariants as todo
 use Rattle.wbt_replay_order.specs.Kept.Facts.{Facts, IsPageOf, IsFlusherOn, IsTaskOn}
-use Rattle.wbt_replay_order.specs.Kept.Sound.{Sound, IsAt, IsTurn, IsWhose, WorkFits, AreQueued, AreQueues}
+use Rattle.wbt_replay_order.specs.Kept.Sound.{Sound, IsAt, IsScanAt, IsQuotaOf, IsTurn, IsWhose, WorkFits, AreQueued, AreQueues}
 use Rattle.wbt_replay_order.specs.Kept.Turns.{Agrees, IsCounter, IsIdle, IsOpenAt, ItemFits, WritesNext}
 use Rattle.wbt_replay_order.specs.Kept.Waiting.{is_end}
 use Rattle.wbt_replay_points.proofs.Claims.Checks.{some_context}
@@ -394,17 +396,21 @@ module _ (trace : Trace) (facts : Facts trace) (R : State → State → Type 0) 
   see_look cpu f (phase.Flying inode pages until) s at = none s
   see_look cpu f phase.Finished s at = none s
 
+  -- the batch of a scan has at most the scan's quota, which is within the line of the flusher's device
+  batch_within : (f : ℕ) (scan : Scan) (batch : List ℕ) → IsScanAt trace batch scan → IsQuotaOf trace f (phase.Scanning scan) → IsWithinChunk (chunk_at trace f) (length batch)
+  batch_within f scan batch its quota = within_less (chunk_at trace f) (length batch) scan.quota its.few quota
+
   see_claim : (cpu f word : ℕ) (p : ReplayPhase) (s : State) → cpu < length s.cpus → IsFlusherOn trace cpu f → f < length s.flushers → (flusher_of f s).phase ≡ p → IsAt trace (flusher_of f s).batch p
-      → ((scan : Scan) → p ≡ phase.Scanning scan → scan.page < end_of trace scan.inode) → R s (claim_in cpu f word p s)
-  see_claim cpu f word (phase.Scanning scan) s there on known at its is_open =
+      → IsQuotaOf trace f p → IsOpenAt trace (flusher_of f s).batch p → R s (claim_in cpu f word p s)
+  see_claim cpu f word (phase.Scanning scan) s there on known at its quota is_open =
       plainly kind.Claim cpu s (cond (eqb (shared_word s.book scan.page) word) (claim_now cpu f scan s) s)
       (either (R s) (eqb (shared_word s.book scan.page) word) (claim_now cpu f scan s) s
-      (λ same. claims cpu f scan s (record { there = there; on = on; known = known; at = at })
-      (record { there = its.there; after_first = omega (arith, its.behind); before_end = is_open scan refl })) (λ other. none s))
-  see_claim cpu f word (phase.Taken inode) s there on known at its is_open = none s
-  see_claim cpu f word (phase.Idle until kept) s there on known at its is_open = none s
-  see_claim cpu f word (phase.Flying inode pages until) s there on known at its is_open = none s
-  see_claim cpu f word phase.Finished s there on known at its is_open = none s
+      (λ same. claims cpu f scan s (record { there = there; on = on; known = known; at = at; within = batch_within f scan (flusher_of f s).batch its quota })
+      (record { there = its.there; after_first = omega (arith, its.behind); before_end = is_open.0 })) (λ other. none s))
+  see_claim cpu f word (phase.Taken inode) s there on known at its quota is_open = none s
+  see_claim cpu f word (phase.Idle until kept) s there on known at its quota is_open = none s
+  see_claim cpu f word (phase.Flying inode pages until) s there on known at its quota is_open = none s
+  see_claim cpu f word phase.Finished s there on known at its quota is_open = none s
 
   close_untold : (inode : ℕ) (again : Bool) → AreUntold (close_items inode again)
   close_untold inode true = (refl, (refl, tt))
@@ -426,18 +432,21 @@ module _ (trace : Trace) (facts : Facts trace) (R : State → State → Type 0) 
   idle_by true until batch = refl
   idle_by false until batch = refl
 
-  see_hand_over : (cpu f : ℕ) (p : ReplayPhase) (s : State) → cpu < length s.cpus → IsFlusherOn trace cpu f → f < length s.flushers → (flusher_of f s).phase ≡ p → R s (hand_over_in trace cpu f p s)
-  see_hand_over cpu f (phase.Scanning scan) s there on known at =
+  see_hand_over : (cpu f : ℕ) (p : ReplayPhase) (s : State) → cpu < length s.cpus → IsFlusherOn trace cpu f → f < length s.flushers → (flusher_of f s).phase ≡ p → IsAt trace (flusher_of f s).batch p
+      → IsQuotaOf trace f p → R s (hand_over_in trace cpu f p s)
+  see_hand_over cpu f (phase.Scanning scan) s there on known at its quota =
       either (R s) (eqb (length (flusher_of f s).batch) 0) (land_empty f scan.noted s) _
       (λ empty.
       let nothing : (flusher_of f s).batch ≡ [] = no_items (flusher_of f s).batch (eqb-true (length (flusher_of f s).batch) 0 empty) in
       let was : told_phase (flusher_of f s) ≡ scanning [] = ap (phase_at (flusher_of f s).batch) at ∙ ap scanning nothing in
       phased f (cond scan.noted (phase.Idle (s.now + 100) true) (phase.Idle 0 false)) s (idle_by scan.noted (s.now + 100) (flusher_of f s).batch ∙ sym was))
-      (λ some. flies cpu f scan _ s (record { there = there; on = on; known = known; at = at }) (eqb-false (length (flusher_of f s).batch) 0 some))
-  see_hand_over cpu f (phase.Taken inode) s there on known at = none s
-  see_hand_over cpu f (phase.Idle until kept) s there on known at = none s
-  see_hand_over cpu f (phase.Flying inode pages until) s there on known at = none s
-  see_hand_over cpu f phase.Finished s there on known at = none s
+      (λ some.
+      flies cpu f scan _ s (record { there = there; on = on; known = known; at = at; within = batch_within f scan (flusher_of f s).batch its quota })
+      (eqb-false (length (flusher_of f s).batch) 0 some))
+  see_hand_over cpu f (phase.Taken inode) s there on known at its quota = none s
+  see_hand_over cpu f (phase.Idle until kept) s there on known at its quota = none s
+  see_hand_over cpu f (phase.Flying inode pages until) s there on known at its quota = none s
+  see_hand_over cpu f phase.Finished s there on known at its quota = none s
 
   see_completions : (cpu f inode n until : ℕ) (batch : List ℕ) (s : State) → cpu < length s.cpus → IsFlusherOn trace cpu f → f < length s.flushers → (flusher_of f s).phase ≡ phase.Flying inode n until
       → (flusher_of f s).batch ≡ batch → All (IsPageOf trace inode) batch → R s (complete_first trace cpu f (context_of trace inode) batch s)
@@ -570,6 +579,9 @@ module _ (trace : Trace) (facts : Facts trace) (R : State → State → Type 0) 
     at_of : (f : ℕ) → IsAt trace (flusher_of f s0).batch (flusher_of f s0).phase
     at_of f = (sound.holds.flushers.each f).phase
 
+    quota_at : (f : ℕ) → IsQuotaOf trace f (flusher_of f s0).phase
+    quota_at f = (sound.holds.flushers.each f).quota
+
     -- where an item was taken
     module _ (c : Cpu) (told : log_of c ≡ log_of (cpu_of i s0)) (local : c.local ≡ (cpu_of i s0).local) (turn_is : c.turn ≡ (cpu_of i s0).turn) (list : c.todo ≡ ts) where
       abbrev u : State
@@ -620,11 +632,8 @@ module _ (trace : Trace) (facts : Facts trace) (R : State → State → Type 0) 
       look_by_whose (whose.Flusher f) = see_look i f (flusher_of f s0).phase u refl
       look_by_whose (whose.Task task) = none u
 
-      open_page : (batch : List ℕ) (p : ReplayPhase) → IsOpenAt trace batch p → (scan : Scan) → p ≡ phase.Scanning scan → scan.page < end_of trace scan.inode
-      open_page batch p is_open scan is = subst (IsOpenAt trace batch) is is_open
-
       claim_by_whose : (word : ℕ) (w : Whose) → IsWhose trace i w → Agrees trace s0.tasks s0.flushers w (todo.Step (step.Claim word)) → R u (claim_by i word w u)
-      claim_by_whose word (whose.Flusher f) on agree = see_claim i f word (flusher_of f s0).phase u here on (manned f on) refl (at_of f) (open_page (flusher_of f s0).batch (flusher_of f s0).phase agree.1)
+      claim_by_whose word (whose.Flusher f) on agree = see_claim i f word (flusher_of f s0).phase u here on (manned f on) refl (at_of f) (quota_at f) agree.1
       claim_by_whose word (whose.Task task) on agree = absurd agree
 
       complete_by_whose : (w : Whose) → IsWhose trace i w → R u (complete_by trace i w u)
@@ -673,7 +682,7 @@ module _ (trace : Trace) (facts : Facts trace) (R : State → State → Type 0) 
       close_by_whose (whose.Task task) = none u
 
       hand_by_whose : (w : Whose) → IsWhose trace i w → R u (hand_over_by trace i w u)
-      hand_by_whose (whose.Flusher f) on = see_hand_over i f (flusher_of f s0).phase u here on (manned f on) refl
+      hand_by_whose (whose.Flusher f) on = see_hand_over i f (flusher_of f s0).phase u here on (manned f on) refl (at_of f) (quota_at f)
       hand_by_whose (whose.Task task) on = none u
 
       land_by_whose : (w : Whose) → R u (land_by trace i w u)

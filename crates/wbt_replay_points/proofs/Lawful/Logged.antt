@@ -137,7 +137,7 @@ module _ (trace : Trace) (facts : Facts trace) (pages_there : (inode page : ℕ)
       let w : State = log_at cpu e (with_flusher f v (with_event (event.Claim scan.page) scan.page s)) in
       quietly cpu _ w refl
       (flight cpu f v e (claimed_told f scan.page) (takes scan.page) s now.there now.on refl refl
-      ((record { write = tt; fold = tt; check = tt; flight = record { own = own_flusher trace cpu f now.on; page = pages_there scan.inode scan.page page }; share = tt; estimate = tt; wait = tt }, (refl, refl)), tt)
+      ((record { write = tt; fold = tt; check = tt; flight = record { own = own_flusher trace cpu f now.on; page = pages_there scan.inode scan.page page; chunk = tt }; share = tt; estimate = tt; wait = tt }, (refl, refl)), tt)
       (λ g a b other_old other_new may is own apart. one_flight f g (takes scan.page) (claimed_told f scan.page) a b refl may is other_old other_new own apart)
       (subst (MayMove (takes scan.page)) (sym old) tt) (sym (ap (λ (p : ToldPhase). moved (takes scan.page) (unfailed p)) old)) now.known h)
 
@@ -150,7 +150,7 @@ module _ (trace : Trace) (facts : Facts trace) (pages_there : (inode page : ℕ)
       let old : told_phase (flusher_of f s) ≡ scanning batch = ap (phase_at batch) now.at in
       let many : 1 ≤ n = (let not_none : n ≢ 0 = some in omega (arith, not_none)) in
       flight cpu f v e (batch_told f n s.now until) (flies n s.now until) s now.there now.on refl refl
-      ((record { write = tt; fold = tt; check = tt; flight = record { own = own_flusher trace cpu f now.on; page = tt }; share = tt; estimate = tt; wait = tt }, (refl, refl)), tt)
+      ((record { write = tt; fold = tt; check = tt; flight = record { own = own_flusher trace cpu f now.on; page = tt; chunk = now.within }; share = tt; estimate = tt; wait = tt }, (refl, refl)), tt)
       (λ g a b other_old other_new may is own apart. one_flight f g (flies n s.now until) (batch_told f n s.now until) a b refl may is other_old other_new own apart)
       (subst (MayMove (flies n s.now until)) (sym old) (many, refl)) (sym (ap (λ (p : ToldPhase). moved (flies n s.now until) (unfailed p)) old)) now.known h
 
@@ -164,7 +164,7 @@ module _ (trace : Trace) (facts : Facts trace) (pages_there : (inode page : ℕ)
       let w : State = log_at cpu e (with_event (event.Complete page) page (with_flusher f v s)) in
       quietly cpu _ w refl
       (flight cpu f v e (done_told f page) (lands page) s now.there now.on refl refl
-      ((record { write = tt; fold = tt; check = tt; flight = record { own = own_flusher trace cpu f now.on; page = pages_there inode page now.page_is }; share = tt; estimate = tt; wait = tt }, (refl, refl)), tt)
+      ((record { write = tt; fold = tt; check = tt; flight = record { own = own_flusher trace cpu f now.on; page = pages_there inode page now.page_is; chunk = tt }; share = tt; estimate = tt; wait = tt }, (refl, refl)), tt)
       (λ g a b other_old other_new may is own apart. one_flight f g (lands page) (done_told f page) a b refl may is other_old other_new own apart)
       (subst (MayMove (lands page)) (sym now.at) refl)
       (ap (λ (p : ReplayPhase). unfailed (phase_at pages p)) fly_is ∙ sym (ap (λ (p : ToldPhase). moved (lands page) (unfailed p)) now.at)) now.known h)

@@ -5,6 +5,7 @@ use Rattle.wbt_trace.specs.declared.trace.Trace.{Trace}
 use Rattle.wbt_journal.specs.Checks.{IsInRange}
 use Rattle.wbt_journal.specs.Flights.{emptied}
 use Rattle.wbt_journal.specs.Machine.{rests_last}
+use Rattle.wbt_rules.specs.Flusher.{IsWithinChunk, chunk_at}
 use Rattle.wbt_rules.specs.declared.scan.Scan.{Scan}
 use Rattle.wbt_task.specs.declared.allowance.Due.TheVariants as due
 use Rattle.wbt_replay_moves.specs.Definition.Check.{check_of, writer_of}
@@ -76,6 +77,8 @@ pub record ScansNow (trace : Trace) (cpu f : ℕ) (scan : Scan) (s : State) : Ty
   pub on : IsFlusherOn trace cpu f
   pub known : f < length s.flushers
   pub at : (flusher_of f s).phase ≡ phase.Scanning scan
+  -- its batch has no more pages than the line of its device says
+  pub within : IsWithinChunk (chunk_at trace f) (length (flusher_of f s).batch)
 
 -- it completes the next page of its flight
 pub record CompletesNow (trace : Trace) (cpu f inode page : ℕ) (pages : List ℕ) (s : State) : Type 0 where

@@ -1,8 +1,8 @@
 -- At each moment of a run the fractions that checks print are of periods that the domain has had, and of no more than was counted in.
-use Rattle.std.proofs.Common.{eq-eqb, ◌⊎◌, ◌≡◌, ◌≢◌, ℕ, zero, suc, ◌+◌, ◌<◌, ◌≤◌, Bool, true, false, cond, eqb, ◌&&◌, ◌/◌, ◌^◌, All, replicate, List, [], ◌∷◌, ◌++◌, length, map, get_or, Option, Some, None, refl, sym, ◌∙◌, ap, subst, arith, length-append, ⊎_elim}
+use Rattle.std.proofs.Common.{eq-eqb, ◌⊎◌, ◌≡◌, ◌≢◌, ℕ, zero, suc, ◌+◌, ◌<◌, ◌≤◌, Bool, true, false, cond, eqb, ◌&&◌, ◌/◌, ◌^◌, All, List, [], ◌∷◌, ◌++◌, length, map, get_or, Option, Some, None, refl, sym, ◌∙◌, ap, subst, arith, length-append, ⊎_elim}
 use Rattle.std.proofs.Math.ListN.{set}
-use Rattle.std.proofs.lemmas.Bool.{cases_Bool, cases_lt, cond-true}
-use Rattle.std.proofs.lemmas.List.{get_or-set_same, get_or-set_other, get_or_past, length-set, get_or-replicate, length-replicate}
+use Rattle.std.proofs.lemmas.Bool.{cases_Bool, cond-true}
+use Rattle.std.proofs.lemmas.List.{get_or-set_same, get_or-set_other, length-set}
 use mathlib.Core.Logic.{dite}
 use native.Mathlib.Decide.{ℕ_discrete}
 use Rattle.wbt_counter.specs.declared.counter.Count.{Count}
@@ -46,7 +46,7 @@ use Rattle.wbt_replay_moves.specs.declared.todo.Todo.TheVariants as todo
 use Rattle.wbt_replay_moves.specs.declared.todo.TimerTodo.{TimerTodo}
 use Rattle.wbt_replay_moves.specs.declared.todo.TimerTodo.TheVariants as timer_todo
 use Rattle.wbt_replay_moves.specs.declared.state.Flusher.{Flusher}
-use Rattle.wbt_replay_order.specs.Definition.Opening.{opening, first_cpu, first_cpus, first_context, first_domain, first_domains, first_entries, first_limits, opening_moment}
+use Rattle.wbt_replay_order.specs.Definition.Opening.{opening, first_cpu, first_cpus, first_context, first_contexts, first_domain, first_domains, first_entries, first_limits, opening_moment}
 use Rattle.wbt_replay_order.specs.Definition.Order.{advance, is_ended}
 use Rattle.wbt_replay_order.specs.Definition.Run.{state_at, last_state, part_of, journal_of}
 use Rattle.wbt_replay_order.specs.Kept.Facts.{IsTaskOn, Facts, IsPageOf}
@@ -54,7 +54,7 @@ use Rattle.wbt_replay_order.specs.Kept.Sound.{Sound, TimerItemFits}
 use Rattle.wbt_replay_order.proofs.Growth.Quiet.{same_at, is_name}
 use Rattle.wbt_replay_order.proofs.Growth.Runs.{run_none, run_last, run_stays}
 use Rattle.wbt_replay_order.proofs.Facts.Lists.{either}
-use Rattle.wbt_replay_order.proofs.Outset.Numbered.{numbered_all}
+use Rattle.wbt_replay_order.proofs.Outset.Numbered.{numbered_length, numbered_all}
 use Rattle.wbt_replay_points.proofs.Lawful.Plainly.{steps_seen, moves_seen, see_turn}
 use Rattle.wbt_replay_points.proofs.Lawful.Now.{DecidesNow, EndsNow, ScansNow, CompletesNow, EstimatesNow, entry_of, ListsNow}
 use Rattle.wbt_replay_points.proofs.Lawful.Leaving.{KnownWrites, FreshWrites, over_known, over_fresh}
@@ -386,12 +386,6 @@ module _ (trace : Trace) (facts : Facts trace) where
   many_first zero = refl
   many_first (suc n) = omega (arith, length-append (first_domains trace n) (first_domain (first_limits trace n) ∷ []), many_first n)
 
-  repeated : (P : Writeback → Type 0) (n i : ℕ) → P first_context → P no_context → P (get_or (replicate n first_context) i no_context)
-  repeated P n i here other = ⊎_elim
-      (λ less. subst P (sym (get_or-replicate n i first_context no_context less)) here)
-      (λ past. subst P (sym (get_or_past (replicate n first_context) i no_context (omega (arith, past, length-replicate n first_context)))) other)
-      (cases_lt i n)
-
   first_shares : HasShares trace (opening trace)
   unfolding opening
   first_shares =
@@ -399,10 +393,10 @@ module _ (trace : Trace) (facts : Facts trace) where
       record {
         order = numbered_all (first_cpus trace) (first_cpu trace) no_cpu refl (λ j. refl) (λ j c. IsInOrder c) (λ j. (refl, refl)) (λ j. (refl, refl)) trace.cpus;
         many = many_first (domains trace);
-        places = length-replicate n first_context;
+        places = numbered_length (first_contexts trace) (first_context trace) no_context refl (λ j. refl) n;
         periods_are = λ d less. ap (λ (q : Domain). q.events.period) (first_domain_of trace (domains trace) d less) ∙ sym (no_periods (domains trace) d);
-        part = λ k. repeated (λ (w : Writeback). w.part.events ≤ added_all 0 k (first_cpus trace trace.cpus)) n k (omega arith) (omega arith);
-        cgroup_part = λ k. repeated (λ (w : Writeback). w.cgroup_part.events ≤ added_all (group_of trace k) k (first_cpus trace trace.cpus)) n k (omega arith) (omega arith);
+        part = numbered_all (first_contexts trace) (first_context trace) no_context refl (λ j. refl) (λ k w. w.part.events ≤ added_all 0 k (first_cpus trace trace.cpus)) (λ k. omega arith) (λ k. omega arith) n;
+        cgroup_part = numbered_all (first_contexts trace) (first_context trace) no_context refl (λ j. refl) (λ k w. w.cgroup_part.events ≤ added_all (group_of trace k) k (first_cpus trace trace.cpus)) (λ k. omega arith) (λ k. omega arith) n;
         printed = numbered_all (first_cpus trace) (first_cpu trace) no_cpu refl (λ j. refl) (λ j c. Each (IsPrintedIn (first_cpus trace trace.cpus) (first_entries trace (domains trace))) c.checks) (λ j. tt) (λ j. tt) trace.cpus;
         read = numbered_all (first_cpus trace) (first_cpu trace) no_cpu refl (λ j. refl) (λ j c. HasRead j c (first_domains trace (domains trace)))
             (λ j. none_read j) (λ j. none_read j) trace.cpus;

@@ -4,8 +4,8 @@ use Rattle.std.specs.List.{list_any}
 use Rattle.std.proofs.lemmas.List.{append-nil, map-append}
 use mathlib.Core.Logic.{dite}
 use native.Mathlib.Decide.{ℕ_discrete}
-use Rattle.wbt_estimate.specs.Estimate.{first_at}
 use Rattle.wbt_estimate.specs.declared.estimate.Estimate.{Estimate}
+use Rattle.wbt_rules.specs.First.{first_estimate}
 use Rattle.wbt_task.specs.declared.allowance.CpuLocal.{CpuLocal}
 use Rattle.wbt_trace.specs.declared.trace.Trace.{Trace}
 use Rattle.wbt_journal.specs.Checks.{nth_estimate, DecidesBy, IsQuiet, MayCheck, Stands, is_judged}
@@ -37,7 +37,7 @@ use Rattle.wbt_replay_points.proofs.Lawful.Standing.{StandsAs, others_stand}
 
 -- a check names its estimate among these, and decides by it
 abbrev pub DecidesNamed : (trace : Trace) (among : ℕ → List Estimate) (s : Side) (check : CheckEntry) → Type 0
-DecidesNamed trace among s check = (check.context < length trace.contexts) × DecidesBy trace s check (nth_estimate check.estimate (first_at opening_moment ∷ among check.context))
+DecidesNamed trace among s check = (check.context < length trace.contexts) × DecidesBy trace s check (nth_estimate check.estimate (first_estimate trace check.context opening_moment ∷ among check.context))
 
 abbrev pub DecidesAmong : (trace : Trace) (among : ℕ → List Estimate) (s : Side) (event : Event) → Type 0
 DecidesAmong trace among s (item (begins cpu)) = Unit {0}
@@ -66,15 +66,15 @@ nth_more zero (x ∷ old) more e is = is
 nth_more (suc n) (x ∷ old) more e is = nth_more n old more e is
 
 decides_longer : (trace : Trace) (s : Side) (check : CheckEntry) (old new : List Estimate) → IsLonger old new
-    → DecidesBy trace s check (nth_estimate check.estimate (first_at opening_moment ∷ old)) → DecidesBy trace s check (nth_estimate check.estimate (first_at opening_moment ∷ new))
-decides_longer trace s check old new longer decides = by_found (nth_estimate check.estimate (first_at opening_moment ∷ old)) refl decides
+    → DecidesBy trace s check (nth_estimate check.estimate (first_estimate trace check.context opening_moment ∷ old)) → DecidesBy trace s check (nth_estimate check.estimate (first_estimate trace check.context opening_moment ∷ new))
+decides_longer trace s check old new longer decides = by_found (nth_estimate check.estimate (first_estimate trace check.context opening_moment ∷ old)) refl decides
   where
-    by_found : (found : Option Estimate) → nth_estimate check.estimate (first_at opening_moment ∷ old) ≡ found → DecidesBy trace s check found
-        → DecidesBy trace s check (nth_estimate check.estimate (first_at opening_moment ∷ new))
+    by_found : (found : Option Estimate) → nth_estimate check.estimate (first_estimate trace check.context opening_moment ∷ old) ≡ found → DecidesBy trace s check found
+        → DecidesBy trace s check (nth_estimate check.estimate (first_estimate trace check.context opening_moment ∷ new))
     by_found None is by = absurd by
     by_found (Some e) is by =
         subst (DecidesBy trace s check)
-        (sym (ap (λ (l : List Estimate). nth_estimate check.estimate (first_at opening_moment ∷ l)) longer.is ∙ nth_more check.estimate (first_at opening_moment ∷ old) longer.more e is)) by
+        (sym (ap (λ (l : List Estimate). nth_estimate check.estimate (first_estimate trace check.context opening_moment ∷ l)) longer.is ∙ nth_more check.estimate (first_estimate trace check.context opening_moment ∷ old) longer.more e is)) by
 
 still_decides : (trace : Trace) (old new : ℕ → List Estimate) → ((k : ℕ) → IsLonger (old k) (new k)) → (s : Side) (event : Event) → DecidesAmong trace old s event → DecidesAmong trace new s event
 still_decides trace old new longer s (item (begins cpu)) is = tt

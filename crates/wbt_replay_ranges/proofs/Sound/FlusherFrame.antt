@@ -32,7 +32,7 @@ module _ (trace : Trace) (facts : Facts trace) (i : ℕ) (less : i < trace.cpus)
   agrees_flusher k x s t there h = subst (λ (y : Flusher). FlusherAgrees trace y t) (sym (get_or-set_same s.flushers k x no_flusher there)) h
 
   pub flusher_going : (k : ℕ) (x : Flusher) (w e e' t t' d : ℕ) (s : State) → IsFlusherOn trace i k → (cpu_of i s).turn.whose ≡ whose.Flusher k → Going trace i e t s
-      → IsFlusher trace x → All (FlusherAgrees trace x) (cpu_of i s).todo
+      → IsFlusher trace k x → All (FlusherAgrees trace x) (cpu_of i s).todo
       → flown_of x + e' ≤ flown_of (flusher_of k s) + e → e' ≤ e
       → until_of x.phase ≤ max (until_of (flusher_of k s).phase) (s.now + d) → t' + d ≤ t
       → w + one_if (works (flusher_of k s)) ≡ s.working + one_if (works x)
@@ -55,7 +55,7 @@ module _ (trace : Trace) (facts : Facts trace) (i : ℕ) (less : i < trace.cpus)
           dirtied = omega (arith, h.dirtied, fewer);
           flushers = record {
             many = length-set s.flushers k x ∙ h.flushers.many;
-            each = set_all (λ j y. IsFlusher trace y) s.flushers k x no_flusher is h.flushers.each;
+            each = set_all (IsFlusher trace) s.flushers k x no_flusher is h.flushers.each;
           };
           cpus = h.cpus;
           agreed = λ j l. dite (ℕ_discrete j i) (own j l) (other j l);

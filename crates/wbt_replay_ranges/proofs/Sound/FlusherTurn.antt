@@ -123,7 +123,7 @@ module _ (trace : Trace) (facts : Facts trace) (i : ℕ) (less : i < trace.cpus)
     pub is : flusher_of f (record s { flushers = set s.flushers f x; working = w }) ≡ x
 
   pub turn_flusher : (f : ℕ) (x : Flusher) (w e e' t t' d : ℕ) (s : State) → IsFlusherOn trace i f → (cpu_of i s).turn.whose ≡ whose.Flusher f → Going trace i e t s → Free trace i 2 s
-      → IsFlusher trace x → flown_of x + e' ≤ flown_of (flusher_of f s) + e → e' ≤ e
+      → IsFlusher trace f x → flown_of x + e' ≤ flown_of (flusher_of f s) + e → e' ≤ e
       → until_of x.phase ≤ max (until_of (flusher_of f s).phase) (s.now + d) → t' + d ≤ t
       → w + one_if (works (flusher_of f s)) ≡ s.working + one_if (works x)
       → Flown f x e' t' w s

@@ -4,13 +4,14 @@ use Rattle.std.proofs.Math.ListN.{set}
 use Rattle.std.proofs.lemmas.List.{length-set}
 use Rattle.std.proofs.lemmas.List.Elements.{All-nil}
 use Rattle.wbt_grant.specs.declared.who.StepKind.TheVariants as kind
-use Rattle.wbt_limits.specs.Flusher.{chunk_of}
 use Rattle.wbt_num.specs.declared.limits.TheConstants.{MAX_LIMIT}
+use Rattle.wbt_trace.specs.declared.trace.Device.{Device}
 use Rattle.wbt_trace.specs.declared.trace.Trace.{Trace}
 use Rattle.wbt_replay_moves.specs.Definition.Idle.{finish, rest_until, take, take_or_finish, take_or_rest, with_hard, scan_of, unmark_of, unmark_in, take_now, with_pairs, take_last, told_by, waits, note, noticed, age, tested_by}
 use Rattle.wbt_rules.specs.declared.moments.TheConstants.{FLUSHER_REST}
 use Rattle.wbt_replay_moves.specs.Definition.State.{State, cpu_of, flusher_of, queue_of, writeback_of, no_waiting, waiting_of, with_waiting, with_queue}
-use Rattle.wbt_rules.specs.Things.{inode_of, context_of, flusher_device}
+use Rattle.wbt_rules.specs.Things.{inode_of, context_of, device_at, flusher_device}
+use Rattle.wbt_rules.proofs.Quotas.{quota_some, quota_within}
 use Rattle.wbt_replay_moves.specs.declared.state.Flusher.{Flusher}
 use Rattle.wbt_replay_moves.specs.declared.state.ReplayPhase.{ReplayPhase}
 use Rattle.wbt_replay_moves.specs.declared.state.ReplayPhase.TheVariants as phase
@@ -54,7 +55,7 @@ module _ (trace : Trace) (facts : Facts trace) (i : ℕ) (less : i < trace.cpus)
     rest_done later soon g free =
         let y : Flusher = record (flusher_of f s) { phase = phase.Idle later false } in
         let m = turn_flusher trace facts i less f y s.working 0 0 silent_ticks 0 silent_ticks s on turn g free
-        (record { phase = idle_batch 0 silent_ticks g; hard = (g.holds.flushers.each f).hard; measures = (g.holds.flushers.each f).measures; weighs = (g.holds.flushers.each f).weighs; wheel = (g.holds.flushers.each f).wheel })
+        (record { phase = idle_batch 0 silent_ticks g; quota = tt; hard = (g.holds.flushers.each f).hard; measures = (g.holds.flushers.each f).measures; weighs = (g.holds.flushers.each f).weighs; wheel = (g.holds.flushers.each f).wheel })
         (omega arith) (omega arith) (omega (arith, soon)) (omega arith) (idle_works y refl) in
         stays_done trace facts i less s f on turn 0 0 2 (record s { flushers = set s.flushers f y; working = s.working }) m.going m.free turn (subst (IsOpen trace) (sym m.is) tt)
 
@@ -63,7 +64,7 @@ module _ (trace : Trace) (facts : Facts trace) (i : ℕ) (less : i < trace.cpus)
     taken_done t inode known g free =
         let y : Flusher = record (flusher_of f s) { phase = phase.Taken inode } in
         let m = turn_flusher trace facts i less f y s.working 0 0 t t 0 s on turn g free
-        (record { phase = (idle_batch 0 t g, known); hard = (g.holds.flushers.each f).hard; measures = (g.holds.flushers.each f).measures; weighs = (g.holds.flushers.each f).weighs; wheel = (g.holds.flushers.each f).wheel })
+        (record { phase = (idle_batch 0 t g, known); quota = tt; hard = (g.holds.flushers.each f).hard; measures = (g.holds.flushers.each f).measures; weighs = (g.holds.flushers.each f).weighs; wheel = (g.holds.flushers.each f).wheel })
         (omega arith) (omega arith) (omega arith) (omega arith) (idle_works y refl) in
         let z : State = record s { flushers = set s.flushers f y; working = s.working } in
         do_done trace facts i less (todo.Step step.Unmark ∷ []) 0 t 2 1 z m.going m.free
@@ -80,7 +81,7 @@ module _ (trace : Trace) (facts : Facts trace) (i : ℕ) (less : i < trace.cpus)
         let counted = g.holds.counted.flushers in
         let one : one_if (works (flusher_of f s)) ≡ 1 = ap (λ (p : ReplayPhase). one_if (not (is_finished p))) is in
         let m = turn_flusher trace facts i less f y (s.working - 1) 0 0 t t 0 s on turn g free
-        (record { phase = idle_batch 0 t g; hard = (g.holds.flushers.each f).hard; measures = (g.holds.flushers.each f).measures; weighs = (g.holds.flushers.each f).weighs; wheel = (g.holds.flushers.each f).wheel })
+        (record { phase = idle_batch 0 t g; quota = tt; hard = (g.holds.flushers.each f).hard; measures = (g.holds.flushers.each f).measures; weighs = (g.holds.flushers.each f).weighs; wheel = (g.holds.flushers.each f).wheel })
         (omega arith) (omega arith) (omega arith) (omega arith) (omega (arith, working, counted, one)) in
         stays_done trace facts i less s f on turn 0 t 2 (record s { flushers = set s.flushers f y; working = s.working - 1 }) m.going m.free turn (subst (IsOpen trace) (sym m.is) tt)
 
@@ -109,7 +110,7 @@ module _ (trace : Trace) (facts : Facts trace) (i : ℕ) (less : i < trace.cpus)
         let y : Flusher = record (flusher_of f s) { wheel = Some w } in
         let g = h.listing.going in
         let m = turn_flusher trace facts i less f y s.working 0 0 t t 0 s on h.turn g h.listing.free
-        (record { phase = (g.holds.flushers.each f).phase; hard = (g.holds.flushers.each f).hard; measures = (g.holds.flushers.each f).measures; weighs = (g.holds.flushers.each f).weighs; wheel = fits })
+        (record { phase = (g.holds.flushers.each f).phase; quota = (g.holds.flushers.each f).quota; hard = (g.holds.flushers.each f).hard; measures = (g.holds.flushers.each f).measures; weighs = (g.holds.flushers.each f).weighs; wheel = fits })
         (omega arith) (omega arith) (omega arith) (omega arith) refl in
         record {
           clock = h.clock;
@@ -225,25 +226,28 @@ module _ (trace : Trace) (facts : Facts trace) (i : ℕ) (less : i < trace.cpus)
       let p : ReplayPhase = scan_of trace f inode s in
       let y : Flusher = record (flusher_of f s) { phase = p } in
       let some = facts.inode_some inode at.1 in
+      let device : Device = device_at trace (flusher_device trace f) in
+      let avg : ℕ = (writeback_of (context_of trace inode) s).estimate.avg in
+      let hard : ℕ = (flusher_of f s).hard in
+      let room = quota_some device avg hard (facts.chunks (flusher_device trace f)) in
       let m = turn_flusher trace facts i less f y s.working 1 0 silent_ticks silent_ticks 0 x on turn g (record { whose = free.whose; fits = free.fits; room = free.room })
       (record {
         phase = record {
           there = at.1;
           behind = omega (arith, ap length at.0);
           within = omega (arith, some);
-          some = some_chunk (writeback_of (context_of trace inode) s).estimate.avg (flusher_of f s).hard;
+          some = room;
+          few = omega (arith, ap length at.0);
           ours = subst (All (IsPageOf trace inode)) (sym at.0) (All-nil (IsPageOf trace inode));
         };
+        quota = quota_within device avg hard;
         hard = (g.holds.flushers.each f).hard;
         measures = (g.holds.flushers.each f).measures;
         weighs = (g.holds.flushers.each f).weighs;
         wheel = (g.holds.flushers.each f).wheel;
       })
       (omega arith) (omega arith) (omega arith) (omega arith) (ap (λ (q : ReplayPhase). s.working + one_if (not (is_finished q))) is) in
-      stays_done trace facts i less s f on turn 0 silent_ticks 2 (record x { flushers = set x.flushers f y; working = s.working }) m.going m.free turn (subst (IsOpen trace) (sym m.is) some)
-    where
-      some_chunk : (avg hard : ℕ) → 1 ≤ chunk_of avg hard
-      some_chunk avg hard = omega arith
+      stays_done trace facts i less s f on turn 0 silent_ticks 2 (record x { flushers = set x.flushers f y; working = s.working }) m.going m.free turn (subst (IsOpen trace) (sym m.is) (some, omega (arith, ap length at.0, room)))
 
   pub unmark_at : (p : ReplayPhase) → (flusher_of f s).phase ≡ p → Ready trace i s → Free trace i 2 s → IsTaken p → Done trace i (unmark_in trace i f p s)
   unmark_at (phase.Idle until kept) e ready free h = absurd h
@@ -276,7 +280,7 @@ module _ (trace : Trace) (facts : Facts trace) (i : ℕ) (less : i < trace.cpus)
   tested_done t until kept is began hard g free =
       let y : Flusher = record (flusher_of f s) { hard = t.global.limits.hard } in
       let m = turn_flusher trace facts i less f y s.working 0 0 silent_ticks silent_ticks 0 s on turn g free
-      (record { phase = (g.holds.flushers.each f).phase; hard = hard; measures = (g.holds.flushers.each f).measures; weighs = (g.holds.flushers.each f).weighs; wheel = (g.holds.flushers.each f).wheel })
+      (record { phase = (g.holds.flushers.each f).phase; quota = (g.holds.flushers.each f).quota; hard = hard; measures = (g.holds.flushers.each f).measures; weighs = (g.holds.flushers.each f).weighs; wheel = (g.holds.flushers.each f).wheel })
       (omega arith) (omega arith) (omega arith) (omega arith) refl in
       let x : State = record s { flushers = set s.flushers f y; working = s.working } in
       let idle : (flusher_of f x).phase ≡ phase.Idle until kept = ap (λ (v : Flusher). v.phase) m.is ∙ is in

@@ -36,7 +36,7 @@ use Rattle.wbt_replay_moves.specs.declared.todo.Todo.TheVariants as todo
 use Rattle.wbt_replay_order.specs.Definition.Order.{is_finished}
 use Rattle.wbt_replay_order.specs.Kept.Facts.{Facts, IsFlusherOn, IsPageOf}
 use Rattle.wbt_replay_order.specs.Kept.Horizon.{silent_ticks}
-use Rattle.wbt_replay_order.specs.Kept.Sound.{IsAt, IsScanAt, IsFlusher}
+use Rattle.wbt_replay_order.specs.Kept.Sound.{IsAt, IsScanAt, IsQuotaOf}
 use Rattle.wbt_replay_order.specs.Kept.Turns.{Agrees, FlusherAgrees, IsScanning, IsOpen, IsOpenAt}
 use Rattle.wbt_replay_order.proofs.Facts.Lists.{either}
 use Rattle.wbt_replay_ranges.proofs.Sound.Counters.{Ready, with_step, plain_entry, credit_few}
@@ -90,15 +90,6 @@ module _ (trace : Trace) (facts : Facts trace) (i : ℕ) (less : i < trace.cpus)
 
     -- ---- a look
 
-    passed_at : (e t : ℕ) (g : Going trace i e t s) (x : StepEntry) → scan.page < end_of trace scan.inode → (b : Bool) → IsFlusher trace (record (flusher_of f s) { phase = phase.Scanning (record scan { page = scan.page + 1; noted = b }) })
-    passed_at e t g x more b = let at = scan_at e t g in record {
-      phase = record { there = at.there; behind = omega (arith, at.behind); within = omega (arith, more); some = at.some; ours = at.ours };
-      hard = (g.holds.flushers.each f).hard;
-      measures = (g.holds.flushers.each f).measures;
-      weighs = (g.holds.flushers.each f).weighs;
-      wheel = (g.holds.flushers.each f).wheel;
-    }
-
     passed_done : (b : Bool) → Ready trace i s → Free trace i 2 s → scan.page < end_of trace scan.inode
         → Done trace i (with_step (plain_entry i kind.Look) (then_do i (todo.Silent silent.Close ∷ []) (in_phase f (phase.Scanning (record scan { page = scan.page + 1; noted = b })) s)))
     passed_done b ready free more =
@@ -107,11 +98,11 @@ module _ (trace : Trace) (facts : Facts trace) (i : ℕ) (less : i < trace.cpus)
         let at : IsScanAt trace (flusher_of f s).batch scan = subst (IsAt trace (flusher_of f s).batch) is (g.holds.flushers.each f).phase in
         let y : Flusher = record (flusher_of f s) { phase = phase.Scanning (record scan { page = scan.page + 1; noted = b }) } in
         let m = turn_flusher trace facts i less f y s.working 1 0 silent_ticks silent_ticks 0 x on turn g (free_step 2 (plain_entry i kind.Look) free)
-        (record { phase = record { there = at.there; behind = omega (arith, at.behind); within = omega (arith, more); some = at.some; ours = at.ours }; hard = (g.holds.flushers.each f).hard; measures = (g.holds.flushers.each f).measures; weighs = (g.holds.flushers.each f).weighs; wheel = (g.holds.flushers.each f).wheel })
+        (record { phase = record { there = at.there; behind = omega (arith, at.behind); within = omega (arith, more); some = at.some; few = at.few; ours = at.ours }; quota = subst (IsQuotaOf trace f) is (g.holds.flushers.each f).quota; hard = (g.holds.flushers.each f).hard; measures = (g.holds.flushers.each f).measures; weighs = (g.holds.flushers.each f).weighs; wheel = (g.holds.flushers.each f).wheel })
         (omega arith) (omega arith) (omega arith) (omega arith) (still_works y refl) in
         put_close 0 silent_ticks (record x { flushers = set x.flushers f y; working = s.working }) m.going m.free (omega arith) turn (subst (λ (z : Flusher). IsScanning z.phase) (sym m.is) tt)
 
-    look_done : Ready trace i s → Free trace i 2 s → scan.page < end_of trace scan.inode → Done trace i (look_in i f (phase.Scanning scan) s)
+    look_done : Ready trace i s → Free trace i 2 s → IsOpenAt trace (flusher_of f s).batch (phase.Scanning scan) → Done trace i (look_in i f (phase.Scanning scan) s)
     look_done ready free more =
         let x : State = with_step (plain_entry i kind.Look) s in
         let g = ready (plain_entry i kind.Look) in
@@ -123,23 +114,24 @@ module _ (trace : Trace) (facts : Facts trace) (i : ℕ) (less : i < trace.cpus)
         (λ found. do_done trace facts i less (item ∷ []) 1 silent_ticks 2 1 x g (free_step 2 (plain_entry i kind.Look) free)
         (push trace s.tasks s.flushers (cpu_of i s).turn.whose 2 1 item (cpu_of i s).todo free.fits tt (agrees_now s turn item (subst IsScanning (sym is) tt, opens)) refl (omega arith) (omega arith) (omega arith))
         (omega (arith, few)) (λ g' on' e none. own_open s turn opens g' e))
-        (λ passed. passed_done b ready free more)
+        (λ passed. passed_done b ready free more.0)
 
     -- ---- a claim
 
-    claimed_done : Ready trace i s → Free trace i 2 s → scan.page < end_of trace scan.inode → Done trace i (with_step (plain_entry i kind.Claim) (claim_now i f scan s))
+    claimed_done : Ready trace i s → Free trace i 2 s → IsOpenAt trace (flusher_of f s).batch (phase.Scanning scan) → Done trace i (with_step (plain_entry i kind.Claim) (claim_now i f scan s))
     claimed_done ready free more =
         let book : Book = put s.book scan.page (bits_after (event.Claim scan.page) (s.book scan.page)) in
         let x : State = record (with_step (plain_entry i kind.Claim) s) { book = book } in
         let g = event_going trace i 1 silent_ticks book (with_step (plain_entry i kind.Claim) s) (ready (plain_entry i kind.Claim)) in
         let at : IsScanAt trace (flusher_of f s).batch scan = subst (IsAt trace (flusher_of f s).batch) is (g.holds.flushers.each f).phase in
         let y : Flusher = record (flusher_of f s) { phase = phase.Scanning (record scan { page = scan.page + 1 }); batch = (flusher_of f s).batch ++ scan.page ∷ [] } in
-        let here = page_there (flusher_of f s).batch scan at more in
+        let here = page_there (flusher_of f s).batch scan at more.0 in
         let longer = length-append (flusher_of f s).batch (scan.page ∷ []) in
         let free' : Free trace i 2 x = record { whose = free.whose; fits = free.fits; room = free.room } in
         let m = turn_flusher trace facts i less f y s.working 1 0 silent_ticks silent_ticks 0 x on turn g free'
         (record {
-          phase = record { there = at.there; behind = omega (arith, at.behind, longer); within = omega (arith, more); some = at.some; ours = All-push (IsPageOf trace scan.inode) (flusher_of f s).batch scan.page at.ours here };
+          phase = record { there = at.there; behind = omega (arith, at.behind, longer); within = omega (arith, more.0); some = at.some; few = omega (arith, more.1, longer); ours = All-push (IsPageOf trace scan.inode) (flusher_of f s).batch scan.page at.ours here };
+          quota = subst (IsQuotaOf trace f) is (g.holds.flushers.each f).quota;
           hard = (g.holds.flushers.each f).hard;
           measures = (g.holds.flushers.each f).measures;
           weighs = (g.holds.flushers.each f).weighs;
@@ -155,7 +147,7 @@ module _ (trace : Trace) (facts : Facts trace) (i : ℕ) (less : i < trace.cpus)
         ◌∙◌ {a = (cpu_of i w).turn.whose} (logged_whose trace facts i less es (cpu_of i s).checks (cpu_of i s).estimates 0 silent_ticks z m.going) turn in
         put_close 0 silent_ticks w logged lfree (omega arith) turn2 (subst (λ (v : Flusher). IsScanning v.phase) (sym m.is) tt)
 
-    claim_done : (word : ℕ) → Ready trace i s → Free trace i 2 s → scan.page < end_of trace scan.inode → Done trace i (claim_in i f word (phase.Scanning scan) s)
+    claim_done : (word : ℕ) → Ready trace i s → Free trace i 2 s → IsOpenAt trace (flusher_of f s).batch (phase.Scanning scan) → Done trace i (claim_in i f word (phase.Scanning scan) s)
     claim_done word ready free more = either (λ y. Done trace i (with_step (plain_entry i kind.Claim) y)) (eqb (shared_word s.book scan.page) word) (claim_now i f scan s) s
         (λ hit. claimed_done ready free more)
         (λ missed. stays_done 1 silent_ticks 2 (with_step (plain_entry i kind.Claim) s) (ready (plain_entry i kind.Claim)) (free_step 2 (plain_entry i kind.Claim) free) turn
@@ -179,8 +171,8 @@ module _ (trace : Trace) (facts : Facts trace) (i : ℕ) (less : i < trace.cpus)
         (λ over. marks_done (scan.noted || ltb scan.page (end_of trace scan.inode)) g free)
         (λ on'. stays_done 0 silent_ticks 2 s g free turn (subst (IsOpenAt trace (flusher_of f s).batch) (sym is) (not_over (end_of trace scan.inode) scan.page scan.quota (length (flusher_of f s).batch) on')))
       where
-        not_over : (end page quota pages : ℕ) → leb end page || leb quota pages ≡ false → page < end
-        not_over end page quota pages h = grind (arith, nat_tests)
+        not_over : (end page quota pages : ℕ) → leb end page || leb quota pages ≡ false → (page < end) × (pages < quota)
+        not_over end page quota pages h = (grind (arith, nat_tests), grind (arith, nat_tests))
 
     -- ---- the batch goes to the disk
 
@@ -191,7 +183,7 @@ module _ (trace : Trace) (facts : Facts trace) (i : ℕ) (less : i < trace.cpus)
         idle_done until kept soon =
             let y : Flusher = record (flusher_of f s) { phase = phase.Idle until kept } in
             let m = turn_flusher trace facts i less f y s.working 0 0 silent_ticks 0 100 s on turn g free
-            (record { phase = none; hard = (g.holds.flushers.each f).hard; measures = (g.holds.flushers.each f).measures; weighs = (g.holds.flushers.each f).weighs; wheel = (g.holds.flushers.each f).wheel })
+            (record { phase = none; quota = tt; hard = (g.holds.flushers.each f).hard; measures = (g.holds.flushers.each f).measures; weighs = (g.holds.flushers.each f).weighs; wheel = (g.holds.flushers.each f).wheel })
             (omega arith) (omega arith) (omega (arith, soon)) (omega arith) (still_works y refl) in
             stays_done 0 0 2 (record s { flushers = set s.flushers f y; working = s.working }) m.going m.free turn (subst (IsOpen trace) (sym m.is) tt)
 
@@ -207,7 +199,7 @@ module _ (trace : Trace) (facts : Facts trace) (i : ℕ) (less : i < trace.cpus)
         let time = ceil_less (pages * 1000) rate (facts.rate (flusher_device trace f) (facts.flusher_device_is f on.there)) in
         let y : Flusher = record (flusher_of f s) { phase = phase.Flying scan.inode pages until } in
         let m = turn_flusher trace facts i less f y s.working 0 0 silent_ticks 0 silent_ticks s on turn g free
-        (record { phase = record { there = at.there; rest = omega arith; few = few; ours = at.ours }; hard = (g.holds.flushers.each f).hard; measures = (g.holds.flushers.each f).measures; weighs = (g.holds.flushers.each f).weighs; wheel = (g.holds.flushers.each f).wheel })
+        (record { phase = record { there = at.there; rest = omega arith; few = few; ours = at.ours }; quota = tt; hard = (g.holds.flushers.each f).hard; measures = (g.holds.flushers.each f).measures; weighs = (g.holds.flushers.each f).weighs; wheel = (g.holds.flushers.each f).wheel })
         (omega arith) (omega arith) (omega (arith, time, few, most)) (omega arith) (still_works y refl) in
         let z : State = record s { flushers = set s.flushers f y; working = s.working } in
         let es : List Entry = (cpu_of i s).entries ++ entry.Batch f pages s.now until ∷ [] in

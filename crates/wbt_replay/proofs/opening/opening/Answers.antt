@@ -2,12 +2,10 @@ use Rattle.std.proofs.Common.{List, length, replicate, false, [], refl, ◌∙�
 use Rattle.wbt_limits.specs.Thresholds.{ratelimit_pages_of}
 use Rattle.wbt_limits.specs.declared.domain.Pair.{Pair}
 use Rattle.wbt_trace.specs.Sofar.{pages_in}
-use Rattle.wbt_trace.specs.declared.trace.Context.{Context}
 use Rattle.wbt_trace.specs.declared.trace.Device.{Device}
 use Rattle.wbt_trace.specs.declared.trace.FlusherLine.{FlusherLine}
 use Rattle.wbt_trace.specs.declared.trace.Inode.{Inode}
 use Rattle.wbt_replay_moves.specs.declared.state.ReplayTask.{ReplayTask}
-use Rattle.wbt_replay_moves.specs.declared.state.Writeback.{Writeback}
 use Rattle.wbt_replay_order.specs.Definition.Opening.{running_of}
 use Rattle.wbt_replay.proofs.Ordering.Firsts.{opening_is}
 use Rattle.wbt_replay.proofs.opening.opening.Goals as goal
@@ -20,14 +18,14 @@ returns c =
     c.in_ok-new.ensures.clean
     (c.ratelimit_pages.ensures.value ∙ ap (λ (p : Pair). ratelimit_pages_of p.thresh trace.cpus) c.thresholds_at-thresh.ensures)
     c.in_ok-first_domains.ensures
-    (c.in_ok-filled.ensures ∙ ap (λ (l : List Context). replicate (length l) c.first_context.result) c.as_slice-3.ensures ∙ ap (λ (w : Writeback). replicate (length trace.contexts) w) c.first_context.ensures)
-    (c.in_ok-filled-2.ensures ∙ ap (λ (l : List Inode). replicate (length l) false) c.as_slice-4.ensures)
-    (c.in_ok-no_queues.ensures ∙ ap (λ (l : List Device). replicate (length l) []) c.as_slice-5.ensures)
+    c.in_ok-first_contexts.ensures
+    (c.in_ok-filled.ensures ∙ ap (λ (l : List Inode). replicate (length l) false) c.as_slice-3.ensures)
+    (c.in_ok-no_queues.ensures ∙ ap (λ (l : List Device). replicate (length l) []) c.as_slice-4.ensures)
     c.in_ok-tasks.ensures
     c.in_ok-first_flushers.ensures
     c.in_ok-first_cpus.ensures
     (c.running_of-running.ensures ∙ ap (λ (l : List ReplayTask). running_of l) (c.as_slice-2.ensures.value ∙ c.in_ok-tasks.ensures))
-    (ap (λ (l : List FlusherLine). length l) c.as_slice-6.ensures)
+    (ap (λ (l : List FlusherLine). length l) c.as_slice-5.ensures)
     refl refl
     c.in_ok-first_orders.ensures
     refl

@@ -1,7 +1,6 @@
 use Rattle.std.proofs.Common.{replicate, ap, subst, ◌∙◌}
-use Rattle.wbt_estimate.specs.Estimate.{first_at}
+use Rattle.wbt_rules.specs.First.{first_estimates}
 use Rattle.wbt_journal.specs.Items.{all_told}
-use Rattle.wbt_journal.specs.Machine.{contexts}
 use Rattle.wbt_journal.specs.Estimates.{opened_at}
 use Rattle.wbt_audit_reads.specs.Estimating.{AreCounts}
 use Rattle.wbt_audit_reads.proofs.Estimated.{last_first, named_first}
@@ -15,7 +14,6 @@ returns c =
       last =
           last_first trace (opened_at c.args.journal.now.timer) c.in_ok-last.last.items
           (c.in_ok-last.ensures
-          ∙ ap (λ n. replicate n c.first_at-first.result) contexts_is
-          ∙ ap (replicate (contexts trace)) (c.first_at-first.ensures ∙ ap first_at (c.opened_at.ensures ∙ ap opened_at c.as_slice.ensures)));
+          ∙ ap (first_estimates trace) (c.opened_at-opened.ensures ∙ ap opened_at c.as_slice.ensures));
       named = named_first trace c.in_ok-named.named (c.in_ok-named.ensures ∙ ap (λ n. replicate n 0) contexts_is);
     }

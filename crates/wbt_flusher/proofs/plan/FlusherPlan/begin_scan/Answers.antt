@@ -3,11 +3,11 @@ use Rattle.wbt_run_steps.proofs.Gating.{asked_more, asked_none, asked_once, once
 use Rattle.wbt_flusher.proofs.Going.{goes_nowhere, kept_more}
 use Rattle.std.proofs.Common.{sym, ap, ◌∙◌, subst}
 use Rattle.wbt_grant.specs.Kinds.{unmark}
-use Rattle.wbt_limits.specs.Flusher.{chunk_of}
 use Rattle.wbt_published.specs.Passes as est
 use Rattle.wbt_table.specs.Layout.{setting}
 use Rattle.wbt_table.specs.Seat.{Makes, Seated}
 use Rattle.wbt_flusher.specs.Plans.{context_of}
+use Rattle.wbt_rules.specs.Flusher.{quota_of}
 use Rattle.wbt_run_steps.specs.Reads.{ReadsEstimate}
 use Rattle.wbt_flusher.specs.Turns.{begun_scan}
 use Rattle.wbt_flusher.specs.declared.work.FlusherWork.{FlusherWork}
@@ -45,10 +45,10 @@ returns-clause-begins g c so log written =
       found = u.unmarks.0;
       unmarks = subst (λ (s : Seated). Makes (setting kit.throttle.layout) (unmark plan.cpu c.args.inode) u.unmarks.0 c.args.seats.now.cpu s) (sym q.only_est.cpu) u.unmarks.1;
       estimate = newest;
-      reads = subst (λ (s : est.Seats). ReadsEstimate kit.published.moment (context_of plan c.args.inode) newest s c.set_quota.new.seats.est) u.only.est q.quota.1;
+      reads = subst (λ (s : est.Seats). ReadsEstimate kit.published.firsts (context_of plan c.args.inode) newest s c.set_quota.new.seats.est) u.only.est q.quota.1;
       share = q.only_est.share ∙ u.only.share;
       queue_is = q.only_est.queue ∙ u.only.queue;
-      work = q.quota.2 ∙ ap (λ (w : FlusherWork). record w { phase = begun_scan plan c.args.inode (chunk_of newest.avg w.hard) }) u.begun;
+      work = q.quota.2 ∙ ap (λ (w : FlusherWork). record w { phase = begun_scan plan c.args.inode (quota_of plan.shares newest.avg w.hard) }) u.begun;
     }
 
 -- ---- kinds of steps

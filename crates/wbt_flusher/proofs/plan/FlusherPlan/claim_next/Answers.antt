@@ -43,7 +43,7 @@ returns-in-Mine g c =
         only = record { share = refl; est = refl; queue = refl };
         page = inl (record { word = e.0; claimable = e.1; claims = e.2; told = c.tell.ensures.log; batch = c.push_reserved.ensures.items; next_is = refl });
       };
-      looks = claimed_stands c.args.self.now was is scan next c.requires.suits.plan_is c.requires.scan c.requires.before refl refl refl refl refl c.push_reserved.ensures.items;
+      looks = claimed_stands c.args.self.now was is scan next c.requires.suits.plan_is c.requires.scan c.requires.before c.requires.below refl refl refl refl refl c.push_reserved.ensures.items;
       asked = asked_try c.args.self.now.cpu (g.G.Gate.said c.args.hands.now.gate.now) (setting c.args.hands.now.kit.now.throttle.layout) scan.page e.0 e.0 c.args.seats.now new c.requires.fits.held e.5 e.6 e.2;
       kinds = claimed_as c.args.self.now.cpu (setting c.args.hands.now.kit.now.throttle.layout) scan.page e.0 e.0 c.args.seats.now new e.4;
       room = omega arith;

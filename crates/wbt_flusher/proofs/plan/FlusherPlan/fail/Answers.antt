@@ -20,7 +20,7 @@ returns-clause-goes c kit seats before suits fits paid told =
     let is = c.forget.new.work in
     let o = c.forget.ensures.only_tallies in
     subst (λ (l : CpuJournal). Went c.args.self.now kit told (sight was seats c.args.pen.now.log before) (sight is seats l before)) (sym (c.tell.ensures.log ∙ ap (λ (n : ℕ). with_entry (entry.Fault c.args.self.now.flusher n) c.args.pen.now.log) (ap (λ (l : List ℕ). length l) c.as_slice.ensures.value)))
-    (fails_off c.args.self.now kit told seats c.args.pen.now.log was is c.args.scan fits paid c.requires.phase c.requires.some (λ i. (o.batch i).items) o.wheel
+    (fails_off c.args.self.now kit told seats c.args.pen.now.log was is c.args.scan fits paid c.requires.phase c.requires.scan c.requires.some (λ i. (o.batch i).items) o.wheel
     (owes_more c.args.self.now was mid is (owes_same c.args.self.now was mid refl (lands_nothing c.args.self.now was mid c.args.scan c.requires.phase refl)) c.forget.ensures.less)
     before o.phase c.requires.last o.faults)
 

@@ -1,6 +1,6 @@
 use Rattle.std.proofs.Common.{◌<◌, ◌≤◌, length, refl, sym, ap, ◌∙◌, subst, arith}
 use Rattle.wbt_estimate.specs.declared.estimate.Estimate.{Estimate}
-use Rattle.wbt_published.specs.Known.{note_of, after_read}
+use Rattle.wbt_published.specs.Known.{note_of, after_read, first_in}
 use Rattle.wbt_published.specs.Passes.{known_of}
 use Rattle.wbt_published.specs.declared.known.Known.{Known}
 use Rattle.wbt_run_laws.specs.Notes.{IsNewest}
@@ -27,11 +27,11 @@ returns g c =
     let low : known.seen ≤ (after_read note known).seen = (let v = version_of c.read.result in let f = e.fresh.0 in omega arith) in
     let at = known_here plan kit old new k (after_read note known) fits (record { cpu = refl; share = refl; queue = refl }) e.noted there refl in
     record {
-      goes = read_goes plan kit old new k (after_read note known) fits (record { cpu = refl; share = refl; queue = refl }) e.noted there refl low (read_tells_nothing kit.published.moment known c.read.result);
+      goes = read_goes plan kit old new k (after_read note known) fits (record { cpu = refl; share = refl; queue = refl }) e.noted there refl low (read_tells_nothing (first_in kit.published.firsts k) known c.read.result);
       fits = fits_est plan kit old new k (after_read note known) fits (record { cpu = refl; share = refl; queue = refl }) e.noted there refl;
       only_est = record { cpu = refl; share = refl; queue = refl };
       sound = e.sound;
-      newest = subst (λ (q : Known). IsNewest kit.published.moment q c.read.result) (sym at) (newest_after kit.published.moment known note c.read.result (read_is_newest kit.published.moment known c.read.result complete newest e.first));
+      newest = subst (λ (q : Known). IsNewest (first_in kit.published.firsts k) q c.read.result) (sym at) (newest_after (first_in kit.published.firsts k) known note c.read.result (read_is_newest (first_in kit.published.firsts k) known c.read.result complete newest e.first));
       last = ap (λ (q : Known). length q.all) at ∙ last_place known c.read.result complete newest;
       seen = ap (λ (q : Known). q.seen) at ∙ version_of c.read.result;
       reads = record { noted = e.noted; first = e.first; sound = e.sound; no_older = e.fresh.0 };

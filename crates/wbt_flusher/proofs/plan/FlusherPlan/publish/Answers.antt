@@ -1,6 +1,6 @@
 use Rattle.std.proofs.Common.{◌≡◌, ◌<◌, ℕ, length, Contains, refl, sym, ap, ◌∙◌, subst, arith, set}
 use Rattle.wbt_estimate.specs.declared.estimate.Estimate.{Estimate}
-use Rattle.wbt_published.specs.Known.{after_publish}
+use Rattle.wbt_published.specs.Known.{after_publish, first_in}
 use Rattle.wbt_published.specs.Passes.{known_of}
 use Rattle.wbt_published.specs.declared.known.Known.{Known}
 use Rattle.wbt_journal.specs.Estimates.{Follows}
@@ -41,7 +41,7 @@ returns-clause-goes g c work told written has =
     let seen = c.requires.seen in
     subst (λ (l : CpuJournal). Went plan kit told (sight work old c.args.pen.now.log written) (sight work new l written)) (sym c.tell_estimate.ensures.log)
     (publish_goes plan kit old new k now fits (record { cpu = refl; share = refl; queue = refl }) c.publish.ensures there refl estimate c.requires.suits c.requires.context
-    (omega arith) (publish_is_told kit.published.moment known c.args.old estimate publishes c.requires.newest follows)
+    (omega arith) (publish_is_told (first_in kit.published.firsts k) known c.args.old estimate publishes c.requires.newest follows)
     told work c.args.pen.now.log written (subst (λ (m : ℕ). Contains told.estimates m) (sym at) has))
 
 pub returns-clause-published : goal.returns-clause-published

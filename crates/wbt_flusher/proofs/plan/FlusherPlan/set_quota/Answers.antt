@@ -1,6 +1,6 @@
 use Rattle.std.proofs.Common.{◌≡◌, ℕ, ◌<◌, ◌≤◌, false, List, length, refl, ap, arith}
 use Rattle.wbt_estimate.specs.declared.estimate.Estimate.{Estimate}
-use Rattle.wbt_published.specs.Known.{note_of, after_read}
+use Rattle.wbt_published.specs.Known.{note_of, after_read, first_in}
 use Rattle.wbt_published.specs.Passes.{known_of}
 use Rattle.wbt_published.specs.declared.known.Known.{Known}
 use Rattle.wbt_run_laws.proofs.Calling.{read_tells_nothing}
@@ -30,10 +30,10 @@ returns-clause-goes g c told log written =
     let low : known.seen ≤ (after_read note known).seen = (let v = version_of c.read-avg.result in let f = e.fresh.0 in omega arith) in
     let was : FlusherWork = c.args.work.now in
     let a : Scan = record { inode = c.args.inode; page = (inode_at plan c.args.inode).first; quota = 0; noted = false } in
-    let b : Scan = record { inode = c.args.inode; page = c.first_of.result; quota = c.chunk_of.result; noted = false } in
+    let b : Scan = record { inode = c.args.inode; page = c.first_of.result; quota = c.quota_of.result; noted = false } in
     let is : FlusherWork = record { phase = Scanning b; batch = was.batch; faults = was.faults; hard = was.hard; waiting = was.waiting; some_wait = was.some_wait; tallies = was.tallies; wheel = was.wheel } in
     went_more plan kit told (sight was old log written) (sight was new log written) (sight is new log written)
-    (read_goes plan kit old new k (after_read note known) fits (record { cpu = refl; share = refl; queue = refl }) e.noted there refl low (read_tells_nothing kit.published.moment known c.read-avg.result) told was log written)
+    (read_goes plan kit old new k (after_read note known) fits (record { cpu = refl; share = refl; queue = refl }) e.noted there refl low (read_tells_nothing (first_in kit.published.firsts k) known c.read-avg.result) told was log written)
     (goes_kept plan kit new was is (fits_est plan kit old new k (after_read note known) fits (record { cpu = refl; share = refl; queue = refl }) e.noted there refl)
     (requota plan new was is a b c.requires.begun refl c.first_of.ensures refl refl refl refl refl refl) told log written)
 
@@ -41,10 +41,10 @@ pub returns-clause-steady : goal.returns-clause-steady
 returns-clause-steady g c =
     let plan = c.args.self.now in
     let lists = c.requires.lists in
-    let scan : Scan = record { inode = c.args.inode; page = c.first_of.result; quota = c.chunk_of.result; noted = false } in
-    let at = begins plan c.args.work.now.batch.items scan c.requires.suits.plan_is c.requires.inode c.requires.empty c.first_of.ensures in
+    let scan : Scan = record { inode = c.args.inode; page = c.first_of.result; quota = c.quota_of.result; noted = false } in
+    let at = begins plan c.args.work.now.batch.items scan c.requires.suits.plan_is c.requires.inode c.requires.empty c.first_of.ensures c.quota_of.ensures.within in
     let none : length c.args.work.now.batch.items ≡ 0 = ap (λ (l : List ℕ). length l) c.requires.empty in
-    let some = c.chunk_of.ensures.some in
+    let some = c.quota_of.ensures.some c.requires.suits.plan_is.chunk in
     record {
       lists = record { proper = lists.proper; tallies = lists.tallies; waiting = lists.waiting; none_wait = lists.none_wait; wheel = lists.wheel };
       phase = (at.0, at.1, omega arith);

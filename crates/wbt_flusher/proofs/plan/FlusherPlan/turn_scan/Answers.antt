@@ -65,6 +65,9 @@ returns-then-not-is_over-clause-ends g c =
           (owes_still plan c.args.seats.now c.claim_next.new.seats e.debts ready.owes_none);
     }
 
+pub claim_next-requires-clause-below : goal.claim_next-requires-clause-below
+claim_next-requires-clause-below g c = scan_below c.args.self.now c.args.work.now c.args.scan c.requires.ready.steady c.requires.phase
+
 pub close-requires-clause-open : goal.close-requires-clause-open
 close-requires-clause-open g c =
     let e = c.claim_next.ensures in

@@ -1,4 +1,4 @@
-use Rattle.std.proofs.Common.{ℕ, List, length, map, replicate, sym, ap, ◌∙◌}
+use Rattle.std.proofs.Common.{ℕ, length, replicate, sym, ap, ◌∙◌}
 use Rattle.std.proofs.lemmas.List.{length-map, length-replicate}
 use Rattle.wbt_table.specs.declared.layout.Layout.{Layout}
 use Rattle.wbt_table.specs.Rule.{Cpus}
@@ -20,7 +20,7 @@ returns-clause-seats c =
       each_cpu = ap (λ (l : Cpus). length l) seat.1.cpus ∙ length-replicate _ (Some no_record) ∙ ap (λ (l : Layout). l.cpus) seat.0.layout;
       share = c.in_ok-shares.ensures.seat;
       est = ap (λ (p : EstPass). p.names) pass;
-      each_context = ap (λ (p : EstPass). length p.known) pass ∙ length-replicate _ opening ∙ sym c.in_ok-published.ensures.cells.1;
+      each_context = ap (λ (p : EstPass). length p.known) pass ∙ length-replicate _ opening ∙ sym c.in_ok-published.ensures.cells.2;
       queue = ap (λ (p : QueuePass). p.names) numbers;
       each_device = ap (λ (p : QueuePass). length p.known) numbers ∙ length-map _ (λ (size : ℕ). empty);
     }
@@ -34,7 +34,7 @@ returns-clause-first c =
       shares = made.first.0;
       totals = (made.first.1, made.first.2);
       rooms = made.rooms;
-      est = ap (λ (p : EstPass). p.known) pass ∙ ap (λ (n : ℕ). replicate n opening) (sym c.in_ok-published.ensures.cells.1);
+      est = ap (λ (p : EstPass). p.known) pass ∙ ap (λ (n : ℕ). replicate n opening) (sym c.in_ok-published.ensures.cells.2);
       queue = ap (λ (p : QueuePass). p.known) c.in_ok-queues.ensures.pass;
       shares_room = made.shares_room;
       splits = made.splits;

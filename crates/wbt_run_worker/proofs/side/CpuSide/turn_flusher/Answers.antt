@@ -1,4 +1,4 @@
-use Rattle.std.proofs.Common.{◌≡◌, ◌<◌, ℕ, List, length, map, set, get_or, refl, sym, ap, ◌∙◌, subst, arith}
+use Rattle.std.proofs.Common.{◌≡◌, ◌<◌, ℕ, List, length, map, set, get_or, refl, sym, ap, ◌∙◌, subst}
 use Rattle.std.proofs.lemmas.List.{map-set, set-get_or}
 use Rattle.wbt_run_worker.specs.Answers.{Goes, JobAnswers, job_by}
 use Rattle.wbt_run_worker.specs.Rounds.{JobTakes, JobWaits}
