@@ -3,7 +3,7 @@
 
 It is written from the laws and from the description of the turns alone, with a turn as a generator that stops before each of its
 steps. The formulas are those of tools/laws. Nothing rests on it: worked runs and tools/check-runs take their texts from it, so that
-a definition that is changed together with its code is noticed. It also runs four lines of a trace that wbsim refuses, "In a closed loop" in
+a definition that is changed together with its code is noticed. It also runs two lines of a trace that wbsim refuses, "In a closed loop" in
 docs/LINUX.md, but not with --as-wbsim.
 
 usage: tools/replay.py [--as-wbsim] < TRACE
@@ -100,7 +100,7 @@ class Machine:
     """The machine of a trace, and what has become of it so far."""
 
     def __init__(self, text, is_for_program=False):
-        """Of the text of a trace. Raises `Fault` where it is none. One for the program has no lines of a closed loop."""
+        """Of the text of a trace. Raises `Fault` where it is none. One for the program has no line that it doesn't know."""
         trace = trace_of(WholeText("standard input", text.encode("latin-1")), is_for_program)
         self.settings, self.cap, self.halt, self.avail = trace.settings, trace.cap, trace.halt, trace.avail
         self.cpus = [Thing() for _ in range(trace.cpus)]

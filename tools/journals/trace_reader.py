@@ -1,4 +1,4 @@
-"""Reading a trace. A text that `wbsim check` refuses is refused here with the same line and cause, but for the lines of a closed loop,
+"""Reading a trace. A text that `wbsim check` refuses is refused here with the same line and cause, but for the lines `cyclic` and `pace`,
 which that program doesn't know. They are refused where the text is for it.
 
 Each call of a line looks for its faults in the order of the format's table: unknown names, what is given twice, what is out of range,
@@ -19,13 +19,13 @@ from .trace import Cgroup, Context, Device, FirstEstimate, Flusher, Inode, Order
 from .whole_text import Refused, WholeText, read_whole
 
 COUNTS = {
-    "cpus": 1, "cap": 1, **{f"set {name}": 1 for name in limits.SETTINGS}, "avail": 2, "device": 4, "strict": 1, "cgroup": 3, "context": 3,
-    "expire": 2, "inode": 3, "task": 2, "flusher": 3, "write": 4, "rest": 2, "order": 2, "order timer": 1, "tick": 1, "halt": 1,
+    "cpus": 1, "cap": 1, **{f"set {name}": 1 for name in limits.SETTINGS}, "avail": 2, "device": 4, "strict": 1, "chunk": 2, "cgroup": 3, "context": 3,
+    "expire": 2, "estimate": 4, "inode": 3, "task": 2, "flusher": 3, "write": 4, "rest": 2, "order": 2, "order timer": 1, "tick": 1, "halt": 1,
 }
 """How many numbers each line has."""
 
-LOOP_COUNTS = {"chunk": 2, "cyclic": 1, "estimate": 4, "pace": 3}
-"""The same of the lines of a closed loop, which `tools/replay.py` alone runs."""
+LOOP_COUNTS = {"cyclic": 1, "pace": 3}
+"""The same of the lines that `tools/replay.py` alone runs."""
 
 
 class Found(Exception):
@@ -44,7 +44,7 @@ def read_trace(path: str) -> Trace:
 
 
 def trace_of(text: WholeText, is_for_program: bool = False) -> Trace:
-    """The trace of a text. Raises `Fault` where it is none. One for the program has no lines of a closed loop."""
+    """The trace of a text. Raises `Fault` where it is none. One for the program has no line that it doesn't know."""
     reader = TraceReader(is_for_program)
     text.give(reader)
     missing = reader.missing()
@@ -75,11 +75,10 @@ class TraceReader:
         self.action_lines = 0
         self.writers: set[tuple[int, int]] = set()
         self.calls: dict[str, Callable[..., None]] = {
-            "cpus": self.cpus, "cap": self.cap, "avail": self.avail, "device": self.device, "strict": self.strict,
-            "cgroup": self.cgroup, "context": self.context, "expire": self.expire, "inode": self.inode, "task": self.task,
-            "flusher": self.flusher, "write": self.write, "rest": self.rest, "order": self.order, "order timer": self.order_timer,
-            "tick": self.tick, "halt": self.halt,
-            "chunk": self.chunk, "cyclic": self.cyclic, "estimate": self.estimate, "pace": self.pace,
+            "cpus": self.cpus, "cap": self.cap, "avail": self.avail, "device": self.device, "strict": self.strict, "chunk": self.chunk,
+            "cyclic": self.cyclic, "cgroup": self.cgroup, "context": self.context, "expire": self.expire, "estimate": self.estimate,
+            "inode": self.inode, "task": self.task, "pace": self.pace, "flusher": self.flusher, "write": self.write, "rest": self.rest,
+            "order": self.order, "order timer": self.order_timer, "tick": self.tick, "halt": self.halt,
         }
         for name in limits.SETTINGS:
             self.calls[f"set {name}"] = lambda value, name=name: self.setting(name, value)

@@ -1,4 +1,5 @@
-"""The text of a trace, as `wbsim check` prints it. Lines of a closed loop, which that program refuses, stand after those of their thing."""
+"""The text of a trace, as `wbsim check` prints it. The lines `cyclic` and `pace`, which that program refuses, stand after
+the others of their thing."""
 from __future__ import annotations
 
 from collections.abc import Iterator

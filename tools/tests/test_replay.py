@@ -64,7 +64,7 @@ def parts_of(trace: str) -> tuple[list[str], list[str]]:
     return [line for line in lines if not line.startswith("step")], steps
 
 
-class ClosedLoop(unittest.TestCase):
+class FurtherLines(unittest.TestCase):
     def test_a_chunk_of_a_page(self) -> None:
         entries, steps = parts_of(MACHINE.format(2) + "chunk 0 1\nwrite 0 0 0 2\n")
         self.assertEqual(entries[5:13], ["claim 0 0", "batch 0 1 1 2", "done 0 0", "share 0 0 1", "claim 0 1", "batch 0 1 2 3", "done 0 1",
@@ -115,9 +115,11 @@ class Program(unittest.TestCase):
         self.assertEqual(run("trace")[0], 1)
 
 
-    def test_as_the_program_it_refuses_the_lines_of_a_closed_loop(self) -> None:
-        for line in ("chunk 0 1", "cyclic 0", "estimate 0 1 1 1", "pace 0 1 1"):
+    def test_as_the_program_it_refuses_the_lines_that_it_alone_runs(self) -> None:
+        for line in ("cyclic 0", "pace 0 1 1"):
             self.assertEqual(run("--as-wbsim", given=f"{MACHINE.format(2)}{line}\n"), (2, "", "wbsim: line 8: bad line\n"))
+        for line in ("chunk 0 1", "estimate 0 1 1 1"):
+            self.assertEqual(run("--as-wbsim", given=f"{MACHINE.format(2)}{line}\n")[0], 0)
 
 
 if __name__ == "__main__":

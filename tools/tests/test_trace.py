@@ -105,7 +105,7 @@ class Traces(WithDirectory):
         self.assertEqual([context.expire for context in trace.contexts], [None, None, 100000])
         self.assertEqual(trace.ageing_devices(), [1])
 
-    def test_lines_of_a_closed_loop(self) -> None:
+    def test_further_lines_of_things(self) -> None:
         more = "device 1 1 0 100\ncontext 1 1 0\nflusher 1 1 0\nchunk 1 5\ncyclic 0\nestimate 1 100 90 50\npace 0 2 50\n"
         trace = trace_of_text(WholeText("t", f"{MACHINE}{more}".encode("ascii")))
         self.assertEqual([(device.chunk, device.is_cyclic) for device in trace.devices], [(None, True), (5, False)])

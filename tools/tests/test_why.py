@@ -35,7 +35,7 @@ TRACES = [
     ("cpus 1\navail 0 01", 2, 9, "bad line", "number spelled with a leading zero"),
     ("CPUS 1\n", 1, 1, "bad line", "no line of a trace begins with 'CPUS'; is it 'cpus'?"),
     ("now 5000\n", 1, 1, "bad line", "no line of a trace begins with 'now'"),
-    (MACHINE + "chunk 0 2\n", 8, 1, "bad line", "no line of a trace for wbsim begins with 'chunk': only tools/replay.py reads such a line"),
+    (MACHINE + "cyclic 0\n", 8, 1, "bad line", "no line of a trace for wbsim begins with 'cyclic': only tools/replay.py reads such a line"),
     (MACHINE + "pace 0 x\n", 8, 1, "bad line", "no line of a trace for wbsim begins with 'pace': only tools/replay.py reads such a line"),
     ("set dirty_speed 1\n", 1, 5, "bad line", "no setting is named 'dirty_speed'"),
     ("set\n", 1, 4, "bad line", "a field is missing: 'set' has a second word"),
@@ -62,6 +62,8 @@ TRACES = [
     ("halt 1\nhalt 1\n", 2, 6, "given twice", "a second 'halt' line: the first is line 1"),
     (MACHINE + "expire 0 10\nexpire 0 10\n", 9, 8, "given twice", "a second 'expire 0' line: the first is line 8"),
     # ranges
+    (MACHINE + "chunk 0 2\nchunk 0 0\n", 9, 7, "given twice", "a second 'chunk 0' line: the first is line 8"),
+    (MACHINE + "estimate 1 0 1 1\n", 8, 10, "unknown name", "no line before has context 1: the last one so far is context 0"),
     (MACHINE + "expire 0 0\n", 8, 10, "out of range",
      "number below 1, the least number of hundredths of a second after which an inode is due"),
     ("cpus 65\n", 1, 6, "out of range", "number above 64, the greatest number of CPUs"),
@@ -193,7 +195,7 @@ class Why(WithDirectory):
         self.assertIn("lawful law text: a check in no cgroup", why("-", given=LAW)[1])
         self.assertIn("line 3, column 1: bad line: no line of a trace begins with 'now'", why("--as", "trace", "-", given=LAW)[1])
         self.assertIn("line 2, column 1: bad line: 'avail' where the 'cap'", why("--as", "law", "-", given=MACHINE)[1])
-        self.assertIn("no line of a trace for wbsim begins with 'estimate'", why("-", given="estimate 0 1 1 1\n")[1])
+        self.assertIn("unknown name: no line before has context 0", why("-", given="estimate 0 1 1 1\n")[1])
         self.assertIn("bad line: 'estimate' where the 'cpus'", why("-", given="estimate 1 1\n")[1])
 
     def test_other_words_and_read_faults(self) -> None:

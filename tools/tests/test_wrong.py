@@ -71,7 +71,7 @@ class OfTheRepository(WithDirectory):
         rows = re.search(r"static ROWS: \[Row; (\d+)\]", self.source("wbt_law_tests", "src", "laws.rt"))
         assert rows
         self.assertEqual(len(law_rows(ROOT)), int(rows.group(1)))
-        self.assertEqual(len(small_replays(ROOT)), 4)
+        self.assertEqual(len(small_replays(ROOT)), 6)
         folders = [os.path.join(ROOT, "examples"), os.path.join(ROOT, "examples", LOOP)]
         kept = [name for folder in folders for name in os.listdir(folder) if name.endswith((".journal", ".sum"))]
         self.assertEqual(Counter(it.command for it in examples(ROOT)), {"replay": len(kept), "law": 1})

@@ -4,7 +4,8 @@
     inputs   every worked run, row and example of the repository: the text that goes in, and the one that is wanted
     rule     what a wrong rule is: a change of one place of `tools/replay.py` or `tools/laws/`
     order    the wrong rules of the order of a replay, and those that change no journal
-    loops    the wrong rules of the lines of a closed loop
+    lines    the wrong rules of the chunk of a device, and of the first estimate of a context
+    loops    the wrong rules of the lines that `tools/replay.py` alone runs
     rules    all wrong rules
     outputs  what the program prints of inputs; it runs in the changed copy
     serving  the program there that loads the copy for each change, and answers

@@ -1,13 +1,12 @@
-"""Wrong rules of the lines of a closed loop: chunks of devices, scans that go on, first estimates, and paces.
+"""Wrong rules of the lines that `tools/replay.py` alone runs: scans that go on, and paces.
 
 Where a scan begins is seen where an inode is scanned again, so that they are noticed by devices with a chunk.
 """
 from __future__ import annotations
 
 from .order import changed
-from .rule import ESTIMATE, LIMITS, REPLAY, WORKS, Rule
+from .rule import LIMITS, REPLAY, WORKS, Rule
 
-QUOTA = "return chunk_of(average, hard) if chunk is None else min(chunk_of(average, hard), chunk)"
 CLOSING = """\
         if it.passed < inode.pages and len(it.batch) < it.quota:
             return
@@ -16,8 +15,6 @@ CLOSING = """\
         if it.passed < inode.pages or it.noted:
 """
 PLACE = "place_after(inode.pages, it.start, it.passed)"
-FIRST = "            it.estimate = Estimate(it.first.bandwidth, it.first.average, it.first.ratelimit) if it.first else Estimate()\n"
-RATES = "self.bandwidth, self.average, self.ratelimit, self.balanced = bandwidth, average, ratelimit, ratelimit\n"
 CUT = """\
         pace, number = self.paces.get(task), 0
         for action in self.actions.get(task, []):
@@ -32,18 +29,6 @@ CUT = """\
                 yield WriteAction(action.inode, action.first + done, many)
                 done, number = done + many, number + many
 """
-
-OF_CHUNKS = (
-    Rule("a chunk line says the least quota", LIMITS, QUOTA, QUOTA.replace("min(", "max(")),
-    Rule("a chunk line says the quota, also above what the laws give", LIMITS, QUOTA, "return chunk_of(average, hard) if chunk is None else chunk"),
-    Rule("no device has a chunk line", LIMITS, QUOTA, "return chunk_of(average, hard)"),
-    Rule("a chunk line is one page less", LIMITS, QUOTA, QUOTA.replace(", chunk)", ", max(chunk - 1, 1))")),
-    Rule("all devices have the chunk line of the first", REPLAY, "it.device.chunk)", "self.devices[0].chunk)"),
-    Rule("all devices have the chunk line of the last", REPLAY, "it.device.chunk)", "self.devices[-1].chunk)"),
-    Rule("a chunk line is of the context of its number", REPLAY, "it.device.chunk)",
-         "(self.devices[inode.context].chunk if inode.context < len(self.devices) else None))"),
-    Rule("a quota counts the pages that a scan has passed", REPLAY, "len(it.batch) < it.quota:", "it.passed < it.quota:"),
-)
 
 OF_SCANS = (
     Rule("every device is cyclic", REPLAY, "if it.device.is_cyclic:", "if True:"),
@@ -77,22 +62,6 @@ OF_SCANS = (
          *changed(CLOSING, ("it.places[inode.number]", "it.places[(inode.number + 1) % len(self.inodes)]"))),
     Rule("all flushers have one place for an inode", REPLAY,
          *changed(CLOSING, ("it.places[inode.number] =", "for other in self.flushers:\n                other.places[inode.number] ="))),
-)
-
-OF_FIRST_ESTIMATES = (
-    Rule("a first estimate is of version 1", REPLAY, FIRST, FIRST + "            it.estimate.version = int(it.first is not None)\n"),
-    Rule("a first estimate's moment is 0", REPLAY, FIRST, FIRST + "            it.estimate.at = int(it.first is None)\n"),
-    Rule("no context has a first estimate of its own", REPLAY, FIRST, "            it.estimate = Estimate()\n"),
-    Rule("all contexts have the first estimate of context 0", REPLAY, FIRST,
-         "            at = self.contexts[0].first\n            it.estimate = Estimate(at.bandwidth, at.average, at.ratelimit) if at else Estimate()\n"),
-    Rule("all contexts of a device have the first estimate of one", REPLAY, FIRST,
-         "            at = next((other.first for other in self.contexts if other.first and other.device is it.device), None)\n"
-         "            it.estimate = Estimate(at.bandwidth, at.average, at.ratelimit) if at else Estimate()\n"),
-    Rule("a first estimate's balanced rate is that of all", ESTIMATE, RATES, RATES.replace("ratelimit, ratelimit\n", "ratelimit, FIRST_RATE\n")),
-    Rule("a first estimate's balanced rate is its bandwidth", ESTIMATE, RATES, RATES.replace("ratelimit, ratelimit\n", "ratelimit, bandwidth\n")),
-    Rule("a first estimate's average is its bandwidth", ESTIMATE, RATES, RATES.replace("= bandwidth, average,", "= bandwidth, bandwidth,")),
-    Rule("a first estimate's bandwidth is its average", ESTIMATE, RATES, RATES.replace("= bandwidth, average,", "= average, average,")),
-    Rule("a first estimate's rate limit is its average", ESTIMATE, RATES, RATES.replace("ratelimit, ratelimit\n", "average, average\n")),
 )
 
 OF_PACES = (
@@ -139,4 +108,4 @@ OF_PACES = (
     Rule("a pace's rest is in tenths of ticks", WORKS, "yield RestAction(pace.ticks)", "yield RestAction(max(pace.ticks // 10, 1))"),
 )
 
-OF_LOOPS = (*OF_CHUNKS, *OF_SCANS, *OF_FIRST_ESTIMATES, *OF_PACES)
+OF_LOOPS = (*OF_SCANS, *OF_PACES)

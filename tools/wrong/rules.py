@@ -1,6 +1,7 @@
 """The wrong rules. Those of the order of a replay stand in `order`."""
 from __future__ import annotations
 
+from .lines import OF_LINES
 from .loops import OF_LOOPS
 from .order import OF_ORDER
 from .rule import AGE, ALLOWANCE, COUNTERS, DECISION, ESTIMATE, LIMITS, PAUSES, POSITION, PROPORTIONS, REPLAY, STRICT, Rule
@@ -376,4 +377,4 @@ OF_AGES = (
 )
 
 RULES = (*OF_LIMITS, *OF_LOADS, *OF_FLUSHERS, *OF_ESTIMATES, *OF_PROPORTIONS, *OF_POSITIONS, *OF_PAUSES, *OF_DECISIONS, *OF_WRITERS,
-         *OF_COUNTERS, *OF_TURNS, *OF_ORDER, *OF_STRICT_DEVICES, *OF_AGES, *OF_LOOPS)
+         *OF_COUNTERS, *OF_TURNS, *OF_ORDER, *OF_STRICT_DEVICES, *OF_AGES, *OF_LINES, *OF_LOOPS)

@@ -47,4 +47,4 @@ def made_of(story: Story, given: argparse.Namespace) -> tuple[Iterable[str], lis
     if not trace_limits.CHUNK.least <= chunk <= trace_limits.CHUNK.greatest:
         raise OtherWords(f"--chunk {chunk}: {trace_limits.CHUNK.fault(chunk)}")
     loop = loop_machine_of(story, given.seconds, chunk)
-    return loop_lines(loop), [*loop.notes, "tools/replay.py alone runs this trace: wbsim refuses its lines chunk, cyclic, estimate and pace"]
+    return loop_lines(loop), [*loop.notes, "tools/replay.py alone runs this trace: wbsim refuses its lines cyclic and pace"]
