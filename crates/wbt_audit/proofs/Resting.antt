@@ -1,5 +1,5 @@
 -- Tasks that rest last, and how many tasks a CPU has.
-use Rattle.std.proofs.Common.{◌≡◌, ℕ, ◌+◌, ◌<◌, ◌≤◌, Bool, true, false, ◌&&◌, ◌==◌, nat_le, cond, Option, Some, All, List, ◌∷◌, count_by, drop, get_or, length, replicate, refl, sym, ap, ◌∙◌, subst, arith}
+use Rattle.std.proofs.Common.{◌≡◌, ℕ, ◌+◌, ◌<◌, ◌≤◌, Bool, true, false, ◌&&◌, ◌==◌, nat_le, cond, Option, Some, All, List, ◌∷◌, count_by, drop, get_or, length, replicate, refl, sym, ap, ◌∙◌, subst, arith, None}
 use Rattle.std.proofs.lemmas.List.{drop_all, drop_more, get_or-replicate}
 use Rattle.std.proofs.lemmas.List.Sums.{sum_by-cons}
 use Rattle.wbt_trace.specs.Lawful.{IsTask}
@@ -72,7 +72,7 @@ unsettled_on trace now i d test whole same less is before =
     ap (from_here trace i) (sym is) ∙ sym (ap (unsettled_from trace i) cut) ∙ before
 
 abbrev pub no_line : TaskLine
-no_line = record { cpu = 0 }
+no_line = record { cpu = 0; pace = None }
 
 pub cpu_low : (trace : Trace) (now : List TaskLine) (i : ℕ) (d : TaskLine) → now ≡ trace.tasks → i < length now → All (IsTask trace.cpus) trace.tasks
     → (get_or now i d).cpu < trace.cpus

@@ -55,7 +55,7 @@ unfolding audit_of
 broken_found trace j point line is = settled_broken (unsettled_task trace) (verdict_of trace (with_marks trace j)) point line is
 
 abbrev no_line : TaskLine
-no_line = record { cpu = 0 }
+no_line = record { cpu = 0; pace = None }
 
 -- no task is unsettled
 not_here : (test : Bool) (task : ℕ) (more : Option ℕ) → ◌≡◌ {A = Option ℕ} (elim test [ true ↦ Some task | false ↦ more ]) None → (test ≡ false) × (more ≡ None)

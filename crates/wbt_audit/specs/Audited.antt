@@ -23,6 +23,7 @@ abbrev pub unsettled_from : (trace : Trace) (task : ℕ) (lines : List TaskLine)
 unsettled_from trace task [] = None
 unsettled_from trace task (line ∷ lines) = elim (is_unsettled trace task line.cpu) [ true ↦ Some task | false ↦ unsettled_from trace (task + 1) lines ]
 
+-- the least task of which the trace leaves open where it ends, if there is one
 abbrev pub unsettled_task : (trace : Trace) → Option ℕ
 unsettled_task trace = unsettled_from trace 0 trace.tasks
 
@@ -32,15 +33,18 @@ verdict_of_runs trace j =
     judged_by 12 (pages_fault trace j) (judged_by 13 (ledger_fault trace j) (judged_by 14 (flights_fault trace j) (judged_by 15 (bound_fault trace j)
     (judged_by 16 (ending_fault trace j) journal.lawful))))
 
+-- the verdict of the points from 7 on: what checks decided, where they stand, the timer, waiting lists, and what a run leaves
 abbrev pub verdict_of_checks : (trace : Trace) (j : Journal) → journal.Verdict
 verdict_of_checks trace j =
     judged_by 7 (decisions_fault trace j) (judged_by 8 (checks_fault trace j) (judged_by 9 (timers_fault trace j) (judged_by 10 (waits_fault trace j)
     (verdict_of_runs trace j))))
 
+-- a verdict of the definition as an audit tells it
 abbrev pub told_verdict : (verdict : journal.Verdict) → Verdict
 told_verdict journal.lawful = Lawful
 told_verdict (journal.broken point line) = Broken point line
 
+-- a verdict, but for an unsettled task, which comes first
 abbrev pub settled : (which : Option ℕ) (verdict : Verdict) → Verdict
 settled None verdict = verdict
 settled (Some task) verdict = Unsettled task

@@ -7,8 +7,10 @@ use Rattle.wbt_journal.specs.Lawful.{IsLawful, NamesAreInOrder}
 use Rattle.wbt_audit.specs.declared.verdict.Verdict.TheVariants.{Lawful, Broken}
 use Rattle.wbt_audit.specs.Audited.{audit_of}
 
+-- where an audit says lawful, a journal whose entries name its checks in order is lawful, with each mark that its lines call for
 abbrev pub LawfulVerdictsAreRight : Type 0
 LawfulVerdictsAreRight = (trace : Trace) (j : Journal) → NamesAreInOrder j → audit_of trace j ≡ Lawful → IsLawful trace (with_marks trace j)
 
+-- where an audit says broken the journal isn't lawful
 abbrev pub BrokenVerdictsAreRight : Type 0
 BrokenVerdictsAreRight = (trace : Trace) (j : Journal) (point line : ℕ) → audit_of trace j ≡ Broken point line → IsLawful trace (with_marks trace j) → ⊥

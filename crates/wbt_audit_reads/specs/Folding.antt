@@ -25,6 +25,7 @@ pub record AreOf (trace : Trace) (places : Places) : Type 0 where
   pub domains : places.domains ≡ domains trace
   pub contexts : places.contexts ≡ contexts trace
 
+-- the place of a counter in a row of the trace's counters
 abbrev pub place_in : (trace : Trace) (x : Counter) → Option ℕ
 place_in trace x = counter_place (domains trace) (contexts trace) x
 
@@ -37,12 +38,14 @@ mark_of x all seen version =
 abbrev pub AreMarks : (trace : Trace) (all : List Fold) (marks : List (List Bool)) (seen : List Fold) → Type 0
 AreMarks trace all marks seen = (x : Counter) (p : ℕ) → place_in trace x ≡ Some p → (version : ℕ) → cell marks p version ≡ mark_of x all seen version
 
+-- the code keeps the batches of counters, and which versions were seen
 pub record KeepsSeen (trace : Trace) (all : List Fold) (kept : Seen) (seen : List Fold) : Type 0 where
   pub places : AreOf trace kept.places
   pub domain_batch : kept.domain_batch ≡ domain_batch trace.cpus
   pub context_batch : kept.context_batch ≡ context_batch trace.cpus
   pub marks : AreMarks trace all kept.versions seen
 
+-- the code judges an item by its fold
 abbrev pub JudgesFolds : (old new : Seen) (item : Item) (found : Option ℕ) → Type 0
 JudgesFolds old new item found =
     (trace : Trace) (all : List Fold) → Judges (fold_fault trace all) folds_after (KeepsSeen trace all old) (KeepsSeen trace all new) item found
@@ -56,9 +59,11 @@ pub record IsSeen (trace : Trace) (all : List Fold) (new : Seen) (seen : List Fo
   pub answers : answer ≡ is_fold trace all seen fold
   pub keeps : answer ≡ true → KeepsSeen trace all new (fold ∷ seen)
 
+-- the code answers whether a fold is as it may be, and marks its version
 abbrev pub SeesFold : (old new : Seen) (fold : Fold) (answer : Bool) → Type 0
 SeesFold old new fold answer = (trace : Trace) (all seen : List Fold) → KeepsSeen trace all old seen → IsSeen trace all new seen fold answer
 
+-- the batch of a counter, as it is kept
 abbrev pub kept_batch : (kept : Seen) (counter : Counter) → ℕ
 kept_batch kept (counter.Domain domain) = kept.domain_batch
 kept_batch kept (counter.Context context) = kept.context_batch
@@ -68,6 +73,7 @@ abbrev pub is_unseen : (mark : Option Bool) → Bool
 is_unseen None = false
 is_unseen (Some seen) = not seen
 
+-- whether a version from 1 on is there and wasn't seen
 abbrev pub may_mark : (marks : List (List Bool)) (place version : ℕ) → Bool
 may_mark marks place version = nat_le 1 version && is_unseen (cell marks place (version - 1))
 
@@ -76,6 +82,7 @@ abbrev pub more_at : (place : Option ℕ) (marks : List (List Bool)) → List (L
 more_at None marks = marks
 more_at (Some place) marks = push_cell marks place false
 
+-- one mark more for the counter of a fold
 abbrev pub one_more : (places : Places) (fold : Fold) (marks : List (List Bool)) → List (List Bool)
 one_more places fold marks = more_at (counter_place places.domains places.contexts fold.counter) marks
 

@@ -24,13 +24,16 @@ use Rattle.wbt_audit_walk.specs.Rows.{row_of}
 use Rattle.wbt_audit_reads.specs.Sharing.{AreAdded, pair_by}
 use Rattle.wbt_audit_walk.specs.Walking.{Judges}
 
+-- the domain and the context of a period that was read
 abbrev pub pair_read : (seen : Period) → ℕ × ℕ
 pair_read seen = (seen.domain, seen.context)
 
+-- by domain and context there is the latest period that the CPU has read
 abbrev pub AreRead : (trace : Trace) (seen : List Period) (newest : List ℕ) → Type 0
 AreRead trace seen newest =
     AreNewest same_pairs (place_of_pair (domains trace) (contexts trace)) pair_read (λ (s : Period). s.period) (domains trace * contexts trace) seen newest
 
+-- the code keeps each domain's periods, what was added, and the latest periods read
 pub record KeepsFractions (trace : Trace) (entries : List TimerEntry) (all : List Told) (kept : Fractions) (seen : List Period) : Type 0 where
   pub places : AreOf trace kept.places
   pub rows : length kept.periods ≡ kept.places.domains
@@ -53,18 +56,23 @@ abbrev pub test_at : (kept : Fractions) (place : Option ℕ) (read : DomainLine)
 test_at kept None read = false
 test_at kept (Some place) read = part_at kept place read && nat_le (get_or kept.newest place 0) read.share.period
 
+-- whether a context's fraction in a domain passes the test
 abbrev pub test : (kept : Fractions) (context : ℕ) (read : DomainLine) → Bool
 test kept context read = test_at kept (pair_by kept.places read.domain context) read
 
+-- the first line of a check whose fraction fails the test
 abbrev pub check_fault : (kept : Fractions) (check : CheckEntry) → Option ℕ
 check_fault kept check = first_failed (test kept check.context) 0 (reads_of check)
 
+-- the code's answer is that fault, where the periods of each domain rise
 abbrev pub IsFault : (kept : Fractions) (check : CheckEntry) (found : Option ℕ) → Type 0
 IsFault kept check found = AreRising kept → found ≡ check_fault kept check
 
+-- whether the domain and the context are there
 abbrev pub has_pair : (kept : Fractions) (domain context : ℕ) → Bool
 has_pair kept domain context = nat_lt domain kept.places.domains && nat_lt context kept.places.contexts
 
+-- the fault of a share whose domain or context isn't there
 abbrev pub share_fault : (kept : Fractions) (share : Option Share) → Option ℕ
 share_fault kept None = None
 share_fault kept (Some share) = unless (has_pair kept share.domain share.context) 0
@@ -81,8 +89,10 @@ JudgesFractions old new item found =
     (trace : Trace) (folds : List Fold) (entries : List TimerEntry) (all : List Told) → CountsAreSums trace folds item → AreRising old
     → Judges (fraction_fault trace entries all) periods_after (KeepsFractions trace entries all old) (KeepsFractions trace entries all new) item found
 
+-- the same of an act
 abbrev pub JudgesFraction : (old new : Fractions) (act : Act) (found : Option ℕ) → Type 0
 JudgesFraction old new act found = (cpu : ℕ) → JudgesFractions old new (tells cpu (told_of act)) found
 
+-- what a check's fractions are judged to be, and what is kept after them
 abbrev pub JudgesCheck : (old new : Fractions) (check : CheckEntry) (found : Option ℕ) → Type 0
 JudgesCheck old new check found = IsFault old check found × (found ≡ None → Sees old new (periods_read check.context (reads_of check)))

@@ -22,6 +22,7 @@ use Rattle.wbt_audit_walk.specs.Places.{below}
 use Rattle.wbt_audit_walk.specs.Rows.{row_of, cell, push_cell}
 use Rattle.wbt_audit_walk.specs.Walking.{Judges}
 
+-- the place of a domain in a row of the trace's domains
 abbrev pub place_by : (places : Places) (domain : ℕ) → Option ℕ
 place_by places domain = below places.domains domain
 
@@ -34,14 +35,17 @@ abbrev pub more_at : (place : Option ℕ) (limits : Limits) (published : List (L
 more_at None limits published = published
 more_at (Some place) limits published = push_cell published place limits
 
+-- the triples after an entry of the timer
 abbrev pub one_more : (places : Places) (entry : TimerEntry) (published : List (List Limits)) → List (List Limits)
 one_more places (timer.Limits domain now limits) published = more_at (place_by places domain) limits published
 one_more places (timer.Period domain k) published = published
 
+-- by domain there is the newest triple that the CPU has read
 abbrev pub AreSeen : (trace : Trace) (seen : List DomainLine) (newest : List ℕ) → Type 0
 AreSeen trace seen newest =
     AreNewest (λ (x y : ℕ). y == x) (below (domains trace)) (λ (r : DomainLine). r.domain) (λ (r : DomainLine). r.triple) (domains trace) seen newest
 
+-- the code keeps the triples that were published, and the newest read
 pub record KeepsTriples (trace : Trace) (entries : List TimerEntry) (kept : Triples) (seen : List DomainLine) : Type 0 where
   pub places : AreOf trace kept.places
   pub published : ArePublished kept.places entries kept.published
@@ -56,9 +60,11 @@ abbrev pub test_at : (kept : Triples) (place : Option ℕ) (read : DomainLine) �
 test_at kept None read = false
 test_at kept (Some place) read = published_at kept place read && nat_le (get_or kept.newest place 0) read.triple
 
+-- whether what was read of a domain passes the test
 abbrev pub test : (kept : Triples) (read : DomainLine) → Bool
 test kept read = test_at kept (place_by kept.places read.domain) read
 
+-- the first line of a check whose triple fails the test
 abbrev pub check_fault : (kept : Triples) (check : CheckEntry) → Option ℕ
 check_fault kept check = first_failed (test kept) 0 (reads_of check)
 
@@ -73,8 +79,10 @@ JudgesTriples old new item found =
     (trace : Trace) (all : List Fold) (entries : List TimerEntry) → CountsAreSums trace all item
     → Judges (triple_fault entries) triples_after (KeepsTriples trace entries old) (KeepsTriples trace entries new) item found
 
+-- the same of an act
 abbrev pub JudgesTriple : (old new : Triples) (act : Act) (found : Option ℕ) → Type 0
 JudgesTriple old new act found = (cpu : ℕ) → JudgesTriples old new (tells cpu (told_of act)) found
 
+-- what a check's triples are judged to be, and what is kept after them
 abbrev pub JudgesCheck : (old new : Triples) (check : CheckEntry) (found : Option ℕ) → Type 0
 JudgesCheck old new check found = (found ≡ check_fault old check) × (found ≡ None → Sees old new (reads_of check))

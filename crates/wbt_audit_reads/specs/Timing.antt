@@ -15,9 +15,11 @@ use Rattle.wbt_audit_reads.specs.declared.timer.Lines.{Lines}
 abbrev pub line_of : (line : KeptLine) → Line
 line_of line = record { now = line.now; hard = line.hard }
 
+-- the last lines of the domains, as the definition has them
 abbrev pub lines_of : (last : List KeptLine) → List Line
 lines_of last = map line_of last
 
+-- the code keeps the last line of each domain that has one
 pub record Keeps (trace : Trace) (opened : ℕ) (kept : Lines) (lines : List Line) : Type 0 where
   pub count : kept.domains ≡ domains trace
   pub moment : kept.opened ≡ opened
@@ -28,19 +30,23 @@ pub record Answers (trace : Trace) (opened : ℕ) (new : Lines) (lines : List Li
   pub answers : answer ≡ test
   pub keeps : answer ≡ true → Keeps trace opened new lines
 
+-- the last lines with one of a domain
 abbrev pub put : (domain now : ℕ) (limits : Limits) (lines : List Line) → List Line
 put domain now limits lines = put_line domain (record { now = now; hard = limits.hard }) lines
 
+-- the code answers whether a line is that of the opening of the next domain
 abbrev pub Opens : (trace : Trace) (old new : Lines) (domain now : ℕ) (limits : Limits) (answer : Bool) → Type 0
 Opens trace old new domain now limits answer =
     (opened : ℕ) (lines : List Line) → Keeps trace opened old lines
     → Answers trace opened new (put domain now limits lines) (opens trace opened lines domain now limits) answer
 
+-- the code answers whether a line follows the domain's line before
 abbrev pub GoesOn : (trace : Trace) (old new : Lines) (domain now : ℕ) (limits : Limits) (answer : Bool) → Type 0
 GoesOn trace old new domain now limits answer =
     (opened : ℕ) (lines : List Line) → Keeps trace opened old lines
     → Answers trace opened new (put domain now limits lines) (line_follows trace (slice_get lines domain) domain now limits) answer
 
+-- the code answers whether a line of limits may come
 abbrev pub JudgesLimits : (trace : Trace) (old new : Lines) (domain now : ℕ) (limits : Limits) (answer : Bool) → Type 0
 JudgesLimits trace old new domain now limits answer =
     (opened : ℕ) (lines : List Line) → Keeps trace opened old lines
@@ -51,6 +57,7 @@ pub record IsJudged (trace : Trace) (opened : ℕ) (new : Lines) (lines : List L
   pub fault : timer_fault trace opened lines entry ≡ unless answer 0
   pub keeps : answer ≡ true → Keeps trace opened new (lines_after lines entry)
 
+-- the code judges an entry of the timer
 abbrev pub Judges : (trace : Trace) (old new : Lines) (entry : TimerEntry) (answer : Bool) → Type 0
 Judges trace old new entry answer = (opened : ℕ) (lines : List Line) → Keeps trace opened old lines → IsJudged trace opened new lines entry answer
 

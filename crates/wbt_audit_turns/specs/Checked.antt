@@ -18,12 +18,15 @@ use Rattle.wbt_audit_walk.specs.declared.walk.Walk.{Walk}
 
 -- what an item is told of, and what it makes of a side, with the mark that its line calls for
 
+-- the fault of an item's decision
 abbrev pub decides : (trace : Trace) (j : Journal) (s : spec.Side) (item : Item) → Option ℕ
 decides trace j s item = decision_fault trace (opened_at j.timer) (all_told j) s (marked_item trace item)
 
+-- the fault of an item that stands where it may not
 abbrev pub stands : (trace : Trace) (s : spec.Side) (item : Item) → Option ℕ
 stands trace s item = stands_fault trace s (marked_item trace item)
 
+-- the side after an item
 abbrev pub next_side : (trace : Trace) (j : Journal) (s : spec.Side) (item : Item) → spec.Side
 next_side trace j s item = side_after_item trace (opened_at j.timer) s (marked_item trace item)
 
@@ -35,6 +38,7 @@ standing_fault trace j = first_fault (stands_fault trace) (side_after_item trace
 abbrev pub is_missing : (trace : Trace) (j : Journal) → Bool
 is_missing trace j = not (none_missing trace (opened_at j.timer) j.ending 0 (parts_of (with_marks trace j)))
 
+-- the faults that were found so far, and those of what is still to come, are the faults of the whole
 pub record HasPassed (trace : Trace) (j : Journal) (judge : Judge) (walk : Walk) : Type 0 where
   pub judges : IsJudgeOf trace j judge
   pub decision : first_fault (decides trace j) (next_side trace j) item_size walk.line (side_of judge.side) (rest walk) ≡ decisions_fault trace (with_marks trace j)

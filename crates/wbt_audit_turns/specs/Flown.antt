@@ -14,6 +14,7 @@ told_phase phase.Flying pages = flying pages
 told_phase phase.Returning pages = returning pages
 told_phase phase.Failed pages = failed
 
+-- the flusher that a phase, its pages and its chances stand for
 abbrev pub told_flusher : (p : Phase) (pages : List ℕ) (chances : ℕ) → ToldFlusher
 told_flusher p pages chances = record { phase = told_phase p pages; faults = MOST_FAULTS - chances }
 
@@ -24,6 +25,7 @@ HasDone phase.Flying pages done chances = (done < pages) × (1 ≤ chances)
 HasDone phase.Returning pages done chances = (done < pages) × (1 ≤ chances)
 HasDone phase.Failed pages done chances = Unit {0}
 
+-- a flusher as the audit keeps it: its chances and the pages that are done fit its phase
 pub record IsFlusher (p : Phase) (pages : List ℕ) (done chances : ℕ) : Type 0 where
   pub few : chances ≤ MOST_FAULTS
   pub has_done : HasDone p (length pages) done chances
@@ -50,10 +52,12 @@ left_batch other = other
 
 -- ---- what an entry makes of its flusher
 
+-- the flusher of a move of a waiting list, where there is one
 abbrev pub of_wait_flusher : (wait : Option Wait) → Option ℕ
 of_wait_flusher None = None
 of_wait_flusher (Some wait) = Some wait.flusher
 
+-- the flusher of an entry's move, of its pages or else of its waiting list
 abbrev pub flusher_by : (flight : Option Flight) (wait : Option Wait) → Option ℕ
 flusher_by None wait = of_wait_flusher wait
 flusher_by (Some flight) wait = Some flight.flusher
@@ -66,10 +70,12 @@ flusher_named entry = flusher_by (effect entry).flight (effect entry).wait
 abbrev pub may_come : (entry : Told) (flusher : ToldFlusher) → Bool
 may_come entry flusher = of_part true (λ (flight : Flight). may_move flight.move flusher.phase) (effect entry).flight
 
+-- the flusher after an entry
 abbrev pub moved_by : (entry : Told) (flusher : ToldFlusher) → ToldFlusher
 moved_by entry flusher = of_part flusher (λ (flight : Flight). moved flight.move flusher) (effect entry).flight
 
 -- ---- how many pages it hands over
 
+-- whether an entry hands over no more pages than the device's line says
 abbrev pub meets_by : (chunk : Option ℕ) (entry : Told) → Bool
 meets_by chunk entry = of_part true (λ (flight : Flight). meets_chunk chunk flight.move) (effect entry).flight

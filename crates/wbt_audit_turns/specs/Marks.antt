@@ -24,10 +24,12 @@ marked trace (noticed flusher inode since) = noticed flusher inode since
 marked trace (aged flusher inode due now) = aged flusher inode due now
 marked trace (took flusher inode) = took flusher inode
 
+-- an item with the mark that its line calls for
 abbrev pub marked_item : (trace : Trace) (item : Item) → Item
 marked_item trace (begins cpu) = begins cpu
 marked_item trace (tells cpu entry) = tells cpu (marked trace entry)
 
+-- the faults of these points are the same with marks and without
 pub record FaultsStay (trace : Trace) (j : Journal) : Type 0 where
   pub folds : folds_fault trace (with_marks trace j) ≡ folds_fault trace j
   pub counts : counts_fault trace (with_marks trace j) ≡ counts_fault trace j
@@ -42,5 +44,6 @@ pub record FaultsStay (trace : Trace) (j : Journal) : Type 0 where
   pub bounded : bound_fault trace (with_marks trace j) ≡ bound_fault trace j
   pub ending : ending_fault trace (with_marks trace j) ≡ ending_fault trace j
 
+-- so it is for each journal
 abbrev pub MarksChangeNoOther : Type 0
 MarksChangeNoOther = (trace : Trace) (j : Journal) → FaultsStay trace j

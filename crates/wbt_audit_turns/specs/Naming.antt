@@ -3,6 +3,7 @@ use Rattle.std.specs.Prelude.{ℕ, ◌<◌, List, length, get_or}
 use Rattle.wbt_num.specs.declared.most.TheConstants.{MOST_CONTEXTS, MOST_TASKS}
 use Rattle.wbt_trace.specs.declared.writers.Writer.{Writer}
 
+-- what stands for a writer that isn't there
 abbrev pub no_name : Writer
 no_name = record { task = 0; context = 0 }
 

@@ -4,12 +4,14 @@ use Rattle.wbt_num.specs.declared.most.TheConstants.{MOST_PAGES}
 use Rattle.wbt_journal.specs.Machine.{numbers}
 use Rattle.wbt_audit_turns.specs.declared.plan.Span.{Span}
 
+-- the pages of a task along a part
 pub record TaskPages : Type 0 where
   -- all pages that the task writes, in order
   pub all : List ℕ
   -- those that it has still to write
   pub left : List ℕ
 
+-- the pages of actions, in order
 abbrev pub pages_of_spans : (spans : List Span) → List ℕ
 pages_of_spans [] = []
 pages_of_spans (span ∷ spans) = numbers span.first span.pages ++ pages_of_spans spans
@@ -33,6 +35,7 @@ pub record IsSpan (span : Span) : Type 0 where
 abbrev pub no_span : Span
 no_span = record { first = 0; pages = 0 }
 
+-- a place among a task's actions, with how many pages of that action are written
 pub record IsPlan (spans : List Span) (span written : ℕ) : Type 0 where
   pub each : All IsSpan spans
   pub at_most : span ≤ length spans

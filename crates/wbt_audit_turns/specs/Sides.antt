@@ -34,6 +34,7 @@ pub record AreNumbersOf (trace : Trace) (numbers : Numbers) : Type 0 where
   pub tasks : length numbers.of_tasks.items ≡ length trace.tasks
   pub of_tasks : (task : ℕ) → task < length trace.tasks → get_or numbers.of_tasks.items task [] ≡ numbers_of trace task
 
+-- the plan of a task that isn't there
 abbrev pub no_plan : TaskPlan
 no_plan = record { pages = 0; rests_last = false }
 
@@ -41,10 +42,12 @@ no_plan = record { pages = 0; rests_last = false }
 abbrev pub plan_of : (trace : Trace) (task : ℕ) → TaskPlan
 plan_of trace task = record { pages = length (pages_of_task trace task); rests_last = rests_last trace task }
 
+-- a plan for each task: how many pages it writes, and whether it rests last
 pub record ArePlansOf (trace : Trace) (plans : List TaskPlan) : Type 0 where
   pub long : length plans ≡ length trace.tasks
   pub each : (task : ℕ) → task < length trace.tasks → get_or plans task no_plan ≡ plan_of trace task
 
+-- what the audit keeps of a trace is what the definitions say of it
 pub record IsMachine (machine : Machine) : Type 0 where
   pub lawful : IsLawful machine.trace.now
   pub numbers : AreNumbersOf machine.trace.now machine.numbers
@@ -55,12 +58,15 @@ pub record IsMachine (machine : Machine) : Type 0 where
 
 -- ---- the side
 
+-- a task as a journal's side has it
 abbrev pub state_of : (t : TaskLeft) → TaskState
 state_of t = record { todo = t.todo; has_ended = t.has_ended }
 
+-- what the CPU counts, with all writers
 abbrev pub cpu_of : (side : Side) → Cpu
 cpu_of side = record { local = side.local; writers = side.writers.items }
 
+-- the side of a journal that the audit's side stands for
 abbrev pub side_of : (side : Side) → spec.Side
 side_of side = record { cpu = cpu_of side; tasks = map state_of side.tasks.items }
 
@@ -73,6 +79,7 @@ pub record Fits (machine : Machine) (side : Side) : Type 0 where
 
 -- ---- estimates and decisions
 
+-- by context there are the estimates that the journal tells
 pub record AreNamed (opened contexts : ℕ) (all : List Told) (named : Named) : Type 0 where
   pub opened_at : named.opened ≡ opened
   pub long : length named.of_contexts.items ≡ contexts

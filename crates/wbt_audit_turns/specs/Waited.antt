@@ -11,9 +11,11 @@ use Rattle.wbt_journal.specs.Items.{Item, begins, tells}
 use Rattle.wbt_journal.specs.Waits.{list_of, may_wait, waited}
 use Rattle.wbt_audit_turns.specs.declared.waits.Lists.{Lists}
 
+-- the wheel of a flusher that isn't there
 abbrev pub no_wheel : Waiting
 no_wheel = record { pairs = []; told = 0; inodes = 0 }
 
+-- the wheel of a flusher by its number
 abbrev pub wheel_at : (wheels : List Waiting) (flusher : ℕ) → Waiting
 wheel_at wheels flusher = get_or wheels flusher no_wheel
 
@@ -31,6 +33,7 @@ pub record AreAgeing (trace : Trace) (ageing : List Bool) : Type 0 where
   pub long : length ageing ≡ length trace.flushers
   pub each : (flusher : ℕ) → flusher < length trace.flushers → get_or ageing flusher true ≡ is_ageing trace (flusher_device trace flusher)
 
+-- the audit has a wheel for each flusher, and whether its device is ageing
 pub record AreListsOf (trace : Trace) (lists : Lists) : Type 0 where
   pub wheels : AreWheelsOf trace lists.wheels.items
   pub ageing : AreAgeing trace lists.ageing.items
@@ -60,6 +63,7 @@ AreOf cpu [] = Unit {0}
 AreOf cpu (begins of ∷ items) = AreOf of items
 AreOf cpu (tells of entry ∷ items) = (of ≡ cpu) × AreOf cpu items
 
+-- an item is of the CPU: its entry, or the beginning of any part
 abbrev pub IsOf : (cpu : ℕ) (item : Item) → Type 0
 IsOf cpu (begins of) = Unit {0}
 IsOf cpu (tells of entry) = of ≡ cpu

@@ -12,6 +12,7 @@ use Rattle.wbt_journal.specs.Leaves.{is_fault_of, writes_of}
 use Rattle.wbt_journal.specs.Machine.{pages_of_task}
 use Rattle.wbt_journal.specs.Told.{Told}
 
+-- 1 where a test holds, else 0
 abbrev pub one_if_so : (test : Bool) → ℕ
 one_if_so true = 1
 one_if_so false = 0
@@ -40,6 +41,7 @@ is_step_entry (entry.Done flusher page) = true
 is_step_entry (entry.Back flusher page absorbed) = true
 is_step_entry other = false
 
+-- whether an ending is that of a failed flusher
 abbrev pub is_faulted_by : (end : Ending) → Bool
 is_faulted_by ending.Faulted = true
 is_faulted_by other = false

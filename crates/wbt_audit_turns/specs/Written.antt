@@ -5,6 +5,7 @@ use Rattle.wbt_trace.specs.declared.trace.Trace.{Trace}
 use Rattle.wbt_journal.specs.Machine.{pages_of_task, pages_of_action}
 use Rattle.wbt_audit_turns.specs.Planned.{TaskPages}
 
+-- what stands for a task that isn't there
 abbrev pub no_pages : TaskPages
 no_pages = record { all = []; left = [] }
 

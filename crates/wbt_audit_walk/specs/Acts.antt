@@ -6,6 +6,7 @@ use Rattle.wbt_audit_walk.specs.declared.act.Act.{Act}
 use Rattle.wbt_audit_walk.specs.declared.act.Act.TheVariants as act
 use Rattle.wbt_audit_walk.specs.declared.act.Added.{Added}
 
+-- what each kind of act tells
 abbrev pub told_of : (act : Act) → Told
 told_of (act.Write task page fresh) = wrote task page fresh
 told_of (act.Fold fold) = folded fold

@@ -16,6 +16,7 @@ pub record AreNewest {A K : Type 0} (same : K → K → Bool) (place : K → Opt
 abbrev pub with_seen : (place : ℕ) (version : ℕ) (newest : List ℕ) → List ℕ
 with_seen place version newest = set newest place (max (get_or newest place 0) version)
 
+-- the newest versions with one that is seen at a place, if it has one
 abbrev pub seen_at : (place : Option ℕ) (version : ℕ) (newest : List ℕ) → List ℕ
 seen_at None version newest = newest
 seen_at (Some place) version newest = with_seen place version newest

@@ -22,6 +22,7 @@ abbrev pub pair_at : (contexts : ℕ) (row place : Option ℕ) → Option ℕ
 pair_at contexts None place = None
 pair_at contexts (Some row) place = behind (row * contexts) place
 
+-- the place of a domain and a context in a row of all such pairs
 abbrev pub pair_place : (domains contexts domain context : ℕ) → Option ℕ
 pair_place domains contexts domain context = pair_at contexts (below domains domain) (below contexts context)
 
@@ -29,5 +30,6 @@ pair_place domains contexts domain context = pair_at contexts (below domains dom
 abbrev pub same_pairs : (x y : ℕ × ℕ) → Bool
 same_pairs x y = y.0 == x.0 && y.1 == x.1
 
+-- the place of such a pair as one value
 abbrev pub place_of_pair : (domains contexts : ℕ) (x : ℕ × ℕ) → Option ℕ
 place_of_pair domains contexts x = pair_place domains contexts x.0 x.1

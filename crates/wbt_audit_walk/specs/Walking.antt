@@ -6,6 +6,7 @@ use Rattle.wbt_journal.specs.Walk.{first_fault}
 use Rattle.wbt_audit_walk.specs.declared.walk.Walk.{Walk}
 use Rattle.wbt_audit_walk.specs.Walks.{rest}
 
+-- the code's answer on an item is its fault, and where that is none the code goes on with what stands after the item
 pub record IsJudged {S : Type 0} (fault : S → Item → Option ℕ) (next : S → Item → S) (after : S → Type 0) (s : S) (item : Item) (found : Option ℕ) : Type 0 where
   pub answer : fault s item ≡ found
   pub goes_on : found ≡ None → after (next s item)

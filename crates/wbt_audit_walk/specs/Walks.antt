@@ -17,13 +17,16 @@ left_of_part walk = flat_map (told_entry walk.checks.now walk.estimates.now) wal
 abbrev pub left_parts : (walk : Walk) → List Item
 left_parts walk = items_from walk.next (map told walk.parts.now)
 
+-- all items that are still to come
 abbrev pub rest : (walk : Walk) → List Item
 rest walk = map (tells walk.cpu) (left_of_part walk) ++ left_parts walk
 
+-- the item of a step on a CPU: the first line of its part, or an act
 abbrev pub item_by : (cpu : ℕ) (act : Option Act) → Item
 item_by cpu None = begins cpu
 item_by cpu (Some act) = tells cpu (told_of act)
 
+-- the item that a step shows
 abbrev pub item_of : (step : Step) → Item
 item_of step = item_by step.cpu step.act
 

@@ -11,7 +11,7 @@
 //!   pauses    the longest pause, the least one, and the pages between polls
 //! task        when a check is due, and whose the leaks are
 //! strict      the bound, the ratio and the decisions of a strict device
-//! rules       what turns look up and decide: due inodes, chunks, first estimates, limits that follow, periods
+//! rules       what turns look up and decide: due inodes, chunks, places of scans, paces, first estimates, limits that follow, periods
 //! ```
 #![tactic(auto)]
 

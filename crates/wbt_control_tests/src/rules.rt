@@ -9,9 +9,10 @@ use wbt_num::Limits;
 use wbt_position::DomainRead;
 use wbt_rules::{
     avail_at, chunk_at, chunk_of, context_of, due_after, first_estimate, is_ageing, is_over_own,
-    is_within_chunk, limits_after, next_period, periods_by, quota_of,
+    is_within_chunk, limits_after, next_period, page_at, pause_of, periods_by, place_after,
+    quota_of, since_after,
 };
-use wbt_trace::{Avail, Device, Trace};
+use wbt_trace::{Avail, Device, Pace, Trace};
 use wbt_trace_text::read_trace;
 
 // Two devices; a context of the second says after how long its inodes are due, and each of its two contexts has an inode.
@@ -67,6 +68,7 @@ fn quota_by(chunk: Option<u32>) -> u64 {
         max: 100,
         strict: false,
         chunk,
+        cyclic: false,
     };
     quota_of(&device, 25600, 1000000)
 }
@@ -77,6 +79,57 @@ fn a_devices_line_ends_a_scan_earlier_and_never_later(rt: HostRuntime) -> Result
     assert_eq!(rt; quota_by(Some(2097152)), 13312);
     assert_eq!(rt; quota_by(Some(13311)), 13311);
     assert_eq!(rt; quota_by(Some(1)), 1);
+    Ok(())
+}
+
+// The pages at which a scan of the five pages from 100 on looks, in order, that begins at a place of theirs.
+fn looks_from(start: u32) -> [u32; 5]
+    requires { start < 5 }
+{
+    [
+        page_at(100, 5, start, 0),
+        page_at(100, 5, start, 1),
+        page_at(100, 5, start, 2),
+        page_at(100, 5, start, 3),
+        page_at(100, 5, start, 4),
+    ]
+}
+
+#[test]
+fn a_scan_goes_round_from_the_place_where_it_begins(rt: HostRuntime) -> Result<(), Fail> {
+    assert_eq!(rt; looks_from(0), [100, 101, 102, 103, 104]);
+    assert_eq!(rt; looks_from(3), [103, 104, 100, 101, 102]);
+    assert_eq!(rt; looks_from(4), [104, 100, 101, 102, 103]);
+    assert_eq!(rt; page_at(4294967295, 1, 0, 0), 4294967295);
+    Ok(())
+}
+
+#[test]
+fn a_scan_comes_to_the_place_after_its_last_page(rt: HostRuntime) -> Result<(), Fail> {
+    let places = [
+        place_after(5, 0, 0),
+        place_after(5, 3, 1),
+        place_after(5, 3, 2),
+        place_after(5, 3, 5),
+    ];
+    assert_eq!(rt; places, [0, 4, 0, 3]);
+    assert_eq!(rt; place_after(1, 0, 1), 0);
+    assert_eq!(rt; place_after(4294967295, 4294967294, 4294967295), 4294967294);
+    Ok(())
+}
+
+#[test]
+fn a_task_rests_for_its_pace_once_it_has_written_its_pages(rt: HostRuntime) -> Result<(), Fail> {
+    let pace = Some(Pace {
+        pages: 2,
+        ticks: 50,
+    });
+    assert_eq!(rt; pause_of(pace, 0), None);
+    assert_eq!(rt; pause_of(pace, 1), None);
+    assert_eq!(rt; pause_of(pace, 2), Some(50));
+    assert_eq!(rt; pause_of(None, 2), None);
+    assert_eq!(rt; since_after(pace, 1), 2);
+    assert_eq!(rt; since_after(None, 1), 0);
     Ok(())
 }
 

@@ -1,5 +1,5 @@
 -- What single calls did: those that make steps of the CPU, those on shares, and those on estimates.
-use Rattle.std.proofs.Common.{◌≡◌, ◌≢◌, ℕ, ◌+◌, ◌<◌, ◌≤◌, ◌⊎◌, Bool, true, false, List, [], length, Some, inl, inr, ⊎_elim, sym, refl, ap, ◌∙◌, subst, arith, eqb, eq-eqb, ne_eqb, true≢false}
+use Rattle.std.proofs.Common.{zero, suc, ◌≡◌, ◌≢◌, ℕ, ◌+◌, ◌<◌, ◌≤◌, ◌⊎◌, Bool, true, false, List, [], length, Some, inl, inr, ⊎_elim, sym, refl, ap, ◌∙◌, subst, arith, eqb, eq-eqb, ne_eqb, true≢false}
 use Rattle.std.specs.Prelude.{sum_by}
 use Rattle.std.proofs.lemmas.Bool.{cases_lt, cond-true, cond-false}
 use mathlib.Core.Logic.{dite}
@@ -12,6 +12,8 @@ use Rattle.wbt_io.specs.Pages.{Grows}
 use Rattle.wbt_estimate.specs.declared.estimate.Estimate.{Estimate}
 use Rattle.wbt_published.specs.Passes as est
 use Rattle.wbt_table.specs.Rule.{Has}
+use Rattle.wbt_rules.specs.Places.{page_at}
+use Rattle.wbt_rules.specs.declared.scan.Scan.{Scan}
 use Rattle.wbt_trace.specs.declared.trace.Trace.{Trace}
 use Rattle.wbt_journal.specs.Counts.{Load}
 use Rattle.wbt_journal.specs.Each.{Each}
@@ -39,7 +41,7 @@ use Rattle.wbt_kit.specs.declared.kit.Seats.{Seats}
 use Rattle.wbt_run_steps.specs.Records.{IsApart, record_of}
 use Rattle.wbt_run_steps.proofs.Changing.{record_is}
 use Rattle.wbt_flusher.specs.Did.{Moments, IsTimed, handed, Did, Quiet, Works}
-use Rattle.wbt_flusher.specs.Plans.{IsWork, end_of}
+use Rattle.wbt_flusher.specs.Plans.{IsWork}
 use Rattle.wbt_flusher.specs.Sights.{Sight, sight, record_in, phase_by, flusher_by, flusher_in, pages_in, pages_by, shown_of, notes_of, notes_by, OwesRescan, OwesMark, completions, is_completion, all_completions, owing, owing_total, list_by, shown_by}
 use Rattle.wbt_flusher.specs.declared.plan.FlusherPlan.{FlusherPlan}
 use Rattle.wbt_flusher.specs.declared.work.Phase.{Phase}
@@ -53,15 +55,27 @@ use Rattle.wbt_run_laws.specs.Waits.{Waited}
 
 -- ---- what the flusher owes itself is known
 
+-- the page is one of the first so many of a scan, which hasn't passed it
+abbrev AheadBelow : (scan : Scan) (page n : ℕ) → Type 0
+AheadBelow scan page n = (k : ℕ) × (scan.passed ≤ k) × (k < n) × (page_at scan.first scan.pages scan.start k ≡ page)
+
+ahead_or : (scan : Scan) (page n : ℕ) → AheadBelow scan page n ⊎ (AheadBelow scan page n → ⊥)
+ahead_or scan page zero = inr (λ own. let less = own.2 in absurd (omega arith))
+ahead_or scan page (suc n) = ⊎_elim
+    (λ own. inl (own.0, own.1, (let less = own.2 in omega arith), own.3))
+    (λ none. dite (ℕ_discrete (page_at scan.first scan.pages scan.start n) page)
+    (λ is. ⊎_elim (λ before. inr (λ own. let from = own.1 in let less = own.2 in absurd (omega arith))) (λ from. inl (n, from, omega arith, is)) (cases_lt n scan.passed))
+    (λ other. inr (λ own. ⊎_elim (λ less. none (own.0, own.1, less, own.3))
+    (λ past. let less = own.2 in let same : own.0 ≡ n = omega arith in other (subst (λ (k : ℕ). page_at scan.first scan.pages scan.start k ≡ page) same own.3))
+    (cases_lt own.0 n))))
+    (ahead_or scan page n)
+
 pub rescan_or : (plan : FlusherPlan) (phase : Phase) (page : ℕ) → OwesRescan plan phase page ⊎ (OwesRescan plan phase page → ⊥)
 rescan_or plan (Idle until kept) page = inr (λ own. own)
 rescan_or plan (Flying flight) page = inr (λ own. own)
 rescan_or plan (Returning giving) page = inr (λ own. own)
 rescan_or plan Failed page = inr (λ own. own)
-rescan_or plan (Scanning scan) page =
-    ⊎_elim (λ before. inr (λ own. let low = own.0 in absurd (omega arith)))
-    (λ from. ⊎_elim (λ within. inl (from, within)) (λ past. inr (λ own. let high = own.1 in absurd (omega arith))) (cases_lt page (end_of plan scan.inode)))
-    (cases_lt page scan.page)
+rescan_or plan (Scanning scan) page = ahead_or scan page scan.pages
 
 pub mark_or : (phase : Phase) (inode : ℕ) → OwesMark phase inode ⊎ (OwesMark phase inode → ⊥)
 mark_or (Idle until kept) inode = inr (λ own. own)

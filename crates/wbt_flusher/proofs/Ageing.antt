@@ -140,7 +140,7 @@ waits_taken trace flusher inode due rest = record {
 -- nothing but the wheel changed, and one entry was told
 module _ (plan : FlusherPlan) (kit : Kit) (seats : Seats) (was : FlusherWork) (wheel : Option Waiting) (fits : Fits plan kit seats) where
   abbrev turned : FlusherWork
-  turned = record { phase = was.phase; batch = was.batch; faults = was.faults; hard = was.hard; waiting = was.waiting; some_wait = was.some_wait; tallies = was.tallies; wheel = wheel }
+  turned = record { phase = was.phase; batch = was.batch; faults = was.faults; hard = was.hard; waiting = was.waiting; some_wait = was.some_wait; tallies = was.tallies; wheel = wheel; places = was.places }
 
   listed : (told : Moments) (before behind : CpuJournal) (written : Option ℕ) (e : Told) → IsOfFlusher plan.flusher e → IsPlain e → ((domain context : ℕ) → added_to domain context (e ∷ []) ≡ 0)
       → Logged (e ∷ []) before behind → ((trace : Trace) → IsWork trace plan kit → IsOwn trace plan.cpu e) → IsTimed told e → Grows (Some (sum_by handed (e ∷ []))) written written
@@ -220,7 +220,7 @@ expire_few (Some centi) is = let most = is.1 in omega arith
 
 -- the lists of what the flusher keeps stay where its wheel is still one of the plan's
 pub lists_wheel : (plan : FlusherPlan) (was : FlusherWork) (wheel : Option Waiting) → HasLists plan was → HasWheel plan wheel → HasLists plan (record was { wheel = wheel })
-lists_wheel plan was wheel lists its = record { proper = lists.proper; tallies = lists.tallies; waiting = lists.waiting; none_wait = lists.none_wait; wheel = its }
+lists_wheel plan was wheel lists its = record { proper = lists.proper; tallies = lists.tallies; waiting = lists.waiting; none_wait = lists.none_wait; wheel = its; places = lists.places }
 
 pub wheel_told : (plan : FlusherPlan) (now : ℕ) (wheel : Option Waiting) → HasWheel plan wheel → HasWheel plan (told_at now wheel)
 wheel_told plan now None its = its

@@ -28,7 +28,7 @@ use Rattle.wbt_flusher.specs.declared.work.FlusherWork.{FlusherWork}
 use Rattle.wbt_flusher.proofs.Acting.{OnRecord, did_act, on_cpu, same_flusher}
 use Rattle.wbt_flusher.proofs.Changing.{changed}
 use Rattle.wbt_flusher.proofs.Listing.{passed}
-use Rattle.wbt_flusher.proofs.Marking.{marked_on, begun_on}
+use Rattle.wbt_flusher.proofs.Marking.{IsAtBegin, marked_on, begun_on}
 use Rattle.wbt_flusher.proofs.Noting.{grows_none}
 use Rattle.wbt_flusher.proofs.Owing.{owing_stays}
 use Rattle.wbt_flusher.proofs.Waiting.{list_kept}
@@ -92,13 +92,13 @@ module _ (plan : FlusherPlan) (kit : Kit) (old new : Seats) (was is : FlusherWor
       }
 
   -- a scan began
-  pub begins_scan : (until : ℕ) (kept : Bool) (scan : Scan) → was.phase ≡ Idle until kept → is.phase ≡ Scanning scan → scan.page ≡ (inode_at plan scan.inode).first → IsInode plan scan.inode
+  pub begins_scan : (until : ℕ) (kept : Bool) (scan : Scan) → was.phase ≡ Idle until kept → is.phase ≡ Scanning scan → IsAtBegin plan scan → IsInode plan scan.inode
       → Changes plan.cpu (record_after (setting kit.throttle.layout) (unmark plan.cpu scan.inode) n) old.cpu new.cpu
       → (log : CpuJournal) → Works plan kit old new log log was is
-  begins_scan until kept scan was_at is_at first inode change log =
+  begins_scan until kept scan was_at is_at begun inode change log =
       let set' = setting kit.throttle.layout in
       let f = record_after set' (unmark plan.cpu scan.inode) n in
       let now = changed plan.cpu f old.cpu new.cpu r change has in
       tells_nothing f change log
       (λ written. begun_on plan set' (sight was old log written) (sight is new log written) n r now.completed (owing_stays plan was is tallies none_landed) totals_stay pages
-      until kept scan was_at is_at first (λ p there its. suits.no_others scan.inode p inode.there (let same = suits.pages_are in omega arith) its))
+      until kept scan was_at is_at begun (λ p there its. suits.no_others scan.inode p inode.there (let same = suits.pages_are in omega arith) its))

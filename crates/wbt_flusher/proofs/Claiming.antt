@@ -16,11 +16,12 @@ use Rattle.wbt_journal.specs.Told.{claimed}
 use Rattle.wbt_run_laws.specs.Grew.{Grew}
 use Rattle.wbt_run_laws.proofs.Growing.{by_both}
 use Rattle.wbt_run_laws.proofs.Stepping.{untold_grows, steps_grow}
-use Rattle.wbt_flusher.specs.Plans.{end_of}
 use Rattle.wbt_flusher.specs.Sights.{Sight, pages_in, OwesRescan, OwesMark, all_completions, completions, owing, owing_total}
 use Rattle.wbt_flusher.specs.declared.plan.FlusherPlan.{FlusherPlan}
 use Rattle.wbt_flusher.specs.declared.work.Phase.{Phase}
 use Rattle.wbt_flusher.specs.declared.work.Phase.TheVariants.{Scanning}
+use Rattle.wbt_rules.specs.Places.{IsAhead, page_of}
+use Rattle.wbt_rules.proofs.Places.{next_or_ahead}
 use Rattle.wbt_rules.specs.declared.scan.Scan.{Scan}
 use Rattle.wbt_flusher.proofs.Acting.{OnRecord, rescan_or, mark_or}
 use Rattle.wbt_flusher.proofs.Listing.{passed, times_append, one_of}
@@ -83,66 +84,63 @@ page_or p q l some = let pass = passed (λ k. not (eqb k p)) q l some in
     (pass.there, λ same. true≢false (sym pass.kept ∙ ap not (eq-eqb q p same)))
 
 -- what is owed of pages after the one that was passed
-module _ (plan : FlusherPlan) (scan next : Scan) (page : next.page ≡ scan.page + 1) (inode : next.inode ≡ scan.inode) where
-  end_same : end_of plan next.inode ≡ end_of plan scan.inode
-  end_same = ap (end_of plan) inode
-
-  pub rescans_pass : (q : ℕ) (l : List ℕ) → 1 ≤ times_in q (filter (λ k. not (eqb k scan.page)) l)
+module _ (plan : FlusherPlan) (scan next : Scan) (next_is : next ≡ record scan { passed = scan.passed + 1; noted = next.noted }) where
+  pub rescans_pass : (q : ℕ) (l : List ℕ) → 1 ≤ times_in q (filter (λ k. not (eqb k (page_of scan))) l)
       → OwesRescan plan (Scanning next) q ⊎ ((1 ≤ times_in q l) × (OwesRescan plan (Scanning scan) q → ⊥))
   rescans_pass q l some =
-      let both = page_or scan.page q l some in
-      ⊎_elim (λ own. let low = own.0 in let high = own.1 in let other : q ≢ scan.page = both.1 in let end = end_same in inl (omega arith, omega arith))
+      let both = page_or (page_of scan) q l some in
+      ⊎_elim (λ own. ⊎_elim (λ here. absurd (both.1 (sym here))) (λ still. inl (subst (λ (s : Scan). IsAhead s q) (sym next_is) still)) (next_or_ahead scan q own))
       (λ none. inr (both.0, none)) (rescan_or plan (Scanning scan) q)
 
   pub marks_pass : (i : ℕ) → (scan.noted ≡ true → next.noted ≡ true) → (some : Type 0) → some → OwesMark (Scanning next) i ⊎ (some × (OwesMark (Scanning scan) i → ⊥))
   marks_pass i noted some is =
-      ⊎_elim (λ own. inl (noted own.0, own.1 ∙ sym inode)) (λ none. inr (is, none)) (mark_or (Scanning scan) i)
+      ⊎_elim (λ own. inl (noted own.0, own.1 ∙ sym (ap (λ (s : Scan). s.inode) next_is))) (λ none. inr (is, none)) (mark_or (Scanning scan) i)
 
 module _ (plan : FlusherPlan) (set : Setting) (old new : Sight) (n : ℕ) (r : CpuRecord) (scan next : Scan)
     (was_at : old.work.phase ≡ Scanning scan) (is_at : new.work.phase ≡ Scanning next)
-    (page : next.page ≡ scan.page + 1) (inode : next.inode ≡ scan.inode) (noted : scan.noted ≡ true → next.noted ≡ true)
+    (next_is : next ≡ record scan { passed = scan.passed + 1; noted = next.noted }) (noted : scan.noted ≡ true → next.noted ≡ true)
     (owing_same : (domain : ℕ) → owing plan domain new.work ≡ owing plan domain old.work)
     (total_same : (context : ℕ) → owing_total plan context new.work ≡ owing_total plan context old.work) where
   at_phase : (P : Phase → Phase → Type 0) → P (Scanning scan) (Scanning next) → P old.work.phase new.work.phase
   at_phase P p = subst (λ (z : Phase × Phase). P z.0 z.1) (λ i. (sym was_at i, sym is_at i)) p
 
-  pub claimed_on : is_claimable (set.coding.page_bits n scan.page) ≡ true → pages_in new ≡ pages_in old ++ scan.page ∷ []
-      → all_completions new.seats.cpu.cpus + completions r ≡ all_completions old.seats.cpu.cpus + completions (after_claim set plan.cpu scan.page n r)
-      → OnRecord plan (claimed plan.flusher scan.page ∷ []) old new r (record_after set (claim plan.cpu scan.page) n (record_after set (look plan.cpu scan.page) n r))
+  pub claimed_on : is_claimable (set.coding.page_bits n (page_of scan)) ≡ true → pages_in new ≡ pages_in old ++ page_of scan ∷ []
+      → all_completions new.seats.cpu.cpus + completions r ≡ all_completions old.seats.cpu.cpus + completions (after_claim set plan.cpu (page_of scan) n r)
+      → OnRecord plan (claimed plan.flusher (page_of scan) ∷ []) old new r (record_after set (claim plan.cpu (page_of scan)) n (record_after set (look plan.cpu (page_of scan)) n r))
   claimed_on claimable pages completed =
-      subst (λ (q : CpuRecord). OnRecord plan (claimed plan.flusher scan.page ∷ []) old new r q) (sym (claim_is set plan.cpu scan.page n r claimable)) (record {
-        grew = subst (λ (q : CpuRecord). Grew (claimed plan.flusher scan.page ∷ []) r q) (claim_is set plan.cpu scan.page n r claimable) (grew_claim set plan.cpu scan.page n r plan.flusher);
+      subst (λ (q : CpuRecord). OnRecord plan (claimed plan.flusher (page_of scan) ∷ []) old new r q) (sym (claim_is set plan.cpu (page_of scan) n r claimable)) (record {
+        grew = subst (λ (q : CpuRecord). Grew (claimed plan.flusher (page_of scan) ∷ []) r q) (claim_is set plan.cpu (page_of scan) n r claimable) (grew_claim set plan.cpu (page_of scan) n r plan.flusher);
         writers = refl;
-        held = λ q. let same = ap (times_in q) pages in let both = times_append q (pages_in old) (scan.page ∷ []) in omega arith;
+        held = λ q. let same = ap (times_in q) pages in let both = times_append q (pages_in old) (page_of scan ∷ []) in omega arith;
         rescans = λ q owes. at_phase (λ was is. OwesRescan plan is q ⊎ ((1 ≤ times_in q r.owed_rescans) × (OwesRescan plan was q → ⊥)))
-            (rescans_pass plan scan next page inode q r.owed_rescans owes);
+            (rescans_pass plan scan next next_is q r.owed_rescans owes);
         marks = λ i owes. at_phase (λ was is. OwesMark is i ⊎ ((1 ≤ times_in i r.owed_marks) × (OwesMark was i → ⊥)))
-            (marks_pass plan scan next page inode i noted (1 ≤ times_in i r.owed_marks) owes);
+            (marks_pass plan scan next next_is i noted (1 ≤ times_in i r.owed_marks) owes);
         completed = completed;
         owing_is = λ domain is. let same = owing_same domain in omega arith;
         total_is = λ context is. let same = total_same context in omega arith;
       })
 
   -- of a page that was passed
-  pub passed_on : (both : Bool) → both ≡ ((set.coding.page_bits n scan.page).dirty && (set.coding.page_bits n scan.page).writeback)
-      → is_claimable (set.coding.page_bits n scan.page) ≡ false → (both ≡ true → next.noted ≡ true) → set.inode scan.page ≡ scan.inode → pages_in new ≡ pages_in old
+  pub passed_on : (both : Bool) → both ≡ ((set.coding.page_bits n (page_of scan)).dirty && (set.coding.page_bits n (page_of scan)).writeback)
+      → is_claimable (set.coding.page_bits n (page_of scan)) ≡ false → (both ≡ true → next.noted ≡ true) → set.inode (page_of scan) ≡ scan.inode → pages_in new ≡ pages_in old
       → all_completions new.seats.cpu.cpus + completions r ≡ all_completions old.seats.cpu.cpus + completions r
-      → OnRecord plan [] old new r (record_after set (look plan.cpu scan.page) n r)
+      → OnRecord plan [] old new r (record_after set (look plan.cpu (page_of scan)) n r)
   passed_on both is_both other notes at pages completed =
-      let is = pass_is set plan.cpu scan.page n r other ∙ ap (λ (b : Bool). Record.stepped kind.Look (word.Page scan.page) n (after_pass set plan.cpu scan.page n r b)) (sym is_both) in
+      let is = pass_is set plan.cpu (page_of scan) n r other ∙ ap (λ (b : Bool). Record.stepped kind.Look (word.Page (page_of scan)) n (after_pass set plan.cpu (page_of scan) n r b)) (sym is_both) in
       subst (λ (q : CpuRecord). OnRecord plan [] old new r q) (sym is)
-      (by both notes (subst (λ (q : CpuRecord). Grew [] r q) is (untold_grows [] r (record_after set (look plan.cpu scan.page) n r) ((steps_grow set n r).untold (look plan.cpu scan.page) refl))))
+      (by both notes (subst (λ (q : CpuRecord). Grew [] r q) is (untold_grows [] r (record_after set (look plan.cpu (page_of scan)) n r) ((steps_grow set n r).untold (look plan.cpu (page_of scan)) refl))))
     where
-      by : (b : Bool) → (b ≡ true → next.noted ≡ true) → Grew [] r (Record.stepped kind.Look (word.Page scan.page) n (after_pass set plan.cpu scan.page n r b))
-          → OnRecord plan [] old new r (Record.stepped kind.Look (word.Page scan.page) n (after_pass set plan.cpu scan.page n r b))
+      by : (b : Bool) → (b ≡ true → next.noted ≡ true) → Grew [] r (Record.stepped kind.Look (word.Page (page_of scan)) n (after_pass set plan.cpu (page_of scan) n r b))
+          → OnRecord plan [] old new r (Record.stepped kind.Look (word.Page (page_of scan)) n (after_pass set plan.cpu (page_of scan) n r b))
       by false notes grew = record {
         grew = grew;
         writers = refl;
         held = λ q. let same = ap (times_in q) pages in omega arith;
         rescans = λ q owes. at_phase (λ was is. OwesRescan plan is q ⊎ ((1 ≤ times_in q r.owed_rescans) × (OwesRescan plan was q → ⊥)))
-            (rescans_pass plan scan next page inode q r.owed_rescans owes);
+            (rescans_pass plan scan next next_is q r.owed_rescans owes);
         marks = λ i owes. at_phase (λ was is. OwesMark is i ⊎ ((1 ≤ times_in i r.owed_marks) × (OwesMark was i → ⊥)))
-            (marks_pass plan scan next page inode i noted (1 ≤ times_in i r.owed_marks) owes);
+            (marks_pass plan scan next next_is i noted (1 ≤ times_in i r.owed_marks) owes);
         completed = completed;
         owing_is = λ domain is. let same = owing_same domain in omega arith;
         total_is = λ context is. let same = total_same context in omega arith;
@@ -152,10 +150,10 @@ module _ (plan : FlusherPlan) (set : Setting) (old new : Sight) (n : ℕ) (r : C
         writers = refl;
         held = λ q. let same = ap (times_in q) pages in omega arith;
         rescans = λ q owes. at_phase (λ was is. OwesRescan plan is q ⊎ ((1 ≤ times_in q r.owed_rescans) × (OwesRescan plan was q → ⊥)))
-            (rescans_pass plan scan next page inode q r.owed_rescans owes);
+            (rescans_pass plan scan next next_is q r.owed_rescans owes);
         marks = λ i owes. at_phase (λ was is. OwesMark is i ⊎ ((1 ≤ times_in i r.owed_marks) × (OwesMark was i → ⊥)))
-            (⊎_elim (λ here. inl (notes refl, here ∙ at ∙ sym inode))
-            (λ more. marks_pass plan scan next page inode i noted (1 ≤ times_in i r.owed_marks) more) (one_of i (set.inode scan.page) r.owed_marks owes));
+            (⊎_elim (λ here. inl (notes refl, here ∙ at ∙ sym (ap (λ (s : Scan). s.inode) next_is)))
+            (λ more. marks_pass plan scan next next_is i noted (1 ≤ times_in i r.owed_marks) more) (one_of i (set.inode (page_of scan)) r.owed_marks owes));
         completed = completed;
         owing_is = λ domain is. let same = owing_same domain in omega arith;
         total_is = λ context is. let same = total_same context in omega arith;

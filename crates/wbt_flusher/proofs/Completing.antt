@@ -72,7 +72,7 @@ pub chunk_is : (trace : Trace) (plan : FlusherPlan) → IsPlanOf trace plan → 
 chunk_is trace plan is =
     let line : FlusherLine = record { device = plan.device; cpu = plan.cpu } in
     let no_line : FlusherLine = record { device = 0; cpu = 0 } in
-    let no_device : Device = record { rate = 1; min = 0; max = 100; strict = false; chunk = None } in
+    let no_device : Device = record { rate = 1; min = 0; max = 100; strict = false; chunk = None; cyclic = false } in
     let device : flusher_device trace plan.flusher ≡ plan.device = ap (λ (l : FlusherLine). l.device) (get_or_from_slice_get trace.flushers plan.flusher line no_line is.line) in
     ap (λ (d : ℕ). (device_at trace d).chunk) device ∙ ap (λ (d : Device). d.chunk) (get_or_from_slice_get trace.devices plan.device plan.shares no_device is.shares)
 

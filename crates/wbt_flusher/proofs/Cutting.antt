@@ -87,8 +87,8 @@ pub after_puts : (plan : FlusherPlan) (kit : Kit) (Does : Sight → Sight → Ty
 after_puts plan kit Does was reserved work old seats before pen written new s log o q puts does = record {
   put = sight work seats pen written;
   left = left_more (sight was old before written) (sight reserved old pen written) (sight work seats pen written)
-      (record { phase = s.phase; batch = s.batch; faults = s.faults; hard = s.hard; tallies = s.tallies; wheel = s.wheel; cpu = refl; share = refl; est = refl; log = log })
-      (record { phase = o.phase; batch = λ i. (o.batch i).items; faults = o.faults; hard = o.hard; tallies = o.tallies; wheel = o.wheel; cpu = q.cpu; share = q.share; est = q.est; log = refl });
+      (record { phase = s.phase; batch = s.batch; faults = s.faults; hard = s.hard; tallies = s.tallies; wheel = s.wheel; places = s.places; cpu = refl; share = refl; est = refl; log = log })
+      (record { phase = o.phase; batch = λ i. (o.batch i).items; faults = o.faults; hard = o.hard; tallies = o.tallies; wheel = o.wheel; places = o.places; cpu = q.cpu; share = q.share; est = q.est; log = refl });
   puts = subst (λ (l : List Bool). PutsBefore plan kit (length plan.inodes) old.queue seats.queue l work.waiting.items work.some_wait) (λ i. (s.waiting i).items) puts;
   does = does;
 }

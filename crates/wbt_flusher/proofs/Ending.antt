@@ -18,7 +18,7 @@ use Rattle.wbt_flusher.specs.Answers.{Goes, GoesKept, IsOpen, Went, IsReady, IsL
 use Rattle.wbt_flusher.specs.Did.{Moments, no_moments, Fits, HasRooms, KeepsDebts, IsTimed, OwesNothing}
 use Rattle.wbt_flusher.specs.Looks.{HasPassed}
 use Rattle.wbt_flusher.specs.Sights.{Sight, sight}
-use Rattle.wbt_flusher.specs.Turns.{HasLists, HoldsPages, IsSteady, IsPhase, IsScan, OnlyWaiting}
+use Rattle.wbt_flusher.specs.Turns.{HasLists, HoldsPages, IsSteady, IsPhase, IsScan, KeepsPlace, OnlyWaiting}
 use Rattle.wbt_flusher.specs.declared.plan.FlusherPlan.{FlusherPlan}
 use Rattle.wbt_flusher.specs.declared.work.Phase.{Phase}
 use Rattle.wbt_flusher.specs.declared.work.Flight.{Flight}
@@ -26,8 +26,8 @@ use Rattle.wbt_flusher.specs.declared.work.Return.{Return}
 use Rattle.wbt_rules.specs.declared.moments.TheConstants.{MOST_FAULTS}
 use Rattle.wbt_flusher.specs.declared.work.Phase.TheVariants.{Idle, Scanning, Flying, Returning, Failed}
 use Rattle.wbt_flusher.specs.declared.work.FlusherWork.{FlusherWork}
-use Rattle.wbt_flusher.proofs.Going.{went_more, ready_went, owes_still, holds_went, rooms_went, goes_nowhere}
-use Rattle.wbt_flusher.proofs.Keeping.{queue_quiet, debts_same}
+use Rattle.wbt_flusher.proofs.Going.{went_more, kept_more, ready_went, owes_still, holds_went, rooms_went, goes_nowhere}
+use Rattle.wbt_flusher.proofs.Keeping.{queue_quiet, debts_same, place_goes}
 
 pub steps_by : (plan : FlusherPlan) (kit : Kit) (moments : Moments) (old new : Sight) → Went plan kit moments old new → IsReady plan kit old.work old.seats → IsSteady plan new.work → OwesNothing plan new.seats → Steps plan kit moments old new
 steps_by plan kit moments old new went ready steady owes = record { went = went; ready = ready_went plan kit moments old new went ready steady owes }
@@ -124,6 +124,7 @@ left_more old mid new p q = record {
   hard = q.hard ∙ p.hard;
   tallies = q.tallies ∙ p.tallies;
   wheel = q.wheel ∙ p.wheel;
+  places = q.places ∙ p.places;
   cpu = q.cpu ∙ p.cpu;
   share = q.share ∙ p.share;
   est = q.est ∙ p.est;
@@ -257,7 +258,7 @@ come_by told wait until now same was_told come = inr (now, was_told, (omega arit
 
 -- nothing changed
 pub left_same : (s : Sight) → IsLeft s s
-left_same s = record { phase = refl; batch = refl; faults = refl; hard = refl; tallies = refl; wheel = refl; cpu = refl; share = refl; est = refl; log = refl }
+left_same s = record { phase = refl; batch = refl; faults = refl; hard = refl; tallies = refl; wheel = refl; places = refl; cpu = refl; share = refl; est = refl; log = refl }
 
 pub rests_here : (plan : FlusherPlan) (kit : Kit) (drain : Bool) (told : ℕ → Type 0) (now until : ℕ) (work : FlusherWork) (seats : Seats) (log : CpuJournal) (written : Option ℕ) → IsReady plan kit work seats
     → told now → until ≡ wait_of drain work.phase → now < until → Rests plan kit drain told now until (sight work seats log written) (sight work seats log written)
@@ -318,6 +319,42 @@ opens_still plan kit scan old new was is open' goes lists only debts =
       holds = holds_went plan kit no_moments s t went open'.holds;
       rooms = rooms_went plan kit no_moments s t went open'.rooms;
       owes_none = owes_still plan old new debts open'.owes_none;
+    }
+
+-- also where its place is kept
+pub opens_kept : (plan : FlusherPlan) (kit : Kit) (scan : Scan) (seats : Seats) (was is : FlusherWork) → IsOpen plan kit scan was seats → KeepsPlace plan scan was is → HasLists plan is → IsOpen plan kit scan is seats
+opens_kept plan kit scan seats was is open' keeps lists =
+    let log : CpuJournal = record { entries = []; checks = []; estimates = [] } in
+    let s = sight was seats log None in
+    let t = sight is seats log None in
+    let went = place_goes plan kit scan seats was is open'.fits keeps no_moments log None in
+    record {
+      fits = open'.fits;
+      lists = lists;
+      phase = keeps.phase ∙ open'.phase;
+      few_faults = subst (λ (n : ℕ). n < MOST_FAULTS) (sym keeps.faults) open'.few_faults;
+      stands = subst (λ (l : List ℕ). IsScan plan l scan) (sym (λ i. (keeps.batch i).items)) open'.stands;
+      holds = holds_went plan kit no_moments s t went open'.holds;
+      rooms = rooms_went plan kit no_moments s t went open'.rooms;
+      owes_none = open'.owes_none;
+    }
+
+-- the mark of its inode may have been set, and its place is kept
+pub record KeptOpen (plan : FlusherPlan) (kit : Kit) (scan : Scan) (old new : Seats) (was is : FlusherWork) : Type 0 where
+  pub goes : GoesKept plan kit old new was is
+  pub opened : IsOpen plan kit scan is new
+  pub batch : is.batch.items ≡ was.batch.items
+  pub faults : is.faults ≡ was.faults
+
+pub kept_open : (plan : FlusherPlan) (kit : Kit) (scan : Scan) (old new : Seats) (was mid is : FlusherWork) → IsOpen plan kit scan was old → GoesKept plan kit old new was mid → HasLists plan mid → OnlyWaiting plan was mid → KeepsDebts plan old new
+    → KeepsPlace plan scan mid is → HasLists plan is → KeptOpen plan kit scan old new was is
+kept_open plan kit scan old new was mid is open' goes lists only debts keeps lists' =
+    let still = opens_still plan kit scan old new was mid open' goes lists only debts in
+    record {
+      goes = kept_more plan kit old new new was mid is goes (place_goes plan kit scan new mid is still.fits keeps);
+      opened = opens_kept plan kit scan new mid is still keeps lists';
+      batch = (λ i. (keeps.batch i).items) ∙ (λ i. (only.batch i).items);
+      faults = keeps.faults ∙ only.faults;
     }
 
 -- and opens where a page was passed

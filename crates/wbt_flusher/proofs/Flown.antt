@@ -26,7 +26,7 @@ comes_down plan kit old new was is before behind flight ready at goes next fits 
     let lists = ready.steady.lists in
     subst (λ (w : FlusherWork). IsDown plan kit (record flight { landed = flight.landed + 1 }) w new) (sym next) (record {
       fits = fits;
-      lists = record { proper = lists.proper; tallies = lists.tallies; waiting = lists.waiting; none_wait = lists.none_wait; wheel = lists.wheel };
+      lists = record { proper = lists.proper; tallies = lists.tallies; waiting = lists.waiting; none_wait = lists.none_wait; wheel = lists.wheel; places = lists.places };
       phase = refl;
       few_faults = ready.steady.few_faults;
       inode = f.inode;

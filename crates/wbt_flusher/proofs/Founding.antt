@@ -1,6 +1,7 @@
 -- What a lawful trace says of a flusher.
 use Rattle.std.proofs.Common.{zero, suc, ◌≡◌, ℕ, ◌+◌, ◌-◌, ◌<◌, ◌≤◌, List, [], ◌∷◌, length, get_or, Some, sym, refl, ap, ◌∙◌, subst, arith}
-use Rattle.std.specs.Prelude.{slice_index_or, None, IfSome}
+use Rattle.std.specs.Prelude.{replicate, slice_index_or, None, IfSome}
+use Rattle.std.proofs.lemmas.List.{length-replicate}
 use Rattle.std.proofs.lemmas.List.Sums.{sum_by-cons}
 use Rattle.std.proofs.lemmas.Option.{slice_get-get_or}
 use Rattle.wbt_journal.specs.Machine.{domains}
@@ -14,6 +15,7 @@ use Rattle.wbt_trace.specs.declared.trace.Trace.{Trace}
 use Rattle.wbt_rules.specs.Age.{is_ageing}
 use Rattle.wbt_rules.specs.Things.{leads}
 use Rattle.wbt_flusher.specs.Plans.{IsPlan, IsPlanOf, context_at}
+use Rattle.wbt_flusher.specs.Turns.{ArePlaces}
 use Rattle.wbt_flusher.specs.declared.plan.FlusherPlan.{FlusherPlan}
 
 -- ---- inodes
@@ -43,6 +45,20 @@ each_ends (x ∷ l) n zero d less firsts = let first = firsts.0 in let whole = p
     subst (λ (y : Inode). y.first + y.pages ≤ n + pages_in (x ∷ l)) (sym is) (omega arith)
 each_ends (x ∷ l) n (suc i) d less firsts = let rest = each_ends l (n + x.pages) i d (omega arith) firsts.1 in let whole = pages_more x l in let is : get_or (x ∷ l) (suc i) d ≡ get_or l i d = refl in
     subst (λ (y : Inode). y.first + y.pages ≤ n + pages_in (x ∷ l)) (sym is) (omega arith)
+
+-- ---- places
+
+-- an inode's first place is its first page
+pub first_places : (plan : FlusherPlan) (places : List ℕ) → IsPlan plan → places ≡ replicate (length plan.inodes) 0 → ArePlaces plan places
+first_places plan places is none = record {
+  many = ap (λ (l : List ℕ). length l) none ∙ length-replicate {A = ℕ} (length plan.inodes) 0;
+  below = λ inode there. let at = ap (λ (l : List ℕ). get_or l inode 0) none ∙ first_of_all 0 (length plan.inodes) inode in let some = is.some_page inode there in omega arith;
+}
+  where
+    first_of_all : (z n inode : ℕ) → get_or (replicate n z) inode z ≡ z
+    first_of_all z zero inode = refl
+    first_of_all z (suc n) zero = refl
+    first_of_all z (suc n) (suc inode) = first_of_all z n inode
 
 -- ---- the plan
 

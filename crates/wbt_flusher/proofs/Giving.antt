@@ -236,7 +236,7 @@ module _ (plan : FlusherPlan) (kit : Kit) (old new : Seats) (giving : Return) (s
         let went = goes_given had no_moments None in
         record {
           fits = fits_given;
-          lists = record { proper = lists.proper; tallies = lists.tallies; waiting = lists.waiting; none_wait = lists.none_wait; wheel = lists.wheel };
+          lists = record { proper = lists.proper; tallies = lists.tallies; waiting = lists.waiting; none_wait = lists.none_wait; wheel = lists.wheel; places = lists.places };
           phase = refl;
           few_faults = ready.steady.few_faults;
           inode = stands.inode;

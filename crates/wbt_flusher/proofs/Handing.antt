@@ -181,7 +181,7 @@ module _ (plan : FlusherPlan) (kit : Kit) (told : Moments) (seats : Seats) (befo
 
 -- a scan's batch has no more pages than there are
 pub scan_few : (plan : FlusherPlan) (scan : Scan) (claims : List ℕ) → IsPlan plan → IsScan plan claims scan → length claims ≤ plan.pages
-scan_few plan scan claims is stands = let a = stands.few in let b = stands.to in let c = is.pages scan.inode stands.inode.there in omega arith
+scan_few plan scan claims is stands = let a = stands.few in let b = stands.to in let p = stands.pages_are in let c = is.pages scan.inode stands.inode.there in omega arith
 
 -- and flies off as a flight
 pub takes_off : (plan : FlusherPlan) (scan : Scan) (flight : Flight) (claims : List ℕ) → IsPlan plan → IsScan plan claims scan → 0 < length claims → flight.inode ≡ scan.inode → flight.landed ≡ 0 → IsFlight plan claims flight

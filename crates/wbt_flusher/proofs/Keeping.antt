@@ -19,10 +19,11 @@ use Rattle.wbt_kit.specs.declared.kit.Seats.{Seats}
 use Rattle.wbt_run_steps.specs.Inodes.{OnlyQueue}
 use Rattle.wbt_run_steps.specs.Records.{IsApart, record_of}
 use Rattle.wbt_run_steps.specs.Queues.{OnlyDevice}
+use Rattle.wbt_rules.specs.declared.scan.Scan.{Scan}
 use Rattle.wbt_flusher.specs.Answers.{GoesQuiet, GoesKept}
 use Rattle.wbt_flusher.specs.Did.{Fits, KeepsDebts}
 use Rattle.wbt_flusher.specs.Sights.{sight, record_in, flusher_in, phase_by, pages_by, all_completions, completions, landed_in, tallies_of, tally_in, with_tally, OwesRescan, OwesMark, list_by}
-use Rattle.wbt_flusher.specs.Turns.{AreProper, HasLists, OnlyTallies, OnlyWaiting, IsBare}
+use Rattle.wbt_flusher.specs.Turns.{AreProper, ArePlaces, HasLists, KeepsPlace, OnlyTallies, OnlyWaiting, IsBare}
 use Rattle.wbt_flusher.specs.declared.plan.FlusherPlan.{FlusherPlan}
 use Rattle.wbt_flusher.specs.declared.tally.Tallies.{Tallies}
 use Rattle.wbt_flusher.specs.declared.tally.Tally.{Tally}
@@ -31,7 +32,7 @@ use Rattle.wbt_flusher.specs.declared.work.Phase.{Phase}
 use Rattle.wbt_flusher.specs.declared.work.Phase.TheVariants.{Idle, Scanning, Flying, Returning, Failed}
 use Rattle.wbt_flusher.specs.declared.work.FlusherWork.{FlusherWork}
 use Rattle.wbt_flusher.proofs.Acting.{OnRecord, Kept, did_act, rescan_or, mark_or, same_flusher}
-use Rattle.wbt_flusher.proofs.Going.{keeps_same, kept_same}
+use Rattle.wbt_flusher.proofs.Going.{goes_kept, keeps_same, kept_same}
 use Rattle.wbt_flusher.proofs.Noting.{grows_none}
 use Rattle.wbt_flusher.proofs.Handing.{owes_same}
 use Rattle.wbt_flusher.proofs.Waiting.{list_kept}
@@ -129,6 +130,11 @@ kept_by plan seats was is phase batch faults tallies wheel =
       total_is = less.totals;
     }
 
+-- where only a place is kept
+pub place_goes : (plan : FlusherPlan) (kit : Kit) (scan : Scan) (seats : Seats) (was is : FlusherWork) → Fits plan kit seats → KeepsPlace plan scan was is → GoesKept plan kit seats seats was is
+place_goes plan kit scan seats was is fits keeps = goes_kept plan kit seats was is fits
+    (kept_by plan seats was is keeps.phase (λ i. (keeps.batch i).items) keeps.faults (λ i. (keeps.tallies i).items) keeps.wheel)
+
 -- where the flusher without a batch becomes idle
 pub kept_idle : (plan : FlusherPlan) (seats : Seats) (was is : FlusherWork) (until : ℕ) (kept : Bool) → IsBare plan was seats → is.phase ≡ Idle until kept → is.batch.items ≡ was.batch.items → is.faults ≡ was.faults → is.tallies.items ≡ was.tallies.items → is.wheel ≡ was.wheel → Kept plan seats was is
 kept_idle plan seats was is until kept bare is_at batch faults tallies wheel =
@@ -163,9 +169,9 @@ queue_goes plan kit old new was is fits queue device only = goes_apart plan kit 
     (kept_by plan old was is only.phase (λ i. (only.batch i).items) only.faults (λ i. (only.tallies i).items) only.wheel)
 
 -- where one inode waits, or doesn't any more
-pub waits_alone : (plan : FlusherPlan) (was is : FlusherWork) (inode : ℕ) (full : Bool) → is.phase ≡ was.phase → is.batch ≡ was.batch → is.faults ≡ was.faults → is.hard ≡ was.hard → is.tallies ≡ was.tallies → is.wheel ≡ was.wheel
+pub waits_alone : (plan : FlusherPlan) (was is : FlusherWork) (inode : ℕ) (full : Bool) → is.phase ≡ was.phase → is.batch ≡ was.batch → is.faults ≡ was.faults → is.hard ≡ was.hard → is.tallies ≡ was.tallies → is.wheel ≡ was.wheel → is.places ≡ was.places
     → is.waiting.items ≡ set was.waiting.items inode full → OnlyWaiting plan was is
-waits_alone plan was is inode full phase batch faults hard tallies wheel waiting = record {
+waits_alone plan was is inode full phase batch faults hard tallies wheel places waiting = record {
   phase = phase;
   batch = batch;
   faults = faults;
@@ -173,12 +179,13 @@ waits_alone plan was is inode full phase batch faults hard tallies wheel waiting
   tallies = tallies;
   wheel = wheel;
   waiting = ap (λ (l : List Bool). length l) waiting ∙ length-set was.waiting.items inode full;
+  places = places;
 }
 
 -- an inode waits, or it doesn't any more
-pub lists_put : (plan : FlusherPlan) (was is : FlusherWork) (inode : ℕ) (full : Bool) → HasLists plan was → is.tallies.items ≡ was.tallies.items → is.wheel ≡ was.wheel → is.waiting.items ≡ set was.waiting.items inode full
+pub lists_put : (plan : FlusherPlan) (was is : FlusherWork) (inode : ℕ) (full : Bool) → HasLists plan was → is.tallies.items ≡ was.tallies.items → is.wheel ≡ was.wheel → is.places.items ≡ was.places.items → is.waiting.items ≡ set was.waiting.items inode full
     → (is.some_wait ≡ false → (was.some_wait ≡ false) × (full ≡ false)) → HasLists plan is
-lists_put plan was is inode full lists tallies wheel waiting flags = record {
+lists_put plan was is inode full lists tallies wheel places waiting flags = record {
   proper = subst (λ (l : List Tallies). All AreProper l) (sym tallies) lists.proper;
   tallies = ap (λ (l : List Tallies). length l) tallies ∙ lists.tallies;
   waiting = ap (λ (l : List Bool). length l) waiting ∙ length-set was.waiting.items inode full ∙ lists.waiting;
@@ -186,6 +193,7 @@ lists_put plan was is inode full lists tallies wheel waiting flags = record {
       let both = flags none in
       ap (λ (l : List Bool). get_or l k false) waiting ∙ none_set was.waiting.items inode k full both.1 (lists.none_wait both.0);
   wheel = subst (λ (w : Option Waiting). HasWheel plan w) (sym wheel) lists.wheel;
+  places = subst (ArePlaces plan) (sym places) lists.places;
 }
   where
     none_set : (l : List Bool) (i k : ℕ) (b : Bool) → b ≡ false → ((j : ℕ) → get_or l j false ≡ false) → get_or (set l i b) k false ≡ false

@@ -29,14 +29,15 @@ use Rattle.wbt_run_steps.proofs.Queues.{only_same}
 use Rattle.wbt_flusher.specs.Answers.{Goes}
 use Rattle.wbt_flusher.specs.Did.{Fits, KeepsDebts}
 use Rattle.wbt_flusher.specs.Looks.{HasPassed}
-use Rattle.wbt_flusher.specs.Plans.{IsPlan, Suits, IsInode, end_of, inode_at}
+use Rattle.wbt_flusher.specs.Plans.{IsPlan, Suits, end_of, inode_at}
 use Rattle.wbt_flusher.specs.Sights.{sight, phase_by, pages_by, landed_in, owing_total, first_tallies, completions, all_completions, list_by}
 use Rattle.wbt_flusher.specs.Turns.{AreOf, IsScan}
 use Rattle.wbt_flusher.specs.declared.plan.FlusherPlan.{FlusherPlan}
 use Rattle.wbt_flusher.specs.declared.tally.Tallies.{Tallies}
 use Rattle.wbt_flusher.specs.declared.work.Phase.{Phase}
 use Rattle.wbt_flusher.specs.declared.work.Phase.TheVariants.{Scanning}
-use Rattle.wbt_rules.specs.Flusher.{IsWithinChunk}
+use Rattle.wbt_rules.specs.Places.{page_of}
+use Rattle.wbt_rules.proofs.Places.{page_inside}
 use Rattle.wbt_rules.specs.declared.scan.Scan.{Scan}
 use Rattle.wbt_flusher.specs.declared.work.FlusherWork.{FlusherWork}
 use Rattle.wbt_flusher.proofs.Acting.{did_act, flew_as, on_cpu, told_as}
@@ -61,6 +62,16 @@ takes flusher page batch faults = record {
   reached = cond-true (eqb flusher flusher) (told_as (flights.scanning (batch ++ page ∷ [])) faults) (told_as (flights.scanning batch) faults) (eq-eqb flusher flusher refl);
 }
 
+-- the page at which a scan looks is one of its inode
+pub page_own : (plan : FlusherPlan) (batch : List ℕ) (scan : Scan) → IsScan plan batch scan → ((inode_at plan scan.inode).first ≤ page_of scan) × (page_of scan < end_of plan scan.inode)
+page_own plan batch scan stands =
+    let first = stands.first_is in
+    let pages = stands.pages_are in
+    let inside = page_inside scan.first scan.pages scan.start scan.passed stands.start in
+    let low = inside.0 in
+    let high = inside.1 in
+    (omega arith, omega arith)
+
 -- what a call gives
 pub record Gives (plan : FlusherPlan) (kit : Kit) (old new : Seats) (before behind : CpuJournal) (was is : FlusherWork) : Type 0 where
   pub goes : Goes plan kit old new before behind was is
@@ -68,8 +79,8 @@ pub record Gives (plan : FlusherPlan) (kit : Kit) (old new : Seats) (before behi
   pub debts : KeepsDebts plan old new
 
 module _ (plan : FlusherPlan) (kit : Kit) (old new : Seats) (before : CpuJournal) (was is : FlusherWork) (scan next : Scan) (n : ℕ)
-    (suits : Suits plan kit) (fits : Fits plan kit old) (only : OnlyCpu old new) (stands : IsScan plan was.batch.items scan) (within : scan.page < end_of plan scan.inode)
-    (was_at : was.phase ≡ Scanning scan) (is_at : is.phase ≡ Scanning next) (page : next.page ≡ scan.page + 1) (inode : next.inode ≡ scan.inode)
+    (suits : Suits plan kit) (fits : Fits plan kit old) (only : OnlyCpu old new) (stands : IsScan plan was.batch.items scan)
+    (was_at : was.phase ≡ Scanning scan) (is_at : is.phase ≡ Scanning next) (next_is : next ≡ record scan { passed = scan.passed + 1; noted = next.noted })
     (noted : scan.noted ≡ true → next.noted ≡ true) (tallies : is.tallies.items ≡ was.tallies.items) (faults : is.faults ≡ was.faults) (wheel : is.wheel ≡ was.wheel) where
   none_landed : (k : ℕ) → landed_in plan is.phase k ≡ landed_in plan was.phase k
   none_landed k = ap (λ (p : Phase). landed_in plan p k) is_at ∙ sym (ap (λ (p : Phase). landed_in plan p k) was_at)
@@ -77,66 +88,69 @@ module _ (plan : FlusherPlan) (kit : Kit) (old new : Seats) (before : CpuJournal
   totals_stay : (k : ℕ) → owing_total plan k is ≡ owing_total plan k was
   totals_stay k = let a = ap (λ (l : List Tallies). (get_or l k first_tallies).written) tallies in let b = none_landed k in omega arith
 
-  page_there : scan.page < plan.pages
-  page_there = let low = suits.plan_is.pages scan.inode stands.inode.there in omega arith
+  own_page : ((inode_at plan scan.inode).first ≤ page_of scan) × (page_of scan < end_of plan scan.inode)
+  own_page = page_own plan was.batch.items scan stands
 
-  pub claims_page : is.batch.items ≡ was.batch.items ++ scan.page ∷ [] → is_claimable (bits_at n scan.page) ≡ true
-      → Changes plan.cpu (tried (setting kit.throttle.layout) plan.cpu scan.page n n) old.cpu new.cpu
-      → Gives plan kit old new before (with_entry (entry.Claimed plan.flusher scan.page) before) was is
+  page_there : page_of scan < plan.pages
+  page_there = let low = suits.plan_is.pages scan.inode stands.inode.there in let high = own_page.1 in omega arith
+
+  pub claims_page : is.batch.items ≡ was.batch.items ++ page_of scan ∷ [] → is_claimable (bits_at n (page_of scan)) ≡ true
+      → Changes plan.cpu (tried (setting kit.throttle.layout) plan.cpu (page_of scan) n n) old.cpu new.cpu
+      → Gives plan kit old new before (with_entry (entry.Claimed plan.flusher (page_of scan)) before) was is
   claims_page batch claimable change =
       let set' = setting kit.throttle.layout in
-      let f = tried set' plan.cpu scan.page n n in
+      let f = tried set' plan.cpu (page_of scan) n n in
       let r = fits.held.0 in
       let has = fits.held.1 in
       let now = changed plan.cpu f old.cpu new.cpu r change has in
-      let becomes : f r ≡ after_claim set' plan.cpu scan.page n r = claim_is set' plan.cpu scan.page n r claimable in
-      let behind = with_entry (entry.Claimed plan.flusher scan.page) before in
+      let becomes : f r ≡ after_claim set' plan.cpu (page_of scan) n r = claim_is set' plan.cpu (page_of scan) n r claimable in
+      let behind = with_entry (entry.Claimed plan.flusher (page_of scan)) before in
       let fits' = fits_cpu plan kit old new f fits change only in
-      let pages : pages_by is.batch.items is.phase ≡ pages_by was.batch.items was.phase ++ scan.page ∷ [] =
-      ap (pages_by is.batch.items) is_at ∙ batch ∙ ap (λ (l : List ℕ). l ++ scan.page ∷ []) (sym (ap (pages_by was.batch.items) was_at)) in
+      let pages : pages_by is.batch.items is.phase ≡ pages_by was.batch.items was.phase ++ page_of scan ∷ [] =
+      ap (pages_by is.batch.items) is_at ∙ batch ∙ ap (λ (l : List ℕ). l ++ page_of scan ∷ []) (sym (ap (pages_by was.batch.items) was_at)) in
       record {
         goes = λ told written.
             let s = sight was old before written in
             let t = sight is new behind written in
             record {
               did = did_act plan kit told s t (record {
-                added = claimed plan.flusher scan.page ∷ [];
+                added = claimed plan.flusher (page_of scan) ∷ [];
                 of_flusher = (record { no_write = refl; no_check = refl; flight = refl; wait = tt }, tt);
                 plain = (record { no_check = refl; no_estimate = refl }, tt);
                 adds_none = λ domain context. refl;
-                logged = logged_entry (entry.Claimed plan.flusher scan.page) before refl;
-                own = λ trace work. (record { write = tt; fold = tt; check = tt; flight = record { own = own_flusher trace plan kit work; page = page_is trace plan kit scan.page suits work page_there; chunk = tt }; share = tt; estimate = tt; wait = tt }, tt);
+                logged = logged_entry (entry.Claimed plan.flusher (page_of scan)) before refl;
+                own = λ trace work. (record { write = tt; fold = tt; check = tt; flight = record { own = own_flusher trace plan kit work; page = page_is trace plan kit (page_of scan) suits work page_there; chunk = tt }; share = tt; estimate = tt; wait = tt }, tt);
                 moments = (record { batch = tt; estimate = tt; wait = tt }, tt);
                 pages = grows_none written;
-                flew = flew_as plan.flusher (claimed plan.flusher scan.page ∷ []) s t (flights.scanning was.batch.items) (flights.scanning (was.batch.items ++ scan.page ∷ []))
-                    (ap (phase_by was.batch.items) was_at) (ap (phase_by is.batch.items) is_at ∙ ap flights.scanning batch) faults (takes plan.flusher scan.page was.batch.items was.faults);
-                waited = λ trace work. list_kept trace plan.flusher (claimed plan.flusher scan.page ∷ []) (list_by was) (list_by is) (refl, tt) (ap pairs_of wheel);
+                flew = flew_as plan.flusher (claimed plan.flusher (page_of scan) ∷ []) s t (flights.scanning was.batch.items) (flights.scanning (was.batch.items ++ page_of scan ∷ []))
+                    (ap (phase_by was.batch.items) was_at) (ap (phase_by is.batch.items) is_at ∙ ap flights.scanning batch) faults (takes plan.flusher (page_of scan) was.batch.items was.faults);
+                waited = λ trace work. list_kept trace plan.flusher (claimed plan.flusher (page_of scan) ∷ []) (list_by was) (list_by is) (refl, tt) (ap pairs_of wheel);
                 apart = now.apart;
                 share = only.share;
                 est = only.est;
-                on_record = on_cpu plan (claimed plan.flusher scan.page ∷ []) s t r (f r) has now.has
-                    (claimed_on plan set' s t n r scan next was_at is_at page inode noted (owing_stays plan was is tallies none_landed) totals_stay claimable pages
+                on_record = on_cpu plan (claimed plan.flusher (page_of scan) ∷ []) s t r (f r) has now.has
+                    (claimed_on plan set' s t n r scan next was_at is_at next_is noted (owing_stays plan was is tallies none_landed) totals_stay claimable pages
                     (now.completed ∙ ap (λ (q : CpuRecord). all_completions old.cpu.cpus + completions q) becomes));
               });
               fits = fits';
-              cpus = keeps_changed plan.cpu r (f r) old.cpu new.cpu now has (ap completions becomes ∙ (let one : completions (after_claim set' plan.cpu scan.page n r) ≡ completions r = omega arith in one)) (ap (λ (q : CpuRecord). q.page_steps) becomes);
+              cpus = keeps_changed plan.cpu r (f r) old.cpu new.cpu now has (ap completions becomes ∙ (let one : completions (after_claim set' plan.cpu (page_of scan) n r) ≡ completions r = omega arith in one)) (ap (λ (q : CpuRecord). q.page_steps) becomes);
               queue = only_same plan.device old.queue new.queue only.queue;
             };
         fits = fits';
         debts = keeps_debts plan old new f r has change (ap (λ (q : CpuRecord). q.debts) becomes);
       }
 
-  pub passes_page : is.batch.items ≡ was.batch.items → is_claimable (bits_at n scan.page) ≡ false
-      → ((((bits_at n scan.page).dirty) && (bits_at n scan.page).writeback) ≡ true → next.noted ≡ true)
-      → Changes plan.cpu (looked_at (setting kit.throttle.layout) plan.cpu scan.page n) old.cpu new.cpu → Gives plan kit old new before before was is
+  pub passes_page : is.batch.items ≡ was.batch.items → is_claimable (bits_at n (page_of scan)) ≡ false
+      → ((((bits_at n (page_of scan)).dirty) && (bits_at n (page_of scan)).writeback) ≡ true → next.noted ≡ true)
+      → Changes plan.cpu (looked_at (setting kit.throttle.layout) plan.cpu (page_of scan) n) old.cpu new.cpu → Gives plan kit old new before before was is
   passes_page batch other notes change =
       let set' = setting kit.throttle.layout in
-      let f = looked_at set' plan.cpu scan.page n in
+      let f = looked_at set' plan.cpu (page_of scan) n in
       let r = fits.held.0 in
       let has = fits.held.1 in
       let now = changed plan.cpu f old.cpu new.cpu r change has in
-      let becomes = pass_is set' plan.cpu scan.page n r other in
-      let both = (bits_at n scan.page).dirty && (bits_at n scan.page).writeback in
+      let becomes = pass_is set' plan.cpu (page_of scan) n r other in
+      let both = (bits_at n (page_of scan)).dirty && (bits_at n (page_of scan)).writeback in
       let fits' = fits_cpu plan kit old new f fits change only in
       let done : completions (f r) ≡ completions r = ap completions becomes ∙ same_completions both set' r in
       let pages : pages_by is.batch.items is.phase ≡ pages_by was.batch.items was.phase = ap (pages_by is.batch.items) is_at ∙ batch ∙ sym (ap (pages_by was.batch.items) was_at) in
@@ -162,8 +176,8 @@ module _ (plan : FlusherPlan) (kit : Kit) (old new : Seats) (before : CpuJournal
                 share = only.share;
                 est = only.est;
                 on_record = on_cpu plan [] s t r (f r) has now.has
-                    (passed_on plan set' s t n r scan next was_at is_at page inode noted (owing_stays plan was is tallies none_landed) totals_stay both refl other notes
-                    (suits.its_pages scan.inode scan.page stands.inode.there stands.from within) pages
+                    (passed_on plan set' s t n r scan next was_at is_at next_is noted (owing_stays plan was is tallies none_landed) totals_stay both refl other notes
+                    (suits.its_pages scan.inode (page_of scan) stands.inode.there own_page.0 own_page.1) pages
                     (now.completed ∙ ap (λ (m : ℕ). all_completions old.cpu.cpus + m) done));
               });
               fits = fits';
@@ -174,15 +188,15 @@ module _ (plan : FlusherPlan) (kit : Kit) (old new : Seats) (before : CpuJournal
         debts = keeps_debts plan old new f r has change (ap (λ (q : CpuRecord). q.debts) becomes ∙ same_debts both set' r);
       }
     where
-      same_completions : (b : Bool) (set' : Setting) (r : CpuRecord) → completions (Record.stepped kind.Look (word.Page scan.page) n (after_pass set' plan.cpu scan.page n r b)) ≡ completions r
+      same_completions : (b : Bool) (set' : Setting) (r : CpuRecord) → completions (Record.stepped kind.Look (word.Page (page_of scan)) n (after_pass set' plan.cpu (page_of scan) n r b)) ≡ completions r
       same_completions true set' r = refl
       same_completions false set' r = refl
 
-      same_steps : (b : Bool) (set' : Setting) (r : CpuRecord) → (Record.stepped kind.Look (word.Page scan.page) n (after_pass set' plan.cpu scan.page n r b)).page_steps ≡ r.page_steps
+      same_steps : (b : Bool) (set' : Setting) (r : CpuRecord) → (Record.stepped kind.Look (word.Page (page_of scan)) n (after_pass set' plan.cpu (page_of scan) n r b)).page_steps ≡ r.page_steps
       same_steps true set' r = refl
       same_steps false set' r = refl
 
-      same_debts : (b : Bool) (set' : Setting) (r : CpuRecord) → (Record.stepped kind.Look (word.Page scan.page) n (after_pass set' plan.cpu scan.page n r b)).debts ≡ r.debts
+      same_debts : (b : Bool) (set' : Setting) (r : CpuRecord) → (Record.stepped kind.Look (word.Page (page_of scan)) n (after_pass set' plan.cpu (page_of scan) n r b)).debts ≡ r.debts
       same_debts true set' r = refl
       same_debts false set' r = refl
 
@@ -210,23 +224,23 @@ both_of n page = both_bits (n / 2 ^ shift_of page)
 
 -- ---- where the scan stands
 
-pub passed_scan : (plan : FlusherPlan) (was is : List ℕ) (scan next : Scan) → IsScan plan was scan → scan.page < end_of plan scan.inode → next.page ≡ scan.page + 1 → next.inode ≡ scan.inode
-    → next.quota ≡ scan.quota → All (λ page. page < plan.pages) is → AreOf plan scan.inode is → length is ≤ length was + 1 → length is ≤ scan.quota → IsScan plan is next
-passed_scan plan was is scan next stands within page inode quota pages own few within_quota =
-    let end = ap (end_of plan) inode in
-    let first = ap (λ (i : ℕ). (inode_at plan i).first) inode in
-    let low = stands.from in
+-- it went on by a page
+pub passed_scan : (plan : FlusherPlan) (was is : List ℕ) (scan next : Scan) → IsScan plan was scan → scan.passed < scan.pages → next ≡ record scan { passed = scan.passed + 1; noted = next.noted }
+    → All (λ page. page < plan.pages) is → AreOf plan scan.inode is → length is ≤ length was + 1 → length is ≤ scan.quota → IsScan plan is next
+passed_scan plan was is scan next stands within next_is pages own few within_quota =
     let most = stands.few in
-    record {
-      inode = subst (IsInode plan) (sym inode) stands.inode;
-      from = omega arith;
+    subst (λ (s : Scan). IsScan plan is s) (sym next_is) (record {
+      inode = stands.inode;
+      first_is = stands.first_is;
+      pages_are = stands.pages_are;
+      start = stands.start;
       to = omega arith;
       pages = pages;
-      own = subst (λ (i : ℕ). AreOf plan i is) (sym inode) own;
+      own = own;
       few = omega arith;
-      quota = omega arith;
-      chunk = subst (IsWithinChunk plan.shares.chunk) (sym quota) stands.chunk;
-    }
+      quota = within_quota;
+      chunk = stands.chunk;
+    })
 
 -- ---- where the gate stopped a claim
 
@@ -262,36 +276,33 @@ stops_at plan kit said page old new (after_its_look n claimable change logs aske
 abbrev Own : (plan : FlusherPlan) (inode page : ℕ) → Type 0
 Own plan inode page = ((inode_at plan inode).first ≤ page) × (page < end_of plan inode)
 
-pub claimed_stands : (plan : FlusherPlan) (was is : FlusherWork) (scan next : Scan) → IsPlan plan → IsScan plan was.batch.items scan → scan.page < end_of plan scan.inode → length was.batch.items < scan.quota → is.phase ≡ Scanning next
-    → next.page ≡ scan.page + 1 → next.inode ≡ scan.inode → next.quota ≡ scan.quota → is.faults ≡ was.faults → is.batch.items ≡ was.batch.items ++ scan.page ∷ [] → HasPassed plan scan next was is
-claimed_stands plan was is scan next plan_is stands within below at page inode quota faults batch =
-    let less : scan.page < plan.pages = (let low = plan_is.pages scan.inode stands.inode.there in omega arith) in
-    let long = length-append was.batch.items (scan.page ∷ []) in
+pub claimed_stands : (plan : FlusherPlan) (was is : FlusherWork) (scan next : Scan) → IsPlan plan → IsScan plan was.batch.items scan → scan.passed < scan.pages → length was.batch.items < scan.quota → is.phase ≡ Scanning next
+    → next ≡ record scan { passed = scan.passed + 1; noted = next.noted } → is.faults ≡ was.faults → is.batch.items ≡ was.batch.items ++ page_of scan ∷ [] → HasPassed plan scan next was is
+claimed_stands plan was is scan next plan_is stands within below at next_is faults batch =
+    let its = page_own plan was.batch.items scan stands in
+    let less : page_of scan < plan.pages = (let low = plan_is.pages scan.inode stands.inode.there in let high = its.1 in omega arith) in
+    let long = length-append was.batch.items (page_of scan ∷ []) in
     let many = ap (λ (l : List ℕ). length l) batch in
     record {
       phase = at;
-      stands = passed_scan plan was.batch.items is.batch.items scan next stands within page inode quota
-          (subst (λ (l : List ℕ). All (λ p. p < plan.pages) l) (sym batch) (All-append (λ p. p < plan.pages) was.batch.items (scan.page ∷ []) stands.pages (All-cons (λ p. p < plan.pages) scan.page [] less (All-nil (λ p. p < plan.pages)))))
-          (subst (λ (l : List ℕ). AreOf plan scan.inode l) (sym batch) (All-append (Own plan scan.inode) was.batch.items (scan.page ∷ []) stands.own (All-cons (Own plan scan.inode) scan.page [] (stands.from, within) (All-nil (Own plan scan.inode))))) (omega arith) (omega arith);
-      page = page;
-      inode = inode;
-      quota = quota;
+      stands = passed_scan plan was.batch.items is.batch.items scan next stands within next_is
+          (subst (λ (l : List ℕ). All (λ p. p < plan.pages) l) (sym batch) (All-append (λ p. p < plan.pages) was.batch.items (page_of scan ∷ []) stands.pages (All-cons (λ p. p < plan.pages) (page_of scan) [] less (All-nil (λ p. p < plan.pages)))))
+          (subst (λ (l : List ℕ). AreOf plan scan.inode l) (sym batch) (All-append (Own plan scan.inode) was.batch.items (page_of scan ∷ []) stands.own (All-cons (Own plan scan.inode) (page_of scan) [] its (All-nil (Own plan scan.inode))))) (omega arith) (omega arith);
+      next_is = next_is;
       faults = faults;
       batch = inl batch;
     }
 
-pub passed_stands : (plan : FlusherPlan) (was is : FlusherWork) (scan next : Scan) → IsScan plan was.batch.items scan → scan.page < end_of plan scan.inode → is.phase ≡ Scanning next
-    → next.page ≡ scan.page + 1 → next.inode ≡ scan.inode → next.quota ≡ scan.quota → is.faults ≡ was.faults → is.batch.items ≡ was.batch.items → HasPassed plan scan next was is
-passed_stands plan was is scan next stands within at page inode quota faults batch =
+pub passed_stands : (plan : FlusherPlan) (was is : FlusherWork) (scan next : Scan) → IsScan plan was.batch.items scan → scan.passed < scan.pages → is.phase ≡ Scanning next
+    → next ≡ record scan { passed = scan.passed + 1; noted = next.noted } → is.faults ≡ was.faults → is.batch.items ≡ was.batch.items → HasPassed plan scan next was is
+passed_stands plan was is scan next stands within at next_is faults batch =
     let many = ap (λ (l : List ℕ). length l) batch in
     let most = stands.quota in
     record {
       phase = at;
-      stands = passed_scan plan was.batch.items is.batch.items scan next stands within page inode quota (subst (λ (l : List ℕ). All (λ p. p < plan.pages) l) (sym batch) stands.pages)
+      stands = passed_scan plan was.batch.items is.batch.items scan next stands within next_is (subst (λ (l : List ℕ). All (λ p. p < plan.pages) l) (sym batch) stands.pages)
           (subst (λ (l : List ℕ). AreOf plan scan.inode l) (sym batch) stands.own) (omega arith) (omega arith);
-      page = page;
-      inode = inode;
-      quota = quota;
+      next_is = next_is;
       faults = faults;
       batch = inr batch;
     }

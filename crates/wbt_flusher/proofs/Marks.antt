@@ -1,5 +1,5 @@
 -- A scan closes: its inode's mark is set where that is due, and what the flusher would owe itself is paid.
-use Rattle.std.proofs.Common.{◌≡◌, ℕ, ◌≤◌, false, [], sym, refl, ap, ◌∙◌, subst, arith, true≢false}
+use Rattle.std.proofs.Common.{◌≡◌, ℕ, ◌≤◌, false, List, [], sym, refl, ap, ◌∙◌, subst, arith, true≢false}
 use Rattle.wbt_book.specs.Ledger.{times_in}
 use Rattle.wbt_grant.specs.Kinds.{mark}
 use Rattle.wbt_grant.specs.Seats.{record_after}
@@ -12,12 +12,13 @@ use Rattle.wbt_run_steps.specs.Records.{OnlyCpu, record_of}
 use Rattle.wbt_run_steps.proofs.Queues.{only_same}
 use Rattle.wbt_flusher.specs.Answers.{GoesKept}
 use Rattle.wbt_flusher.specs.Did.{Fits, KeepsDebts}
-use Rattle.wbt_flusher.specs.Plans.{Suits, IsInode, inode_at, end_of}
+use Rattle.wbt_flusher.specs.Plans.{Suits, IsInode}
 use Rattle.wbt_flusher.specs.Sights.{phase_by, landed_in, OwesRescan, OwesMark}
-use Rattle.wbt_flusher.specs.Turns.{IsPaid, IsIdle, IsBare, OwesInodeNothing}
+use Rattle.wbt_flusher.specs.Turns.{IsPaid, IsIdle, IsBare, IsScan, OwesInodeNothing}
 use Rattle.wbt_flusher.specs.declared.plan.FlusherPlan.{FlusherPlan}
 use Rattle.wbt_flusher.specs.declared.work.Phase.{Phase}
 use Rattle.wbt_flusher.specs.declared.work.Phase.TheVariants.{Scanning}
+use Rattle.wbt_rules.proofs.Places.{page_inside, none_ahead}
 use Rattle.wbt_rules.specs.declared.scan.Scan.{Scan}
 use Rattle.wbt_flusher.specs.declared.work.FlusherWork.{FlusherWork}
 use Rattle.wbt_flusher.proofs.Beginning.{marks_inode, marks_pay}
@@ -53,16 +54,23 @@ marked plan kit old new work inode n suits fits only its change =
     }
 
 -- a scan of an inode to which nothing is owed is paid
-pub pays_scan : (plan : FlusherPlan) (scan : Scan) (seats : Seats) → OwesInodeNothing plan scan.inode seats → (inode_at plan scan.inode).first ≤ scan.page → IsPaid plan scan seats
-pays_scan plan scan seats pays from = record {
-  rescans = λ page owes own. let low = own.0 in pays.rescans page (omega arith) own.1 owes;
+pub pays_scan : (plan : FlusherPlan) (batch : List ℕ) (scan : Scan) (seats : Seats) → IsScan plan batch scan → OwesInodeNothing plan scan.inode seats → IsPaid plan scan seats
+pays_scan plan batch scan seats stands pays = record {
+  rescans = λ page owes own.
+      let first = stands.first_is in
+      let pages = stands.pages_are in
+      let inside = page_inside scan.first scan.pages scan.start own.0 stands.start in
+      let low = inside.0 in
+      let high = inside.1 in
+      let is = own.3 in
+      pays.rescans page (omega arith) (omega arith) owes;
   marks = λ inode owes own. pays.mark (subst (λ (i : ℕ). 1 ≤ times_in i (record_of plan.cpu seats.cpu.cpus).owed_marks) own.1 owes);
 }
 
 -- what a whole scan without a noted mark would owe itself is nothing
-pub paid_whole : (plan : FlusherPlan) (scan : Scan) (seats : Seats) → scan.noted ≡ false → end_of plan scan.inode ≤ scan.page → IsPaid plan scan seats
+pub paid_whole : (plan : FlusherPlan) (scan : Scan) (seats : Seats) → scan.noted ≡ false → scan.pages ≤ scan.passed → IsPaid plan scan seats
 paid_whole plan scan seats none past = record {
-  rescans = λ page owes own. let low = own.0 in let high = own.1 in absurd (omega arith);
+  rescans = λ page owes own. none_ahead scan page past own;
   marks = λ inode owes own. true≢false (sym own.0 ∙ none);
 }
 

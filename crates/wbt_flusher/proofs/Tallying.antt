@@ -8,7 +8,7 @@ use mathlib.Core.Logic.{dite}
 use native.Mathlib.Decide.{ℕ_discrete}
 use Rattle.wbt_flusher.specs.Plans.{group_of}
 use Rattle.wbt_flusher.specs.Sights.{first_tallies, is_inside, tally_in, with_tally, tallies_of, landed_in, owed_by, owing, owing_total}
-use Rattle.wbt_flusher.specs.Turns.{IsPart, IsProper, AreProper, HasLists, OnlyTallies, OwesNoMore}
+use Rattle.wbt_flusher.specs.Turns.{IsPart, IsProper, AreProper, ArePlaces, HasLists, OnlyTallies, OwesNoMore}
 use Rattle.wbt_flusher.specs.declared.plan.FlusherPlan.{FlusherPlan}
 use Rattle.wbt_flusher.specs.declared.tally.Tallies.{Tallies}
 use Rattle.wbt_flusher.specs.declared.tally.Tally.{Tally}
@@ -121,13 +121,14 @@ module _ (plan : FlusherPlan) (was is : FlusherWork) (context : ℕ) (t : Tallie
       (λ here. subst (λ (j : ℕ). owing_total plan j is ≡ owing_total plan j was) (sym here) (let sum = total_here 0 (omega arith) in omega arith))
       (λ other. total_elsewhere k other)
 
-  pub lists_with : AreProper t → is.waiting.items ≡ was.waiting.items → is.some_wait ≡ was.some_wait → is.wheel ≡ was.wheel → HasLists plan is
-  lists_with proper waiting some wheel = record {
+  pub lists_with : AreProper t → is.waiting.items ≡ was.waiting.items → is.some_wait ≡ was.some_wait → is.wheel ≡ was.wheel → is.places.items ≡ was.places.items → HasLists plan is
+  lists_with proper waiting some wheel places = record {
     proper = subst (λ (l : List Tallies). All AreProper l) (sym tallies) (All-set AreProper was.tallies.items context t proper lists.proper);
     tallies = ap (λ (l : List Tallies). length l) tallies ∙ length-set was.tallies.items context t ∙ lists.tallies;
     waiting = ap (λ (l : List Bool). length l) waiting ∙ lists.waiting;
     none_wait = λ none inode. ap (λ (l : List Bool). get_or l inode false) waiting ∙ lists.none_wait (sym some ∙ none) inode;
     wheel = subst (λ (w : Option Waiting). HasWheel plan w) (sym wheel) lists.wheel;
+    places = subst (ArePlaces plan) (sym places) lists.places;
   }
 
 -- a domain of a context

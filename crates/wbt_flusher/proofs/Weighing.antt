@@ -69,6 +69,7 @@ only_more old mid new p q = record {
   waiting = q.waiting ∙ p.waiting;
   some_wait = q.some_wait ∙ p.some_wait;
   wheel = q.wheel ∙ p.wheel;
+  places = q.places ∙ p.places;
 }
 
 pub weighed : (now : ℕ) (plan : FlusherPlan) (kit : Kit) (old mid new : Seats) (before behind : CpuJournal) (was between is : FlusherWork) → GoesAt now plan kit old mid before behind was between

@@ -88,6 +88,7 @@ pub record IsSameWork (old new : FlusherWork) : Type 0 where
   pub some_wait : new.some_wait ≡ old.some_wait
   pub tallies : new.tallies ≡ old.tallies
   pub wheel : new.wheel ≡ old.wheel
+  pub places : new.places ≡ old.places
 
 -- there is room for a page, its folds and the shares of its flight, for an estimate of each context, and for as many notices as may be
 -- in a turn, with an inode that is taken
@@ -157,6 +158,7 @@ pub record IsLeft (old new : Sight) : Type 0 where
   pub hard : new.work.hard ≡ old.work.hard
   pub tallies : new.work.tallies ≡ old.work.tallies
   pub wheel : new.work.wheel ≡ old.work.wheel
+  pub places : new.work.places ≡ old.work.places
   pub cpu : new.seats.cpu ≡ old.seats.cpu
   pub share : new.seats.share ≡ old.seats.share
   pub est : new.seats.est ≡ old.seats.est
@@ -172,6 +174,7 @@ pub record IsUntouched (old new : Sight) : Type 0 where
 
 -- ---- what was done, by these moments
 
+-- calls went on by these moments, and the flusher may take its next turn
 pub record Steps (plan : FlusherPlan) (kit : Kit) (moments : Moments) (old new : Sight) : Type 0 where
   pub went : Went plan kit moments old new
   pub ready : IsReady plan kit new.work new.seats

@@ -22,4 +22,4 @@ pub record BeginsScan (plan : FlusherPlan) (kit : Kit) (inode : ℕ) (old new : 
   pub reads : ReadsEstimate kit.published.firsts (context_of plan inode) estimate old.seats.est new.seats.est
   pub share : new.seats.share ≡ old.seats.share
   pub queue_is : new.seats.queue ≡ old.seats.queue
-  pub work : new.work ≡ record old.work { phase = begun_scan plan inode (quota_of plan.shares estimate.avg old.work.hard) }
+  pub work : new.work ≡ record old.work { phase = begun_scan plan old.work inode (quota_of plan.shares estimate.avg old.work.hard) }

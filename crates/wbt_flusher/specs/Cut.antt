@@ -25,7 +25,7 @@ use Rattle.wbt_flusher.specs.Plans.{IsInode, context_at, is_strict}
 use Rattle.wbt_flusher.specs.Reads.{MeasuresAll, MeasuresBefore}
 use Rattle.wbt_flusher.specs.Sights.{Sight, list_by}
 use Rattle.wbt_flusher.specs.Took.{DonePage, FindsNone, GivesPage, GoesOn, IsMarkDue, IsScanOver, MarksAgain, StopsAtPage}
-use Rattle.wbt_flusher.specs.Turns.{OnlyEst, OnlyWaiting, OwesNoMore, PutsBefore}
+use Rattle.wbt_flusher.specs.Turns.{KeepsPlace, OnlyEst, OnlyWaiting, OwesNoMore, PutsBefore}
 use Rattle.wbt_flusher.specs.Weighs.{WeighsAll, WeighsBefore}
 use Rattle.wbt_flusher.specs.declared.background.Read.{Read}
 use Rattle.wbt_flusher.specs.declared.background.Test.{Test}
@@ -196,14 +196,17 @@ pub record FailsBatch (plan : FlusherPlan) (was is : FlusherWork) (before behind
   pub waiting : is.waiting ≡ was.waiting
   pub some_wait : is.some_wait ≡ was.some_wait
   pub wheel : is.wheel ≡ was.wheel
+  pub places : is.places ≡ was.places
   pub less : OwesNoMore plan was is
 
--- the inode was marked again where that is due, and then the disk failed for the last time
+-- the inode was marked again where that is due, and its place is kept; and then the disk failed for the last time
 pub record FailsToClose (plan : FlusherPlan) (kit : Kit) (scan : Scan) (old new : Sight) : Type 0 where
   pub marked : FlusherWork
   pub only : OnlyWaiting plan old.work marked
   pub marks : MarksAgain plan kit scan old.seats new.seats old.work marked
-  pub fails : FailsBatch plan marked new.work old.log new.log
+  pub kept : FlusherWork
+  pub keeps : KeepsPlace plan scan marked kept
+  pub fails : FailsBatch plan kept new.work old.log new.log
 
 -- so after a page with which the scan was over
 pub record ScanFails (plan : FlusherPlan) (kit : Kit) (scan : Scan) (old new : Sight) : Type 0 where

@@ -34,6 +34,7 @@ pub record Moments : Type 0 where
   pub batches : List ℕ
   pub estimates : List ℕ
 
+-- no moment was told
 abbrev pub no_moments : Moments
 no_moments = record { batches = []; estimates = [] }
 
@@ -131,6 +132,7 @@ Works plan kit old new before behind was is = (told : Moments) (written : Option
 abbrev pub KeepsDebts : (plan : FlusherPlan) (old new : Seats) → Type 0
 KeepsDebts plan old new = (record_of plan.cpu new.cpu.cpus).debts ≡ (record_of plan.cpu old.cpu.cpus).debts
 
+-- the flusher's CPU owes no counter
 abbrev pub OwesNothing : (plan : FlusherPlan) (seats : Seats) → Type 0
 OwesNothing plan seats = (record_of plan.cpu seats.cpu.cpus).debts ≡ []
 

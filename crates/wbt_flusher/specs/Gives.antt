@@ -12,6 +12,7 @@ use Rattle.wbt_flusher.specs.declared.plan.FlusherPlan.{FlusherPlan}
 use Rattle.wbt_flusher.specs.declared.work.FlusherWork.{FlusherWork}
 use Rattle.wbt_flusher.specs.declared.work.Return.{Return}
 
+-- what giving a page back did, by its answer
 abbrev pub Gives : (plan : FlusherPlan) (kit : Kit) (said : ℕ → ℕ → Bool → Type 0) (giving : Return) (given : Given) (old new : Sight) → Type 0
 Gives plan kit said giving Passed old new = GivesPage plan kit giving old new
 Gives plan kit said giving Missed old new = MissesReturn plan kit giving old new

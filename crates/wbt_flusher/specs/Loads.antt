@@ -23,6 +23,7 @@ use Rattle.wbt_flusher.specs.declared.plan.FlusherPlan.{FlusherPlan}
 abbrev pub read_of : (load : DomainLoad) → Read
 read_of load = record { limits = load.limits; dirty = at_least_zero load.count.value }
 
+-- the domain is over background by what was loaded of it
 abbrev pub IsOver : (load : DomainLoad) → Type 0
 IsOver load = IsOverBackground (read_of load).dirty load.limits
 

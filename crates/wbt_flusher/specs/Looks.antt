@@ -7,6 +7,7 @@ use Rattle.wbt_flusher.specs.declared.plan.FlusherPlan.{FlusherPlan}
 use Rattle.wbt_flusher.specs.declared.scan.Looked.{Looked}
 use Rattle.wbt_flusher.specs.declared.scan.Looked.TheVariants.{Passed, Missed, Stopped}
 use Rattle.wbt_flusher.specs.declared.work.Phase.TheVariants.{Scanning}
+use Rattle.wbt_rules.specs.Places.{page_of}
 use Rattle.wbt_rules.specs.declared.scan.Scan.{Scan}
 use Rattle.wbt_flusher.specs.declared.work.FlusherWork.{FlusherWork}
 
@@ -14,12 +15,11 @@ use Rattle.wbt_flusher.specs.declared.work.FlusherWork.{FlusherWork}
 pub record HasPassed (plan : FlusherPlan) (scan next : Scan) (old new : FlusherWork) : Type 0 where
   pub phase : new.phase ≡ Scanning next
   pub stands : IsScan plan new.batch.items next
-  pub page : next.page ≡ scan.page + 1
-  pub inode : next.inode ≡ scan.inode
-  pub quota : next.quota ≡ scan.quota
+  pub next_is : next ≡ record scan { passed = scan.passed + 1; noted = next.noted }
   pub faults : new.faults ≡ old.faults
-  pub batch : (new.batch.items ≡ old.batch.items ++ scan.page ∷ []) ⊎ (new.batch.items ≡ old.batch.items)
+  pub batch : (new.batch.items ≡ old.batch.items ++ page_of scan ∷ []) ⊎ (new.batch.items ≡ old.batch.items)
 
+-- what a look did, by its answer
 abbrev pub Looks : (plan : FlusherPlan) (said : ℕ → ℕ → Bool → Type 0) (scan : Scan) (looked : Looked) (seats : Seats) (old new : FlusherWork) → Type 0
 Looks plan said scan (Passed next) seats old new = HasPassed plan scan next old new
 Looks plan said scan Missed seats old new = new ≡ old

@@ -18,9 +18,11 @@ use Rattle.wbt_run_laws.specs.Throttle.{IsThrottleOf}
 use Rattle.wbt_kit.specs.declared.kit.Kit.{Kit}
 use Rattle.wbt_flusher.specs.declared.plan.FlusherPlan.{FlusherPlan}
 
+-- an inode of the plan by number
 abbrev pub inode_at : (plan : FlusherPlan) (inode : ℕ) → Inode
 inode_at plan inode = inode_in plan.inodes inode
 
+-- a context of the plan by number
 abbrev pub context_at : (plan : FlusherPlan) (context : ℕ) → Context
 context_at plan context = context_in plan.contexts context
 
@@ -28,9 +30,11 @@ context_at plan context = context_in plan.contexts context
 abbrev pub end_of : (plan : FlusherPlan) (inode : ℕ) → ℕ
 end_of plan inode = inode_end (inode_at plan inode)
 
+-- the context of an inode
 abbrev pub context_of : (plan : FlusherPlan) (inode : ℕ) → ℕ
 context_of plan inode = (inode_at plan inode).context
 
+-- the cgroup of a context, 0 where it has none
 abbrev pub group_of : (plan : FlusherPlan) (context : ℕ) → ℕ
 group_of plan context = (context_at plan context).domain
 

@@ -44,6 +44,7 @@ pub record ReadsShare (domain context : ℕ) (fraction held : Fraction) (old new
 
 -- ---- a number that is added to a domain for a context
 
+-- what is kept for a context, of these
 abbrev pub tallies_at : (items : List Tallies) (context : ℕ) → Tallies
 tallies_at items context = get_or items context first_tallies
 
@@ -139,6 +140,7 @@ pub record Updates (plan : FlusherPlan) (kit : Kit) (now : ℕ) (global : Read) 
 
 -- ---- contexts one after another
 
+-- a context's estimate is updated where it is of the flusher's device and old enough
 pub data Measures (plan : FlusherPlan) (kit : Kit) (now : ℕ) (global : Read) (context : ℕ) (old new : Sight) : Type 0 where
   is_elsewhere : ((context_at plan context).device ≡ plan.device → ⊥) → new ≡ old → Measures plan kit now global context old new
   is_young : (context_at plan context).device ≡ plan.device → IsYoung kit now context old new → Measures plan kit now global context old new

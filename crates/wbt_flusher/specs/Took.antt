@@ -10,6 +10,7 @@ use Rattle.wbt_journal.specs.declared.entry.Entry.TheVariants as entry
 use Rattle.wbt_kit.specs.declared.kit.Kit.{Kit}
 use Rattle.wbt_kit.specs.declared.kit.Seats.{Seats}
 use Rattle.wbt_rules.specs.Flusher.{HasLanded}
+use Rattle.wbt_rules.specs.Places.{page_of}
 use Rattle.wbt_rules.specs.declared.moments.TheConstants.{FLUSHER_REST, MOST_FAULTS, RETRY_REST}
 use Rattle.wbt_queue.specs.Order.{HasTaken}
 use Rattle.wbt_queue.specs.Passes as queue
@@ -26,10 +27,10 @@ use Rattle.wbt_flusher.specs.Ageing.{DecidesByAge, TakesAny}
 use Rattle.wbt_flusher.specs.Answers.{IsLeft}
 use Rattle.wbt_flusher.specs.Begins.{BeginsScan}
 use Rattle.wbt_flusher.specs.Loads.{AnyOver, Tested}
-use Rattle.wbt_flusher.specs.Plans.{IsInode, context_of, end_of}
+use Rattle.wbt_flusher.specs.Plans.{IsInode, context_of}
 use Rattle.wbt_flusher.specs.Reads.{AddsShares, MeasuresAll}
 use Rattle.wbt_flusher.specs.Sights.{Sight, list_by, tallies_of}
-use Rattle.wbt_flusher.specs.Turns.{KeepsRest, OnlyShare, OnlyWaiting, PutsBefore, PutsInode, owing_more}
+use Rattle.wbt_flusher.specs.Turns.{KeepsPlace, KeepsRest, OnlyShare, OnlyWaiting, PutsBefore, PutsInode, owing_more}
 use Rattle.wbt_flusher.specs.Weighs.{WeighsAll}
 use Rattle.wbt_flusher.specs.declared.background.Test.{Test}
 use Rattle.wbt_flusher.specs.declared.plan.FlusherPlan.{FlusherPlan}
@@ -56,6 +57,7 @@ pub record Drops (plan : FlusherPlan) (inode : ℕ) (old new : Sight) : Type 0 w
   pub seats : new.seats ≡ old.seats
   pub work : new.work ≡ record old.work { phase = Idle 0 false }
 
+-- a number that was taken begins a scan, or is dropped where it names no inode of the device
 abbrev pub TakesUp : (plan : FlusherPlan) (kit : Kit) (inode : ℕ) (old new : Sight) → Type 0
 TakesUp plan kit inode old new = Drops plan inode old new ⊎ BeginsScan plan kit inode old new
 
@@ -68,6 +70,7 @@ pub record TakesInode (plan : FlusherPlan) (kit : Kit) (old new : Sight) : Type 
   pub taken : HasTaken (queue.known_of plan.device old.seats.queue) inode (queue.known_of plan.device between.queue)
   pub comes : TakesUp plan kit inode (record old { seats = between }) new
 
+-- the flusher takes an inode of the queue, or rests where that is empty
 abbrev pub TakesOrRests : (plan : FlusherPlan) (kit : Kit) (until : ℕ) (old new : Sight) → Type 0
 TakesOrRests plan kit until old new = TakesInode plan kit old new ⊎ FindsNone plan until old new
 
@@ -134,28 +137,28 @@ pub record Drains (plan : FlusherPlan) (kit : Kit) (drain : Bool) (told : ℕ �
 -- it was dirty and not under writeback: it was claimed, is told, and stands in the batch
 pub record ClaimsPage (plan : FlusherPlan) (kit : Kit) (scan next : Scan) (old new : Sight) : Type 0 where
   pub word : ℕ
-  pub claimable : is_claimable (bits_at word scan.page) ≡ true
-  pub claims : Changes plan.cpu (tried (setting kit.throttle.layout) plan.cpu scan.page word word) old.seats.cpu new.seats.cpu
-  pub told : new.log ≡ with_entry (entry.Claimed plan.flusher scan.page) old.log
-  pub batch : new.work.batch.items ≡ old.work.batch.items ++ scan.page ∷ []
-  pub next_is : next ≡ record scan { page = scan.page + 1 }
+  pub claimable : is_claimable (bits_at word (page_of scan)) ≡ true
+  pub claims : Changes plan.cpu (tried (setting kit.throttle.layout) plan.cpu (page_of scan) word word) old.seats.cpu new.seats.cpu
+  pub told : new.log ≡ with_entry (entry.Claimed plan.flusher (page_of scan)) old.log
+  pub batch : new.work.batch.items ≡ old.work.batch.items ++ page_of scan ∷ []
+  pub next_is : next ≡ record scan { passed = scan.passed + 1 }
 
 -- it wasn't: it was passed, and a mark is noted where it is dirty and under writeback
 pub record PassesPage (plan : FlusherPlan) (kit : Kit) (scan next : Scan) (old new : Sight) : Type 0 where
   pub word : ℕ
-  pub not_claimable : is_claimable (bits_at word scan.page) ≡ false
-  pub looks : Changes plan.cpu (looked_at (setting kit.throttle.layout) plan.cpu scan.page word) old.seats.cpu new.seats.cpu
+  pub not_claimable : is_claimable (bits_at word (page_of scan)) ≡ false
+  pub looks : Changes plan.cpu (looked_at (setting kit.throttle.layout) plan.cpu (page_of scan) word) old.seats.cpu new.seats.cpu
   pub told : new.log ≡ old.log
   pub batch : new.work.batch.items ≡ old.work.batch.items
-  pub next_is : next ≡ record scan { page = scan.page + 1; noted = scan.noted || ((bits_at word scan.page).dirty && (bits_at word scan.page).writeback) }
+  pub next_is : next ≡ record scan { passed = scan.passed + 1; noted = scan.noted || ((bits_at word (page_of scan)).dirty && (bits_at word (page_of scan)).writeback) }
 
 -- another thread changed its word between: it is looked at again
 pub record MissesPage (plan : FlusherPlan) (kit : Kit) (scan : Scan) (old new : Sight) : Type 0 where
   pub first : ℕ
   pub second : ℕ
-  pub claimable : is_claimable (bits_at first scan.page) ≡ true
+  pub claimable : is_claimable (bits_at first (page_of scan)) ≡ true
   pub changed : first ≢ second
-  pub tries : Changes plan.cpu (tried (setting kit.throttle.layout) plan.cpu scan.page first second) old.seats.cpu new.seats.cpu
+  pub tries : Changes plan.cpu (tried (setting kit.throttle.layout) plan.cpu (page_of scan) first second) old.seats.cpu new.seats.cpu
   pub only : OnlyCpu old.seats new.seats
   pub told : new.log ≡ old.log
   pub work : new.work ≡ old.work
@@ -174,8 +177,9 @@ pub record StopsAtPage (plan : FlusherPlan) (kit : Kit) (scan : Scan) (old new :
   pub told : new.log ≡ old.log
   pub work : new.work ≡ old.work
   pub stops : (new.seats.cpu ≡ old.seats.cpu)
-      ⊎ ((word : ℕ) × (is_claimable (bits_at word scan.page) ≡ true) × Changes plan.cpu (looked_at (setting kit.throttle.layout) plan.cpu scan.page word) old.seats.cpu new.seats.cpu)
+      ⊎ ((word : ℕ) × (is_claimable (bits_at word (page_of scan)) ≡ true) × Changes plan.cpu (looked_at (setting kit.throttle.layout) plan.cpu (page_of scan) word) old.seats.cpu new.seats.cpu)
 
+-- what a look at a page did, by its answer
 abbrev pub LooksAt : (plan : FlusherPlan) (kit : Kit) (scan : Scan) (looked : Looked) (old new : Sight) → Type 0
 LooksAt plan kit scan (Passed next) old new = GoesOn plan kit scan next old new
 LooksAt plan kit scan Missed old new = MissesPage plan kit scan old new
@@ -183,13 +187,13 @@ LooksAt plan kit scan Stopped old new = StopsAtPage plan kit scan old new
 
 -- ---- the end of a scan
 
--- the inode's last page was passed, or the batch has as many pages as it may
+-- all pages of the inode were passed, or the batch has as many pages as it may
 abbrev pub IsScanOver : (plan : FlusherPlan) (scan : Scan) (work : FlusherWork) → Type 0
-IsScanOver plan scan work = (end_of plan scan.inode ≤ scan.page) ⊎ (scan.quota ≤ length work.batch.items)
+IsScanOver plan scan work = (scan.pages ≤ scan.passed) ⊎ (scan.quota ≤ length work.batch.items)
 
 -- pages weren't passed, or a mark is noted
 abbrev pub IsMarkDue : (plan : FlusherPlan) (scan : Scan) → Type 0
-IsMarkDue plan scan = (scan.noted ≡ true) ⊎ (scan.page < end_of plan scan.inode)
+IsMarkDue plan scan = (scan.noted ≡ true) ⊎ (scan.passed < scan.pages)
 
 -- the inode was marked, and put where it had no mark
 pub record Marks (plan : FlusherPlan) (kit : Kit) (inode : ℕ) (old new : Seats) (was is : FlusherWork) : Type 0 where
@@ -198,6 +202,7 @@ pub record Marks (plan : FlusherPlan) (kit : Kit) (inode : ℕ) (old new : Seats
   pub puts : found ≡ 0 → PutsInode plan kit inode old.queue new.queue was is
   pub puts_none : found ≢ 0 → (new.queue ≡ old.queue) × (is ≡ was)
 
+-- the inode is marked again exactly where that is due
 pub data MarksAgain (plan : FlusherPlan) (kit : Kit) (scan : Scan) (old new : Seats) (was is : FlusherWork) : Type 0 where
   is_due : IsMarkDue plan scan → Marks plan kit scan.inode old new was is → MarksAgain plan kit scan old new was is
   is_not_due : (IsMarkDue plan scan → ⊥) → new ≡ old → is ≡ was → MarksAgain plan kit scan old new was is
@@ -220,14 +225,17 @@ pub record ReturnsBatch (plan : FlusherPlan) (scan : Scan) (was is : FlusherWork
   pub told : behind ≡ with_entry (entry.Fault plan.flusher (length was.batch.items)) before
   pub work : is ≡ record was { phase = Returning (record { inode = scan.inode; returned = 0 }); faults = was.faults + 1 }
 
--- the inode is marked again where that is due, and then the batch flies, or is given back where the disk failed, where there is one
+-- the inode is marked again where that is due, and its place is kept; and then the batch flies, or is given back where the disk failed,
+-- where there is one
 pub record Closes (plan : FlusherPlan) (kit : Kit) (told : ℕ → Type 0) (scan : Scan) (old new : Sight) : Type 0 where
   pub marked : FlusherWork
   pub only : OnlyWaiting plan old.work marked
   pub marks : MarksAgain plan kit scan old.seats new.seats old.work marked
-  pub ends : ((marked.batch.items ≡ []) × (new.log ≡ old.log) × EndsEmpty told scan marked new.work)
-      ⊎ ((0 < length marked.batch.items) × ((now : ℕ) × told now × HandsOver plan now scan marked new.work old.log new.log))
-      ⊎ ((0 < length marked.batch.items) × ReturnsBatch plan scan marked new.work old.log new.log)
+  pub kept : FlusherWork
+  pub keeps : KeepsPlace plan scan marked kept
+  pub ends : ((kept.batch.items ≡ []) × (new.log ≡ old.log) × EndsEmpty told scan kept new.work)
+      ⊎ ((0 < length kept.batch.items) × ((now : ℕ) × told now × HandsOver plan now scan kept new.work old.log new.log))
+      ⊎ ((0 < length kept.batch.items) × ReturnsBatch plan scan kept new.work old.log new.log)
 
 -- ---- a flusher that scans
 
@@ -238,6 +246,7 @@ pub data ScansPage (plan : FlusherPlan) (kit : Kit) (told : ℕ → Type 0) (sca
   closes : (next : Scan) (looked : Sight) → GoesOn plan kit scan next old looked → IsScanOver plan next looked.work → Closes plan kit told next looked new
       → ScansPage plan kit told scan old new
 
+-- a turn of a flusher that scans
 pub record Scans (plan : FlusherPlan) (kit : Kit) (told : ℕ → Type 0) (old new : Sight) : Type 0 where
   pub scan : Scan
   pub phase : old.work.phase ≡ Scanning scan
@@ -331,6 +340,7 @@ pub data ComesBack (plan : FlusherPlan) (kit : Kit) (told : ℕ → Type 0) (sai
   is_last_back : (settled : Sight) → giving.returned ≡ length old.work.batch.items → Settled plan.cpu kit said true old.seats settled.seats old.log settled.log
       → settled.work ≡ old.work → EndsReturn plan kit told giving.inode settled new → ComesBack plan kit told said giving old new
 
+-- the next page of the batch was given back, or another thread changed its word between
 pub data ReturnsPage (plan : FlusherPlan) (kit : Kit) (told : ℕ → Type 0) (said : ℕ → ℕ → Bool → Type 0) (giving : Return) (old new : Sight) : Type 0 where
   misses_it : MissesReturn plan kit giving old new → ReturnsPage plan kit told said giving old new
   gives_it : (given : Sight) → GivesPage plan kit giving old given → ComesBack plan kit told said (record giving { returned = giving.returned + 1 }) given new
@@ -344,6 +354,7 @@ pub record Returns (plan : FlusherPlan) (kit : Kit) (told : ℕ → Type 0) (sai
 
 -- ---- any of these
 
+-- the turn of a flusher, by its phase
 pub data Took (plan : FlusherPlan) (kit : Kit) (drain : Bool) (told : ℕ → Type 0) (said : ℕ → ℕ → Bool → Type 0) (old new : Sight) : Type 0 where
   tests : Tests plan kit drain told old new → Took plan kit drain told said old new
   drains : Drains plan kit drain told old new → Took plan kit drain told said old new

@@ -1,5 +1,5 @@
 -- Where a flusher stands between two steps.
-use Rattle.std.specs.Prelude.{◌≡◌, ℕ, zero, suc, ◌+◌, ◌-◌, ◌^◌, min, ◌<◌, ◌≤◌, ◌⊎◌, Bool, true, false, List, [], All, length, get_or, set, ◌||◌}
+use Rattle.std.specs.Prelude.{◌≡◌, ℕ, zero, suc, ◌+◌, ◌-◌, ◌^◌, min, ◌<◌, ◌≤◌, ◌⊎◌, if◌then◌else◌, Bool, true, false, List, [], All, length, get_or, set, ◌||◌}
 use Rattle.wbt_flex.specs.declared.share.Fraction.{Fraction}
 use Rattle.wbt_book.specs.Ledger.{times_in}
 use Rattle.wbt_queue.specs.Passes as queue
@@ -19,6 +19,7 @@ use Rattle.wbt_flusher.specs.declared.work.Phase.{Phase}
 use Rattle.wbt_flusher.specs.declared.work.Phase.TheVariants.{Idle, Scanning, Flying, Returning, Failed}
 use Rattle.wbt_flusher.specs.declared.work.Return.{Return}
 use Rattle.wbt_rules.specs.Flusher.{IsWithinChunk}
+use Rattle.wbt_rules.specs.Places.{place_after}
 use Rattle.wbt_rules.specs.declared.moments.TheConstants.{MOST_FAULTS}
 use Rattle.wbt_rules.specs.declared.scan.Scan.{Scan}
 use Rattle.wbt_flusher.specs.declared.work.FlusherWork.{FlusherWork}
@@ -29,15 +30,17 @@ use Rattle.wbt_flusher.specs.declared.work.FlusherWork.{FlusherWork}
 abbrev pub AreOf : (plan : FlusherPlan) (inode : ℕ) (pages : List ℕ) → Type 0
 AreOf plan inode pages = All (λ page. ((inode_at plan inode).first ≤ page) × (page < end_of plan inode)) pages
 
--- A scan is at a page of an inode of the device, and the pages that it claimed are pages of the inode. They are no more than it may claim,
--- which is no more than the line of the device says.
+-- A scan goes round the pages of an inode of the device, and the pages that it claimed are pages of the inode. They are no more than it
+-- may claim, which is no more than the line of the device says.
 pub record IsScan (plan : FlusherPlan) (batch : List ℕ) (scan : Scan) : Type 0 where
   pub inode : IsInode plan scan.inode
-  pub from : (inode_at plan scan.inode).first ≤ scan.page
-  pub to : scan.page ≤ end_of plan scan.inode
+  pub first_is : scan.first ≡ (inode_at plan scan.inode).first
+  pub pages_are : scan.pages ≡ (inode_at plan scan.inode).pages
+  pub start : scan.start < scan.pages
+  pub to : scan.passed ≤ scan.pages
   pub pages : All (λ page. page < plan.pages) batch
   pub own : AreOf plan scan.inode batch
-  pub few : length batch ≤ scan.page
+  pub few : length batch ≤ scan.passed
   pub quota : length batch ≤ scan.quota
   pub chunk : IsWithinChunk plan.shares.chunk scan.quota
 
@@ -55,9 +58,10 @@ pub record IsReturn (plan : FlusherPlan) (batch : List ℕ) (giving : Return) : 
   pub own : AreOf plan giving.inode batch
   pub few : length batch ≤ plan.pages
 
+-- where a flusher stands between two turns: its batch and its scan fit the phase, and it hasn't failed
 abbrev pub IsPhase : (plan : FlusherPlan) (batch : List ℕ) (phase : Phase) → Type 0
 IsPhase plan batch (Idle until kept) = batch ≡ []
-IsPhase plan batch (Scanning scan) = IsScan plan batch scan × (scan.page < end_of plan scan.inode) × (length batch < scan.quota)
+IsPhase plan batch (Scanning scan) = IsScan plan batch scan × (scan.passed < scan.pages) × (length batch < scan.quota)
 IsPhase plan batch (Flying flight) = IsFlight plan batch flight
 IsPhase plan batch (Returning giving) = IsReturn plan batch giving
 IsPhase plan batch Failed = ⊥
@@ -71,8 +75,14 @@ IsWithinQuota other batch = Unit {0}
 abbrev pub IsProper : (fraction : Fraction) → Type 0
 IsProper fraction = (1 ≤ fraction.den) × (fraction.num ≤ fraction.den) × (fraction.den < 2 ^ 40)
 
+-- both fractions that are held for a context are parts of a whole
 abbrev pub AreProper : (tallies : Tallies) → Type 0
 AreProper tallies = IsProper tallies.global.held × IsProper tallies.group.held
+
+-- a place for each inode, at one of its pages
+pub record ArePlaces (plan : FlusherPlan) (places : List ℕ) : Type 0 where
+  pub many : length places ≡ length plan.inodes
+  pub below : (inode : ℕ) → inode < length plan.inodes → get_or places inode 0 < (inode_at plan inode).pages
 
 -- a list for each context and for each inode, and a wheel where the device is ageing
 pub record HasLists (plan : FlusherPlan) (work : FlusherWork) : Type 0 where
@@ -81,15 +91,45 @@ pub record HasLists (plan : FlusherPlan) (work : FlusherWork) : Type 0 where
   pub waiting : length work.waiting.items ≡ length plan.inodes
   pub none_wait : work.some_wait ≡ false → (inode : ℕ) → get_or work.waiting.items inode false ≡ false
   pub wheel : HasWheel plan work.wheel
+  pub places : ArePlaces plan work.places.items
 
+-- what a flusher keeps between two turns fits its plan
 pub record IsSteady (plan : FlusherPlan) (work : FlusherWork) : Type 0 where
   pub lists : HasLists plan work
   pub phase : IsPhase plan work.batch.items work.phase
   pub few_faults : work.faults < MOST_FAULTS
 
+-- the place of the inode at which its scan begins: that to which the last one came, where the device is cyclic
+abbrev pub start_of : (plan : FlusherPlan) (work : FlusherWork) (inode : ℕ) → ℕ
+start_of plan work inode = if plan.shares.cyclic then get_or work.places.items inode 0 else 0
+
 -- a scan of an inode at its begin
-abbrev pub begun_scan : (plan : FlusherPlan) (inode quota : ℕ) → Phase
-begun_scan plan inode quota = Scanning (record { inode = inode; page = (inode_at plan inode).first; quota = quota; noted = false })
+abbrev pub begun_scan : (plan : FlusherPlan) (work : FlusherWork) (inode quota : ℕ) → Phase
+begun_scan plan work inode quota = Scanning (record {
+  inode = inode;
+  first = (inode_at plan inode).first;
+  pages = (inode_at plan inode).pages;
+  start = start_of plan work inode;
+  passed = 0;
+  quota = quota;
+  noted = false;
+})
+
+-- the places where a scan closes: that of its inode is the one to which it has come, where the device is cyclic
+abbrev pub places_after : (plan : FlusherPlan) (scan : Scan) (places : List ℕ) → List ℕ
+places_after plan scan places = if plan.shares.cyclic then set places scan.inode (place_after scan.pages scan.start scan.passed) else places
+
+-- nothing but its places changed
+pub record KeepsPlace (plan : FlusherPlan) (scan : Scan) (old new : FlusherWork) : Type 0 where
+  pub phase : new.phase ≡ old.phase
+  pub batch : new.batch ≡ old.batch
+  pub faults : new.faults ≡ old.faults
+  pub hard : new.hard ≡ old.hard
+  pub waiting : new.waiting ≡ old.waiting
+  pub some_wait : new.some_wait ≡ old.some_wait
+  pub tallies : new.tallies ≡ old.tallies
+  pub wheel : new.wheel ≡ old.wheel
+  pub places : new.places.items ≡ places_after plan scan old.places.items
 
 -- ---- faults
 
@@ -108,14 +148,16 @@ pub record OnlyWaiting (plan : FlusherPlan) (old new : FlusherWork) : Type 0 whe
   pub tallies : new.tallies ≡ old.tallies
   pub wheel : new.wheel ≡ old.wheel
   pub waiting : length new.waiting.items ≡ length old.waiting.items
+  pub places : new.places ≡ old.places
 
--- the hard limit stays, which inodes wait, and how many batches the disk failed to write
+-- the hard limit stays, which inodes wait, the places of inodes, and how many batches the disk failed to write
 pub record KeepsRest (old new : FlusherWork) : Type 0 where
   pub faults : new.faults ≡ old.faults
   pub hard : new.hard ≡ old.hard
   pub waiting : new.waiting ≡ old.waiting
   pub some_wait : new.some_wait ≡ old.some_wait
   pub wheel : new.wheel ≡ old.wheel
+  pub places : new.places ≡ old.places
 
 -- the inode is put, and waits exactly where the device's queue was full
 pub record PutsInode (plan : FlusherPlan) (kit : Kit) (inode : ℕ) (old new : queue.Seats) (was is : FlusherWork) : Type 0 where
@@ -177,6 +219,7 @@ pub record OnlyTallies (old new : FlusherWork) : Type 0 where
   pub waiting : new.waiting ≡ old.waiting
   pub some_wait : new.some_wait ≡ old.some_wait
   pub wheel : new.wheel ≡ old.wheel
+  pub places : new.places ≡ old.places
 
 -- nothing but the notes, stakes and rooms of shares changed
 pub record OnlyShare (old new : Seats) : Type 0 where

@@ -11,7 +11,7 @@ ghost use Rattle.wbt_flusher.specs.Did.{Fits, KeepsDebts, IsStopped};
 ghost use Rattle.wbt_flusher.specs.Plans.{Suits, IsInode};
 ghost use Rattle.wbt_flusher.specs.Sights.{sight};
 ghost use Rattle.wbt_flusher.specs.Took.{Closes, EndsEmpty, IsMarkDue, Marks, MarksAgain};
-ghost use Rattle.wbt_flusher.specs.Turns.{FaultsRise, HasLists, IsBare, IsPaid, IsScan, OnlyWaiting, OwesInodeNothing};
+ghost use Rattle.wbt_flusher.specs.Turns.{FaultsRise, HasLists, IsBare, IsPaid, IsScan, KeepsPlace, OnlyWaiting, OwesInodeNothing};
 ghost use Rattle.wbt_flusher.specs.declared.work.Phase.TheVariants.{Idle, Scanning};
 ghost use Rattle.wbt_kit.specs.declared.kit.Kit.{Kit};
 ghost use Rattle.wbt_kit.specs.declared.kit.Seats.{Seats};
@@ -56,6 +56,7 @@ impl FlusherPlan {
         if !self.mark_again(work, hands, seats, scan) {
             return Turn::Halted;
         }
+        self.keep_place(work, &scan);
         if work.batch.as_slice().is_empty() {
             return self.close_empty(work, hands.clock, scan);
         }
@@ -63,6 +64,18 @@ impl FlusherPlan {
             Handed::Flies => Turn::Stepped,
             Handed::Returns => Turn::Stepped,
             Handed::Fails => Turn::Faulted,
+        }
+    }
+
+    // The next scan of the inode begins at the place to which this one has come, where the device is cyclic.
+    fn keep_place(&self, work: &mut FlusherWork, scan: &Scan)
+        requires lists { HasLists self.now work.old }
+        requires scan { IsScan self.now work.old.batch.items scan.now }
+        ensures keeps { KeepsPlace self.now scan.now work.old work.new }
+        ensures lists { HasLists self.now work.new }
+    {
+        if self.shares.cyclic {
+            work.places[scan.inode as usize] = scan.place();
         }
     }
 
@@ -110,7 +123,7 @@ impl FlusherPlan {
         ensures marks { IsTrue result → MarksAgain self.now hands.now.kit.now scan seats.old seats.new work.old work.new }
         ensures stays { IsFalse result → IsMarkDue self.now scan × (seats.new ≡ seats.old) × (work.new ≡ work.old) }
     {
-        if !scan.noted && scan.page >= self.end_of(scan.inode) {
+        if !scan.noted && scan.passed >= scan.pages {
             return true;
         }
         if !may_step(self.cpu, seats, hands.gate) {

@@ -13,9 +13,10 @@ ghost use Rattle.wbt_run_steps.specs.Kinds.{Steps};
 ghost use Rattle.wbt_flusher.specs.Answers.{GoesKept};
 ghost use Rattle.wbt_flusher.specs.Begins.{BeginsScan};
 ghost use Rattle.wbt_flusher.specs.Did.{Fits, KeepsDebts, IsStopped};
-ghost use Rattle.wbt_flusher.specs.Plans.{Suits, IsInode, context_of};
+ghost use Rattle.wbt_flusher.specs.Plans.{Suits, IsInode, IsPlan, context_of, inode_at};
 ghost use Rattle.wbt_run_steps.specs.Reads.{ReadsEstimate};
 ghost use Rattle.wbt_flusher.specs.Sights.{sight};
+ghost use Rattle.wbt_flusher.specs.Turns as spec;
 ghost use Rattle.wbt_flusher.specs.Turns.{HasLists, IsSteady, IsIdle, OnlyEst, begun_scan};
 
 use crate::plan::FlusherPlan;
@@ -72,7 +73,7 @@ impl FlusherPlan {
         ensures goes { GoesKept self.now kit.now seats.old seats.new work.old work.new }
         ensures debts { KeepsDebts self.now seats.old seats.new }
         ensures lists { HasLists self.now work.new }
-        ensures begun { work.new ≡ record work.old { phase = begun_scan self.now inode 0 } }
+        ensures begun { work.new ≡ record work.old { phase = begun_scan self.now work.old inode 0 } }
         ensures unmarks { (found : _) × Makes (setting kit.now.throttle.layout) (unmark self.now.cpu inode) found seats.old.cpu seats.new.cpu }
         ensures only { OnlyCpu seats.old seats.new }
     {
@@ -80,11 +81,29 @@ impl FlusherPlan {
         work.phase = Phase::Scanning {
             scan: Scan {
                 inode,
-                page: self.first_of(inode),
+                first: self.first_of(inode),
+                pages: self.pages_of(inode),
+                start: self.start_of(work, inode),
+                passed: 0,
                 quota: 0,
                 noted: false,
             },
         };
+    }
+
+    // The place of the inode at which its scan begins.
+    fn start_of(&self, work: &FlusherWork, inode: u32) -> u32
+        requires lists { HasLists self.now work.now }
+        requires plan { IsPlan self.now }
+        requires inode { IsInode self.now inode }
+        ensures value { result ≡ spec.start_of self.now work.now inode }
+        ensures below { result < (inode_at self.now inode).pages }
+    {
+        if self.shares.cyclic {
+            work.places[inode as usize]
+        } else {
+            0
+        }
     }
 
     // The scan gets its quota: half a second of what the device writes on average, or as few pages as its line says.
@@ -99,14 +118,14 @@ impl FlusherPlan {
         requires fits { Fits self.now hands.now.kit.now seats.old }
         requires lists { HasLists self.now work.old }
         requires empty { work.old.batch.items ≡ [] }
-        requires begun { work.old.phase ≡ begun_scan self.now inode 0 }
+        requires begun { work.old.phase ≡ begun_scan self.now work.old inode 0 }
         requires inode { IsInode self.now inode }
         requires few_faults { work.old.faults < MOST_FAULTS }
         ensures goes { GoesKept self.now hands.now.kit.now seats.old seats.new work.old work.new }
         ensures fits { Fits self.now hands.now.kit.now seats.new }
         ensures only_est { OnlyEst seats.old seats.new }
         ensures steady { IsSteady self.now work.new }
-        ensures quota { (newest : _) × ReadsEstimate hands.now.kit.now.published.firsts (context_of self.now inode) newest seats.old.est seats.new.est × (work.new ≡ record work.old { phase = begun_scan self.now inode (quota_value self.now.shares newest.avg work.old.hard) }) }
+        ensures quota { (newest : _) × ReadsEstimate hands.now.kit.now.published.firsts (context_of self.now inode) newest seats.old.est seats.new.est × (work.new ≡ record work.old { phase = begun_scan self.now work.old inode (quota_value self.now.shares newest.avg work.old.hard) }) }
     {
         let context = self.context_of(inode);
         let avg = hands
@@ -117,7 +136,10 @@ impl FlusherPlan {
         work.phase = Phase::Scanning {
             scan: Scan {
                 inode,
-                page: self.first_of(inode),
+                first: self.first_of(inode),
+                pages: self.pages_of(inode),
+                start: self.start_of(work, inode),
+                passed: 0,
                 quota: quota_of(&self.shares, avg, work.hard),
                 noted: false,
             },

@@ -79,6 +79,7 @@ pub fn first_work(
     first: &Limits,
     now: u64,
 ) -> Result<FlusherWork, NoMemory>
+    requires plan { IsPlan plan.now }
     requires moment { now < 2 ^ 62 }
     requires few { length plan.now.inodes < 2 ^ 32 }
     ensures steady { IfOk result (IsSteady plan.now) }
@@ -89,6 +90,7 @@ pub fn first_work(
     ensures wheel { IfOk result (λ work. work.wheel ≡ first_wheel plan.now now) }
 {
     let waiting = vec![in alloc; false; plan.inodes.as_slice().len()]?;
+    let places = vec![in alloc; 0; plan.inodes.as_slice().len()]?;
     let tallies = vec![in alloc; FIRST_TALLIES; plan.contexts.as_slice().len()]?;
     let wheel = make_wheel(alloc, plan, now)?;
     Ok(FlusherWork {
@@ -100,6 +102,7 @@ pub fn first_work(
         faults: 0,
         hard: first.hard,
         waiting,
+        places,
         some_wait: false,
         tallies,
         wheel,

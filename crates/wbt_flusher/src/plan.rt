@@ -30,7 +30,8 @@ pub struct FlusherPlan {
     pub inodes: Items<Inode>,
     /// The contexts of all devices.
     pub contexts: Items<Context>,
-    /// What the trace says of its device: its rate and shares, whether it is strict, and with how many pages a scan ends.
+    /// What the trace says of its device: its rate and shares, whether it is strict, with how many pages a scan ends, and whether it goes
+    /// on where the last one ended.
     pub shares: Device,
     /// The least shares of all devices together, in percent.
     pub least_shares: u32,
@@ -66,14 +67,12 @@ impl FlusherPlan {
         self.inodes.as_slice()[inode as usize].first
     }
 
-    /// The page after the last one of an inode that there is.
-    pub fn end_of(&self, inode: u32) -> u32
-        requires plan { IsPlan self.now }
+    /// How many pages an inode has that there is.
+    pub fn pages_of(&self, inode: u32) -> u32
         requires there { inode < length self.now.inodes }
-        ensures { result ≡ spec.end_of self.now inode }
+        ensures { result ≡ (spec.inode_at self.now inode).pages }
     {
-        let inode = self.inodes.as_slice()[inode as usize];
-        inode.first + inode.pages
+        self.inodes.as_slice()[inode as usize].pages
     }
 
     /// The moment at which an inode is due that is noticed at one, in ticks.

@@ -10,7 +10,7 @@ ghost use Rattle.wbt_flusher.specs.Cut.{ScanFails, ScansSome};
 ghost use Rattle.wbt_flusher.specs.Did.{Fits, KeepsDebts};
 ghost use Rattle.wbt_flusher.specs.Kinds.{StepsToLook};
 ghost use Rattle.wbt_flusher.specs.Looks.{Looks};
-ghost use Rattle.wbt_flusher.specs.Plans.{Suits, IsPlan, end_of};
+ghost use Rattle.wbt_flusher.specs.Plans.{Suits};
 ghost use Rattle.wbt_flusher.specs.Sights.{sight};
 ghost use Rattle.wbt_flusher.specs.Took.{IsScanOver, LooksAt, ScansPage};
 ghost use Rattle.wbt_flusher.specs.Turns.{FaultsRise, HasLists, IsScan};
@@ -96,7 +96,7 @@ impl FlusherPlan {
         requires lists { HasLists self.now work.old }
         requires phase { work.old.phase ≡ Scanning scan }
         requires scan { IsScan self.now work.old.batch.items scan }
-        requires before { scan.page < end_of self.now scan.inode }
+        requires before { scan.passed < scan.pages }
         requires below { length work.old.batch.items < scan.quota }
         requires room { 1 ≤ pen.old.room }
         requires spare { vec_len work.old.batch < vec_capacity work.old.batch }
@@ -110,27 +110,28 @@ impl FlusherPlan {
         ensures looks { Looks self.now (G.said hands.now.gate.now) scan result seats.new work.old work.new }
         ensures room { pen.old.room ≤ pen.new.room + 1 }
     {
+        let page = scan.page();
         match hands
             .kit
             .throttle
-            .claim(&mut seats.cpu, self.cpu, scan.page, hands.gate)
+            .claim(&mut seats.cpu, self.cpu, page, hands.gate)
         {
             Claim::Mine => {
                 let next = Scan {
-                    page: scan.page + 1,
+                    passed: scan.passed + 1,
                     ..scan
                 };
-                work.batch.push_reserved(scan.page);
+                work.batch.push_reserved(page);
                 work.phase = Phase::Scanning { scan: next };
                 pen.tell(Entry::Claimed {
                     flusher: self.flusher,
-                    page: scan.page,
+                    page,
                 });
                 Looked::Passed { scan: next }
             }
             Claim::NotDirty { word } => {
                 let next = Scan {
-                    page: scan.page + 1,
+                    passed: scan.passed + 1,
                     noted: noted_after(scan.noted, word),
                     ..scan
                 };
@@ -142,13 +143,11 @@ impl FlusherPlan {
         }
     }
 
-    // Whether a scan is over: its inode's last page was passed, or the batch has the quota.
+    // Whether a scan is over: all pages of its inode were passed, or the batch has the quota.
     fn is_over(&self, work: &FlusherWork, scan: &Scan) -> bool
-        requires plan { IsPlan self.now }
-        requires there { scan.now.inode < length self.now.inodes }
         ensures { IsTrue result ↔ IsScanOver self.now scan.now work.now }
     {
-        scan.page >= self.end_of(scan.inode) || work.batch.as_slice().len() as u64 >= scan.quota
+        scan.passed >= scan.pages || work.batch.as_slice().len() as u64 >= scan.quota
     }
 }
 

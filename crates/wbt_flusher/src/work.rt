@@ -58,4 +58,6 @@ pub struct FlusherWork {
     /// The inodes that it noticed and that wait to be written, by the moment at which each is due. None where its device's inodes
     /// aren't written for their age.
     pub wheel: Option<Wheel>,
+    /// By inode: the place at which its next scan begins, where the device is cyclic.
+    pub places: Vec<u32>,
 }

@@ -4,6 +4,7 @@
 //! failing  a disk that fails: the batch is given back, and the eighth write that fails ends the turn
 //! ages     a flusher of an ageing device: what it notices, and when it writes that
 //! chunks   a flusher whose device has a chunk: two flights for two pages
+//! places   one of a cyclic device: its second scan begins at the second page
 //! weighed  a context of a strict device is written by its own background, one of another by its domain's
 //! ```
 #![tactic(auto)]
@@ -14,5 +15,7 @@ mod ages;
 mod chunks;
 #[cfg(test)]
 mod failing;
+#[cfg(test)]
+mod places;
 #[cfg(test)]
 mod weighed;

@@ -47,10 +47,12 @@ abbrev pub domain_read : (trace : Trace) (context : ℕ) (read : DomainLine) →
 domain_read trace context read =
     part_read (device_at trace (context_at trace context).device) (least_shares trace.devices) read.limits read.share (at_least_zero read.count.value)
 
+-- the reading of a context's cgroup, if its check has one
 abbrev pub cgroup_read : (trace : Trace) (context : ℕ) (which : Option DomainLine) → Option DomainRead
 cgroup_read trace context None = None
 cgroup_read trace context (Some read) = Some (domain_read trace context read)
 
+-- all that a check reads: its domains, its context's count of pages, and the trace's CPUs and cap
 abbrev pub reads_by : (trace : Trace) (check : CheckEntry) → Reads
 reads_by trace check = record {
   global = domain_read trace check.context check.global;
@@ -72,9 +74,11 @@ nth_estimate version [] = None
 nth_estimate zero (estimate ∷ more) = Some estimate
 nth_estimate (suc version) (estimate ∷ more) = nth_estimate version more
 
+-- the estimate that a check names: version 0 is the context's first, at the opening
 abbrev pub named_estimate : (trace : Trace) (opened : ℕ) (all : List Told) (check : CheckEntry) → Option Estimate
 named_estimate trace opened all check = nth_estimate check.estimate (first_estimate trace check.context opened ∷ estimates_of check.context all)
 
+-- what the CPU counts for the writer whose check it is
 abbrev pub task_numbers : (trace : Trace) (s : Side) (check : CheckEntry) → Task
 task_numbers trace s check = (writer_of s.cpu (number_of trace check.task check.context)).task
 
@@ -91,9 +95,11 @@ pub record IsPart (share : Fraction) : Type 0 where
   pub within : share.num ≤ share.den
   pub few : share.den < 2 ^ 41
 
+-- decides whether a fraction is at most one, of 1 to fewer than 2 ^ 41 events
 abbrev pub is_part : (share : Fraction) → Bool
 is_part share = nat_le 1 share.den && (nat_le share.num share.den && nat_lt share.den (2 ^ 41))
 
+-- decides whether background threshold, threshold and hard limit ascend, up to the greatest limit
 abbrev pub are_lawful : (limits : Limits) → Bool
 are_lawful limits = nat_le limits.bg limits.thresh && (nat_le limits.thresh limits.hard && nat_le limits.hard MAX_LIMIT)
 
@@ -102,6 +108,7 @@ pub record IsRead (read : DomainLine) : Type 0 where
   pub limits : AreLawful read.limits
   pub share : IsPart read.share
 
+-- decides whether a reading of a domain has lawful limits and a lawful part of them
 abbrev pub is_read : (read : DomainLine) → Bool
 is_read read = are_lawful read.limits && is_part read.share
 
@@ -110,10 +117,12 @@ pub record IsRate (estimate : Estimate) : Type 0 where
   pub usable : IsUsable estimate
   pub ratelimit : estimate.ratelimit < 2 ^ 44
 
+-- decides whether an estimate's rates are at least 1 and below 2 ^ 44 pages a second
 abbrev pub is_rate : (estimate : Estimate) → Bool
 is_rate estimate =
     nat_le 1 estimate.avg && (nat_lt estimate.avg (2 ^ 44) && (nat_le 1 estimate.ratelimit && nat_lt estimate.ratelimit (2 ^ 44)))
 
+-- decides whether a task's counts of dirtied pages are below 2 ^ 52
 abbrev pub is_counted : (task : Task) → Bool
 is_counted task = nat_lt task.nr_dirtied (2 ^ 52) && nat_lt task.nr_dirtied_pause (2 ^ 52)
 
@@ -127,6 +136,7 @@ pub record IsInRange (check : CheckEntry) (estimate : Estimate) (task : Task) : 
   pub counted : IsCounted task
   pub moment : check.now < 2 ^ 62
 
+-- decides whether a check's numbers are in the ranges of the control law
 abbrev pub is_in_range : (check : CheckEntry) (estimate : Estimate) (task : Task) → Bool
 is_in_range check estimate task =
     is_read check.global && (of_part true is_read check.cgroup && (nat_lt (at_least_zero check.count.value) (2 ^ 33)
@@ -142,6 +152,7 @@ abbrev pub DecidesBy : (trace : Trace) (s : Side) (check : CheckEntry) (which : 
 DecidesBy trace s check None = ⊥
 DecidesBy trace s check (Some estimate) = DecidesAs trace check estimate (task_numbers trace s check)
 
+-- whether two kinds of decisions are equal
 abbrev pub same_kind : (a b : Kind) → Bool
 same_kind kind.Free kind.Free = true
 same_kind kind.Go kind.Go = true
@@ -149,36 +160,44 @@ same_kind kind.Exempt kind.Exempt = true
 same_kind kind.Wait kind.Wait = true
 same_kind a b = false
 
+-- whether two marks are equal
 abbrev pub same_bool : (test b : Bool) → Bool
 same_bool true b = b
 same_bool false b = not b
 
+-- whether two tasks have equal counts
 abbrev pub same_task : (a b : Task) → Bool
 same_task a b = a.nr_dirtied == b.nr_dirtied && (a.nr_dirtied_pause == b.nr_dirtied_pause && a.paused_when == b.paused_when)
 
+-- whether two decisions are equal in each part
 abbrev pub same_decision : (a b : Decision) → Bool
 same_decision a b =
     same_kind a.kind b.kind && (a.pause == b.pause && (a.left == b.left && (same_task a.task b.task && same_bool a.exceeded b.exceeded)))
 
+-- decides whether a check decides on numbers in range, as the law asks, by the estimate that it names
 abbrev pub decides_by : (trace : Trace) (s : Side) (check : CheckEntry) (which : Option Estimate) → Bool
 decides_by trace s check None = false
 decides_by trace s check (Some estimate) = is_in_range check estimate (task_numbers trace s check) && same_decision check.decision (asked_by trace s check estimate)
 
+-- a check of the CPU's own task decides as the law asks of what it read; one of another CPU's task isn't judged
 abbrev pub Decides : (trace : Trace) (opened : ℕ) (all : List Told) (s : Side) (item : Item) → Type 0
 Decides trace opened all s (begins cpu) = Unit {0}
 Decides trace opened all s (tells cpu entry) =
     IfSome (effect entry).check (λ (check : CheckEntry). is_own_task trace cpu check.task ≡ true → DecidesBy trace s check (named_estimate trace opened all check))
 
+-- the fault of a check that doesn't decide as the law asks, on its decision's line
 abbrev pub asked_fault : (trace : Trace) (opened : ℕ) (all : List Told) (s : Side) (cpu : ℕ) (check : CheckEntry) → Option ℕ
 asked_fault trace opened all s cpu check =
     unless (not (is_own_task trace cpu check.task) || decides_by trace s check (named_estimate trace opened all check)) (decision_at check)
 
+-- the fault of an item whose check doesn't decide as the law asks
 abbrev pub decision_fault : (trace : Trace) (opened : ℕ) (all : List Told) (s : Side) (item : Item) → Option ℕ
 decision_fault trace opened all s (begins cpu) = None
 decision_fault trace opened all s (tells cpu entry) = of_part None (asked_fault trace opened all s cpu) (effect entry).check
 
 -- ---- where it stands
 
+-- the cgroup that a check read, if it read one
 abbrev pub domains_read : (which : Option DomainLine) → List ℕ
 domains_read None = []
 domains_read (Some read) = read.domain ∷ []
@@ -187,15 +206,18 @@ domains_read (Some read) = read.domain ∷ []
 abbrev pub domains_asked : (trace : Trace) (context : ℕ) → List ℕ
 domains_asked trace context = if context_domain trace context == 0 then [] else context_domain trace context ∷ []
 
+-- whether two lists of numbers are equal
 abbrev pub same_numbers : (ms ns : List ℕ) → Bool
 same_numbers [] [] = true
 same_numbers (m ∷ ms) (n ∷ ns) = m == n && same_numbers ms ns
 same_numbers ms ns = false
 
+-- whether a check is due
 abbrev pub is_due : (due : Due) → Bool
 is_due due.Check = true
 is_due due.No = false
 
+-- whether a task's writer of a context has a check that is due
 abbrev pub due_of : (trace : Trace) (s : Side) (task context : ℕ) → Due
 due_of trace s task context = (writer_of s.cpu (number_of trace task context)).due
 
@@ -205,6 +227,7 @@ pub record MayCheck (trace : Trace) (s : Side) (check : CheckEntry) : Type 0 whe
   pub global : check.global.domain ≡ 0
   pub cgroup : domains_read check.cgroup ≡ domains_asked trace check.context
 
+-- decides whether a check is due and reads the domains of its context
 abbrev pub may_check : (trace : Trace) (s : Side) (check : CheckEntry) → Bool
 may_check trace s check =
     is_due (due_of trace s check.task check.context) && (check.global.domain == 0
@@ -221,6 +244,7 @@ pub record MayEnd (trace : Trace) (s : Side) (task : ℕ) : Type 0 where
   pub quiet : IsQuiet trace s task
   pub not_ended : (task_of s task).has_ended ≡ false
 
+-- whether a page has a context: then the trace has the page
 abbrev pub has_page : (which : Option ℕ) → Bool
 has_page None = false
 has_page (Some context) = true
@@ -234,10 +258,12 @@ pub record StandsTold (trace : Trace) (s : Side) (cpu : ℕ) (did : Effect) : Ty
   pub write : IfSome did.write (λ (write : Write). is_judged trace cpu write.task write.page ≡ true → IsQuiet trace s write.task)
   pub check : IfSome did.check (λ (check : CheckEntry). is_own_task trace cpu check.task ≡ true → MayCheck trace s check)
 
+-- an item's write and check stand where they may
 abbrev pub StandsItem : (trace : Trace) (s : Side) (item : Item) → Type 0
 StandsItem trace s (begins cpu) = Unit {0}
 StandsItem trace s (tells cpu entry) = StandsTold trace s cpu (effect entry)
 
+-- an event stands where it may: an item's write and check, or the end of a task that rests last
 abbrev pub Stands : (trace : Trace) (s : Side) (event : Event) → Type 0
 Stands trace s (item i) = StandsItem trace s i
 Stands trace s (ends task) = MayEnd trace s task
@@ -250,6 +276,7 @@ due_fault trace s cpu write = unless (not (is_judged trace cpu write.task write.
 abbrev pub undue_fault : (trace : Trace) (s : Side) (cpu : ℕ) (check : CheckEntry) → Option ℕ
 undue_fault trace s cpu check = unless (not (is_own_task trace cpu check.task) || may_check trace s check) (decision_at check)
 
+-- the fault of an item whose write or check stands where it may not
 abbrev pub stands_fault : (trace : Trace) (s : Side) (item : Item) → Option ℕ
 stands_fault trace s (begins cpu) = None
 stands_fault trace s (tells cpu entry) =
@@ -260,9 +287,11 @@ abbrev pub NoneDue : (ending : Ending) (s : Side) → Type 0
 NoneDue ending.Done s = Each (λ (writer : Writer). writer.due ≡ due.No) s.cpu.writers
 NoneDue other s = Unit {0}
 
+-- whether a writer has no check that is due
 abbrev pub is_writer_quiet : (writer : Writer) → Bool
 is_writer_quiet writer = is_not_due writer.due
 
+-- decides whether no check is still due at the end of a part that wasn't cut off
 abbrev pub none_due : (ending : Ending) (s : Side) → Bool
 none_due ending.Done s = list_all is_writer_quiet s.cpu.writers
 none_due other s = true
@@ -273,6 +302,7 @@ none_due other s = true
 abbrev pub with_mark : (trace : Trace) (check : CheckEntry) → CheckEntry
 with_mark trace check = marked_as (mark_of trace check) check
 
+-- a CPU's part, each of its checks with the mark that its lines call for
 abbrev pub part_with_marks : (trace : Trace) (part : CpuJournal) → CpuJournal
 part_with_marks trace part = record { entries = part.entries; checks = map (with_mark trace) part.checks; estimates = part.estimates }
 

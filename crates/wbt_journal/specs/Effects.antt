@@ -26,6 +26,7 @@ pub data Move : Type 0 where
   -- it gave a page back, which was absorbed or is dirty again
   gives_back : (page : ℕ) (absorbed : Bool) → Move
 
+-- a move of a flusher, by the flusher's number
 pub record Flight : Type 0 where
   pub flusher : ℕ
   pub move : Move
@@ -39,6 +40,7 @@ pub data WaitMove : Type 0 where
   -- it took an inode, due or not
   takes_first : (inode : ℕ) → WaitMove
 
+-- a move of a flusher's waiting list, by the flusher's number
 pub record Wait : Type 0 where
   pub flusher : ℕ
   pub move : WaitMove
@@ -49,6 +51,7 @@ pub record Share : Type 0 where
   pub context : ℕ
   pub n : ℕ
 
+-- the parts of what an entry does, each of which may be absent
 pub record Effect : Type 0 where
   pub write : Option Write
   pub fold : Option Fold
@@ -58,15 +61,19 @@ pub record Effect : Type 0 where
   pub estimate : Option EstEntry
   pub wait : Option Wait
 
+-- none of these parts
 abbrev pub no_effect : Effect
 no_effect = record { write = None; fold = None; check = None; flight = None; share = None; estimate = None; wait = None }
 
+-- a flusher's move, and no other part
 abbrev pub of_flight : (flusher : ℕ) (move : Move) → Effect
 of_flight flusher move = record no_effect { flight = Some (record { flusher = flusher; move = move }) }
 
+-- a move of a flusher's waiting list, and no other part
 abbrev pub of_wait : (flusher : ℕ) (move : WaitMove) → Effect
 of_wait flusher move = record no_effect { wait = Some (record { flusher = flusher; move = move }) }
 
+-- what each kind of entry does
 abbrev pub effect : (entry : Told) → Effect
 effect (wrote task page fresh) = record no_effect { write = Some (record { task = task; page = page; fresh = fresh }) }
 effect (folded fold) = record no_effect { fold = Some fold }
@@ -84,12 +91,14 @@ effect (took flusher inode) = of_wait flusher (takes_first inode)
 
 -- ---- events of pages
 
+-- the page event of a flusher's move; a batch and a fault have none
 abbrev pub event_of_move : (move : Move) → Option Event
 event_of_move (takes page) = Some (Claim page)
 event_of_move (lands page) = Some (Complete page)
 event_of_move (gives_back page absorbed) = Some (if absorbed then Absorb page else Redirty page)
 event_of_move other = None
 
+-- the page event of a flusher's move, where there is one
 abbrev pub event_of_flight : (flight : Option Flight) → Option Event
 event_of_flight None = None
 event_of_flight (Some flight) = event_of_move flight.move
@@ -103,6 +112,7 @@ event_by (Some write) flight = if write.fresh then Some (Dirty write.page) else 
 abbrev pub event_of : (entry : Told) → Option Event
 event_of entry = event_by (effect entry).write (effect entry).flight
 
+-- the page that a write found dirty, where there is a write and it did
 abbrev pub found_by : (write : Option Write) → Option ℕ
 found_by None = None
 found_by (Some write) = if write.fresh then None else Some write.page
@@ -111,6 +121,7 @@ found_by (Some write) = if write.fresh then None else Some write.page
 abbrev pub found_of : (entry : Told) → Option ℕ
 found_of entry = found_by (effect entry).write
 
+-- whether a page event completes a page
 abbrev pub is_completion : (event : Option Event) → Bool
 is_completion None = false
 is_completion (Some (Complete page)) = true
@@ -137,6 +148,7 @@ handed_by other = 0
 
 -- ---- parts that may be there
 
+-- a list of the part where it is there, and an empty one where it isn't
 abbrev pub listed : {A : Type 0} (part : Option A) → List A
 listed None = []
 listed (Some x) = x ∷ []

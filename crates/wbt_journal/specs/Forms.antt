@@ -6,6 +6,7 @@ use Rattle.wbt_journal.specs.declared.field.Field.{Field}
 use Rattle.wbt_journal.specs.declared.field.Field.TheVariants.{Name, Int, Domain, Context}
 use Rattle.wbt_journal.specs.Line.{Line}
 
+-- what a field of a line holds, with the range of its number
 pub data Form : Type 0 where
   -- a number of 32 bits
   small : Form
@@ -29,6 +30,7 @@ IsOf counter (Context context) = context < 2 ^ 32
 IsOf name (Name word) = Unit {0}
 IsOf form field = ⊥
 
+-- the fields have the forms, one by one, and are as many
 abbrev pub AreOf : (forms : List Form) (fields : List Field) → Type 0
 AreOf [] [] = Unit {0}
 AreOf (form ∷ forms) (field ∷ fields) = IsOf form field × AreOf forms fields

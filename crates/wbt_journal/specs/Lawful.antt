@@ -26,6 +26,7 @@ EachPart P cpu (part ∷ parts) = P cpu part × EachPart P (cpu + 1) parts
 
 -- ---- checks
 
+-- the item of an event; none at the end of a task
 abbrev pub item_of_event : (event : Event) → List Item
 item_of_event (item i) = i ∷ []
 item_of_event (ends task) = []
@@ -34,6 +35,7 @@ item_of_event (ends task) = []
 abbrev pub items_among : (events : List Event) → List Item
 items_among events = flat_map item_of_event events
 
+-- an event's check decides as the law asks
 abbrev pub DecidesEvent : (trace : Trace) (opened : ℕ) (all : List Told) (s : Side) (event : Event) → Type 0
 DecidesEvent trace opened all s (item i) = Decides trace opened all s i
 DecidesEvent trace opened all s (ends task) = Unit {0}
@@ -118,6 +120,7 @@ WaitsAreInOrder trace j = Along (Waits trace) (lists_after trace) (first_lists t
 abbrev pub WritesAreInOrder : (trace : Trace) (j : Journal) → Type 0
 WritesAreInOrder trace j = Along (PagesAreNext trace) writes_after [] (items_of j)
 
+-- each page that is left is one of the trace
 abbrev pub LeftPagesAreThere : (trace : Trace) (j : Journal) → Type 0
 LeftPagesAreThere trace j = Each (λ left. is_page trace left ≡ true) j.left
 
@@ -137,6 +140,7 @@ WaitsAreOwn trace j = Each (WaitsOnOwn trace) (items_of j)
 abbrev pub LeftIsBounded : (trace : Trace) (j : Journal) → Type 0
 LeftIsBounded trace j = IsBounded trace j.timer j.left (domains trace)
 
+-- the journal ends as its entries and what is left allow
 abbrev pub EndingIsRight : (trace : Trace) (j : Journal) → Type 0
 EndingIsRight trace j = EndsBy trace (parts_of j) (all_told j) j.left j.ending
 
@@ -152,6 +156,7 @@ DirtiedWereCompleted trace j = (page : ℕ) → page < pages trace → WasComple
 
 -- ---- all points
 
+-- the points that hold of the journal of every run, also of an ordered one
 pub record IsLegal (trace : Trace) (j : Journal) : Type 0 where
   pub names : NamesAreInOrder j
   pub folds : FoldsAreUp trace j
@@ -169,6 +174,7 @@ pub record IsLegal (trace : Trace) (j : Journal) : Type 0 where
   pub opened : TimerHasOpened trace j
   pub waits : WaitsAreInOrder trace j
 
+-- the points of a journal of a run: it is legal, it has a part for each CPU, and its pages, flushers, bound and ending are right
 pub record IsLawful (trace : Trace) (j : Journal) : Type 0 where
   pub legal : IsLegal trace j
   -- a part for each CPU

@@ -34,9 +34,11 @@ abbrev pub DecisionsAreAsked : (trace : Trace) (j : Journal) → Type 0
 DecisionsAreAsked trace j =
     Along (Decides trace (opened_at j.timer) (all_told j)) (side_after_item trace (opened_at j.timer)) (first_side trace) (items_of j)
 
+-- each write and check stands where it may, in that same walk
 abbrev pub ChecksStand : (trace : Trace) (j : Journal) → Type 0
 ChecksStand trace j = Along (StandsItem trace) (side_after_item trace (opened_at j.timer)) (first_side trace) (items_of j)
 
+-- the first fault of each point is none exactly where the point holds
 pub record EachFaultIsRight (trace : Trace) (j : Journal) : Type 0 where
   pub folds : Tells (folds_fault trace j) ((length j.cpus ≡ trace.cpus) × FoldsAreUp trace j)
   pub counts : Tells (counts_fault trace j) (CountsSumFolds trace j × CountsStayFresh j)
@@ -53,6 +55,7 @@ pub record EachFaultIsRight (trace : Trace) (j : Journal) : Type 0 where
   pub bounded : Tells (bound_fault trace j) (LeftIsBounded trace j)
   pub ending : Tells (ending_fault trace j) (EndingIsRight trace j)
 
+-- so it is for every trace and journal
 abbrev pub FaultsAreRight : Type 0
 FaultsAreRight = (trace : Trace) (j : Journal) → EachFaultIsRight trace j
 
@@ -66,14 +69,17 @@ FaultlessIsLawful = (trace : Trace) (j : Journal) → NamesAreInOrder j → verd
 abbrev pub HasCpuAlone : (trace : Trace) (task : ℕ) → Type 0
 HasCpuAlone trace task = (cpu other : ℕ) → is_own_task trace cpu task ≡ true → is_own_task trace cpu other ≡ true → other ≡ task
 
+-- each task whose last action is a rest has its CPU alone
 abbrev pub RestersAreAlone : (trace : Trace) → Type 0
 RestersAreAlone trace = (task : ℕ) → rests_last trace task ≡ true → HasCpuAlone trace task
 
+-- a lawful journal has no fault where each task that rests last has its CPU alone
 abbrev pub LawfulIsFaultless : Type 0
 LawfulIsFaultless = (trace : Trace) (j : Journal) → RestersAreAlone trace → IsLawful trace j → verdict_of trace j ≡ lawful
 
 -- ---- what is known of all CPUs' folds together
 
+-- a fold of a counter of the trace that moves just a batch
 pub record IsFullFold (trace : Trace) (fold : Fold) : Type 0 where
   pub named : has_counter trace fold.counter ≡ true
   pub full : unsigned_abs fold.delta ≡ batch_of trace fold.counter

@@ -6,10 +6,12 @@ use Rattle.wbt_journal.specs.declared.field.Field.{Field}
 use Rattle.wbt_journal.specs.declared.field.Field.TheVariants.{Name, Int, Domain, Context}
 use Rattle.wbt_journal.specs.Word.{word_text}
 
+-- a line of a journal
 pub record Line : Type 0 where
   pub word : Word
   pub fields : List Field
 
+-- a line of a word and its fields
 abbrev pub line : (word : Word) (fields : List Field) → Line
 line word fields = record { word = word; fields = fields }
 
@@ -24,11 +26,14 @@ field_text (Int number) = signed_decimal number
 field_text (Domain domain) = 100 ∷ decimal domain
 field_text (Context context) = 99 ∷ decimal context
 
+-- the text of fields, a space before each
 abbrev pub fields_text : (fields : List Field) → List ℕ
 fields_text fields = flat_map (λ field. 32 ∷ field_text field) fields
 
+-- the text of a line with its line feed
 abbrev pub line_text : (l : Line) → List ℕ
 line_text l = word_text l.word ++ (fields_text l.fields ++ 10 ∷ [])
 
+-- the text of lines, one after another
 abbrev pub lines_text : (lines : List Line) → List ℕ
 lines_text lines = flat_map line_text lines

@@ -22,14 +22,17 @@ use Rattle.wbt_journal.specs.Told.{Told, wrote, folded, checked, claimed, batch,
 
 -- ---- fields
 
+-- the field that names a counter
 abbrev pub counter_field : (counter : Counter) → Field
 counter_field (counter.Domain domain) = Domain domain
 counter_field (counter.Context context) = Context context
 
+-- the word of a write: whether its page was clean before
 abbrev pub fresh_field : (fresh : Bool) → Field
 fresh_field true = Name word.Fresh
 fresh_field false = Name word.Already
 
+-- the word of a decision's kind
 abbrev pub kind_field : (kind : Kind) → Field
 kind_field kind.Free = Name word.Free
 kind_field kind.Go = Name word.Go
@@ -45,6 +48,7 @@ back_field false = Name word.Dirty
 abbrev pub bits_field : (word : ℕ) → Field
 bits_field bits = if bits == 1 then Name word.Dirty else (if bits == 2 then Name word.Writeback else Name word.Both)
 
+-- the word of an ending
 abbrev pub ending_field : (ending : Ending) → Field
 ending_field ending.Done = Name word.Done
 ending_field ending.Halted = Name word.Halted
@@ -53,6 +57,7 @@ ending_field ending.Faulted = Name word.Faulted
 
 -- ---- the timer
 
+-- the line of a timer's entry
 abbrev pub timer_line : (entry : TimerEntry) → Line
 timer_line (timer.Limits domain now limits) = line word.Limits (num domain ∷ num now ∷ num limits.thresh ∷ num limits.bg ∷ num limits.hard ∷ [])
 timer_line (timer.Period domain k) = line word.Period (num domain ∷ num k ∷ [])
@@ -64,10 +69,12 @@ abbrev pub read_line : (read : DomainLine) → Line
 read_line read = line word.Read (num read.domain ∷ num read.triple ∷ num read.limits.thresh ∷ num read.limits.bg ∷ num read.limits.hard
     ∷ num read.count.version ∷ Int read.count.value ∷ num read.share.period ∷ num read.share.num ∷ num read.share.den ∷ [])
 
+-- the line of what a check read of its cgroup, if it has one
 abbrev pub cgroup_lines : (which : Option DomainLine) → List Line
 cgroup_lines None = []
 cgroup_lines (Some read) = read_line read ∷ []
 
+-- the line of a context's count as a check loaded it
 abbrev pub count_line : (check : CheckEntry) → Line
 count_line check = line word.Count (num check.context ∷ num check.count.version ∷ Int check.count.value ∷ [])
 
@@ -77,13 +84,16 @@ decision_line check = line word.Check (num check.task ∷ num check.context ∷ 
     ∷ kind_field check.decision.kind ∷ num check.decision.pause ∷ num check.decision.left
     ∷ num check.decision.task.nr_dirtied ∷ num check.decision.task.nr_dirtied_pause ∷ num check.decision.task.paused_when ∷ [])
 
+-- the lines of a check: what it read of its domains, its context's count, and its decision
 abbrev pub check_lines : (check : CheckEntry) → List Line
 check_lines check = read_line check.global ∷ cgroup_lines check.cgroup ++ count_line check ∷ decision_line check ∷ []
 
+-- the line of an estimate
 abbrev pub est_line : (est : EstEntry) → Line
 est_line est = line word.Est (num est.context ∷ num est.estimate.version ∷ num est.estimate.bw ∷ num est.estimate.avg
     ∷ num est.estimate.ratelimit ∷ num est.estimate.balanced ∷ num est.estimate.written_stamp ∷ num est.estimate.dirtied_stamp ∷ num est.estimate.at ∷ [])
 
+-- the lines of an entry: those of a check are several, any other has one
 abbrev pub told_lines : (told : Told) → List Line
 told_lines (wrote task page fresh) = line word.Write (num task ∷ num page ∷ fresh_field fresh ∷ []) ∷ []
 told_lines (folded fold) = line word.Fold (counter_field fold.counter ∷ num fold.version ∷ Int fold.delta ∷ []) ∷ []
@@ -106,6 +116,7 @@ cpu_lines cpu (part ∷ parts) = line word.Cpu (num cpu ∷ []) ∷ flat_map tol
 
 -- ---- what is left, and the end
 
+-- the line of a page that is left
 abbrev pub left_line : (left : Left) → Line
 left_line left = line word.Left (num left.page ∷ bits_field left.word ∷ [])
 
@@ -113,5 +124,6 @@ left_line left = line word.Left (num left.page ∷ bits_field left.word ∷ [])
 abbrev pub strict_line : (strict : StrictLine) → Line
 strict_line strict = line word.Strict (num strict.context ∷ num strict.most ∷ num strict.bound ∷ [])
 
+-- the last line of a journal
 abbrev pub ending_line : (ended : Ending) → Line
 ending_line ended = line word.End (ending_field ended ∷ [])

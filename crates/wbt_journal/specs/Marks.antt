@@ -13,12 +13,15 @@ use Rattle.wbt_journal.specs.PlainJournal.{IsPlainJournal}
 use Rattle.wbt_journal.specs.Text.{journal_lines, journal_text}
 use Rattle.wbt_journal.specs.Told.{marked_as}
 
+-- a check with the mark that a rule gives it
 abbrev pub mark_by : (rule : CheckEntry → Bool) (check : CheckEntry) → CheckEntry
 mark_by rule check = marked_as (rule check) check
 
+-- a CPU's part, each of its checks with the mark of a rule
 abbrev pub part_marked : (rule : CheckEntry → Bool) (part : CpuJournal) → CpuJournal
 part_marked rule part = record { entries = part.entries; checks = map (mark_by rule) part.checks; estimates = part.estimates }
 
+-- a journal, each of its checks with the mark of a rule
 abbrev pub journal_marked : (rule : CheckEntry → Bool) (j : Journal) → Journal
 journal_marked rule j = record {
   timer = j.timer;
@@ -37,16 +40,19 @@ unmarked_journal j = journal_marked (λ check. false) j
 
 -- ---- a journal whose lines have their forms is printed with numbers of at most 64 bits
 
+-- where each line of a threads' journal has its form, its numbers have at most 64 bits
 abbrev pub FormsArePrinted : Type 0
 FormsArePrinted = (j : Journal) → j.steps ≡ [] → j.bases ≡ [] → j.homes ≡ [] → Each HasForm (journal_lines j) → IsPrinted j
 
 -- ---- the text of a lawful journal is that of a plain one, and the plain one gives the lawful one back
 
+-- without its marks a journal is plain and has the same text, and its lines give the marks back
 pub record IsTold (trace : Trace) (j : Journal) : Type 0 where
   pub plain : IsPlainJournal (unmarked_journal j)
   pub text : journal_text (unmarked_journal j) ≡ journal_text j
   pub marks : with_marks trace (unmarked_journal j) ≡ j
 
+-- so it is for each lawful journal of threads without strict lines, where each line has its form
 abbrev pub LawfulIsTold : Type 0
 LawfulIsTold = (trace : Trace) (j : Journal) → IsLawful trace j → j.steps ≡ [] → j.bases ≡ [] → j.homes ≡ [] → j.strict ≡ []
     → Each HasForm (journal_lines j) → IsTold trace j

@@ -13,12 +13,15 @@ use Rattle.wbt_journal.specs.Lines.{timer_line, left_line, strict_line, told_lin
 use Rattle.wbt_journal.specs.Steps.{column_fields}
 use Rattle.wbt_journal.specs.Told.{told_entry}
 
+-- the text of a timer's entry
 abbrev pub timer_text : (entry : TimerEntry) → List ℕ
 timer_text entry = line_text (timer_line entry)
 
+-- the text of a page that is left
 abbrev pub left_text : (left : Left) → List ℕ
 left_text left = line_text (left_line left)
 
+-- the text of a strict context's line
 abbrev pub strict_text : (strict : StrictLine) → List ℕ
 strict_text strict = line_text (strict_line strict)
 

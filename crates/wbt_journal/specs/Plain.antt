@@ -20,6 +20,7 @@ Fits (Int (negsuc n)) = n + 1 < 2 ^ 64
 Fits (Domain domain) = domain < 2 ^ 64
 Fits (Context context) = context < 2 ^ 64
 
+-- each number in a line has at most 64 bits
 abbrev pub LineFits : (l : Line) → Type 0
 LineFits l = Each Fits l.fields
 
@@ -31,6 +32,7 @@ unmarked = marked_as false
 abbrev pub MarkedBy : (rule : CheckEntry → Bool) (entry : Told) → Type 0
 MarkedBy rule entry = IfSome (effect entry).check (λ (check : CheckEntry). check.decision.exceeded ≡ rule (unmarked check))
 
+-- a part that names its checks and estimates in order, whose marks are those of a rule
 pub record IsPlainPart (rule : CheckEntry → Bool) (part : CpuJournal) : Type 0 where
   pub names : NamesInOrder part
   pub marks : Each (MarkedBy rule) (told part)

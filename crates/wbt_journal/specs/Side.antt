@@ -19,6 +19,7 @@ use Rattle.wbt_journal.specs.declared.entry.CheckEntry.{CheckEntry}
 
 -- ---- writers by number: the trace's, in order of task and then of context
 
+-- the writers of a trace, a task and a context each
 abbrev pub all_writers : (trace : Trace) → List Writer
 all_writers trace = writers_in_order (length trace.tasks) (length trace.contexts) (writers_of trace.inodes trace.actions)
 
@@ -28,9 +29,11 @@ number_from task context number [] = number
 number_from task context number (writer ∷ writers) =
     if writer.task == task && writer.context == context then number else number_from task context (number + 1) writers
 
+-- the number of a task's writer of a context
 abbrev pub number_of : (trace : Trace) (task context : ℕ) → ℕ
 number_of trace task context = number_from task context 0 (all_writers trace)
 
+-- the numbers of a task's writers, where the first writer of the list has a given number
 abbrev pub numbers_from : (task number : ℕ) (writers : List Writer) → List ℕ
 numbers_from task number [] = []
 numbers_from task number (writer ∷ writers) =
@@ -52,6 +55,7 @@ pub record Side : Type 0 where
   pub cpu : Cpu
   pub tasks : List TaskState
 
+-- whether a list has no page
 abbrev pub is_empty : (numbers : List ℕ) → Bool
 is_empty [] = true
 is_empty (page ∷ pages) = false
@@ -63,25 +67,31 @@ first_state trace task = record {
   has_ended = not (rests_last trace task) && is_empty (pages_of_task trace task);
 }
 
+-- the states of tasks at the opening, of those from a number on
 abbrev pub first_states : (trace : Trace) (task : ℕ) (lines : List TaskLine) → List TaskState
 first_states trace task [] = []
 first_states trace task (line ∷ lines) = first_state trace task ∷ first_states trace (suc task) lines
 
+-- a CPU's side at the opening: nothing is counted, and each task has all its pages to write
 abbrev pub first_side : (trace : Trace) → Side
 first_side trace = record { cpu = new_cpu trace.cap (length (all_writers trace)); tasks = first_states trace 0 trace.tasks }
 
+-- a task that the trace hasn't: it writes nothing and has ended
 abbrev pub no_task : TaskState
 no_task = record { todo = 0; has_ended = true }
 
+-- a task's state by its number
 abbrev pub task_of : (s : Side) (task : ℕ) → TaskState
 task_of s task = get_or s.tasks task no_task
 
 -- ---- whose check is due
 
+-- whether no check is due
 abbrev pub is_not_due : (due : Due) → Bool
 is_not_due due.No = true
 is_not_due due.Check = false
 
+-- whether a writer, by its number, has no check that is due
 abbrev pub is_quiet : (s : Side) (number : ℕ) → Bool
 is_quiet s number = is_not_due (writer_of s.cpu number).due
 
@@ -107,12 +117,14 @@ settle trace opened task s =
 abbrev pub with_page : (task : ℕ) (s : Side) → Side
 with_page task s = record { cpu = s.cpu; tasks = set s.tasks task (record { todo = (task_of s task).todo - 1; has_ended = (task_of s task).has_ended }) }
 
+-- the CPU counts a fresh page for a task's writer of a context
 abbrev pub write_fresh : (trace : Trace) (opened task context : ℕ) (s : Side) → Side
 write_fresh trace opened task context s = record {
   cpu = cpu_step (ratelimit_pages trace opened) trace.cap s.cpu (history.Wrote (number_of trace task context));
   tasks = s.tasks;
 }
 
+-- the CPU counts a check of a task's writer of a context, with what it decided
 abbrev pub check_by : (trace : Trace) (opened task context : ℕ) (decision : Decision) (s : Side) → Side
 check_by trace opened task context decision s = record {
   cpu = cpu_step (ratelimit_pages trace opened) trace.cap s.cpu (history.Checked (number_of trace task context) decision);
@@ -126,6 +138,7 @@ pub data Event : Type 0 where
   item : (item : Item) → Event
   ends : (task : ℕ) → Event
 
+-- whether a CPU that the trace may have is this one
 abbrev pub is_on : (cpu : ℕ) (which : Option ℕ) → Bool
 is_on cpu None = false
 is_on cpu (Some of) = of == cpu
@@ -140,22 +153,27 @@ write_page trace opened task None fresh s = s
 write_page trace opened task (Some context) true s = settle trace opened task (with_page task (write_fresh trace opened task context s))
 write_page trace opened task (Some context) false s = settle trace opened task (with_page task s)
 
+-- the side after a write; one of another CPU's task changes nothing
 abbrev pub side_after_write : (trace : Trace) (opened cpu : ℕ) (s : Side) (write : Write) → Side
 side_after_write trace opened cpu s write =
     if is_own_task trace cpu write.task then write_page trace opened write.task (page_context trace write.page) write.fresh s else s
 
+-- the side after a check; one of another CPU's task changes nothing
 abbrev pub side_after_check : (trace : Trace) (opened cpu : ℕ) (s : Side) (check : CheckEntry) → Side
 side_after_check trace opened cpu s check =
     if is_own_task trace cpu check.task then settle trace opened check.task (check_by trace opened check.task check.context check.decision s) else s
 
+-- the side after an entry; only writes and checks change it
 abbrev pub side_after_told : (trace : Trace) (opened cpu : ℕ) (s : Side) (entry : Told) → Side
 side_after_told trace opened cpu s entry =
     of_part (of_part s (side_after_check trace opened cpu s) (effect entry).check) (side_after_write trace opened cpu s) (effect entry).write
 
+-- the side after an item; each CPU's part begins with a new side
 abbrev pub side_after_item : (trace : Trace) (opened : ℕ) (s : Side) (item : Item) → Side
 side_after_item trace opened s (begins cpu) = first_side trace
 side_after_item trace opened s (tells cpu entry) = side_after_told trace opened cpu s entry
 
+-- the side after an event
 abbrev pub side_after : (trace : Trace) (opened : ℕ) (s : Side) (event : Event) → Side
 side_after trace opened s (item i) = side_after_item trace opened s i
 side_after trace opened s (ends task) = end_task trace opened task s

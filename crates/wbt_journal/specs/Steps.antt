@@ -26,6 +26,7 @@ first_columns domain entries [] = []
 first_columns domain entries (base ∷ bases) =
     record { count = pos 0; base = base; peak = first_hard domain entries } ∷ first_columns (domain + 1) entries bases
 
+-- whether a number that may be there is this one
 abbrev pub is_some_of : (n : ℕ) (which : Option ℕ) → Bool
 is_some_of n None = false
 is_some_of n (Some m) = m == n
@@ -34,6 +35,7 @@ is_some_of n (Some m) = m == n
 abbrev pub is_in : (homes : List ℕ) (context domain : ℕ) → Bool
 is_in homes context domain = domain == 0 || is_some_of domain (slice_get homes context)
 
+-- by how many pages a step changes a domain's exact count
 abbrev pub change_in : (homes : List ℕ) (domain : ℕ) (step : StepEntry) → ℤ
 change_in homes domain step = if is_in homes step.context domain then step.change else pos 0
 
@@ -42,6 +44,7 @@ abbrev pub raised : (kind : StepKind) (of domain peak : ℕ) → ℕ
 raised kind.Peak of domain peak = if of == domain then peak else 0
 raised other of domain peak = 0
 
+-- a domain's column after a step: its exact count, and its peak raised
 abbrev pub column_after : (homes : List ℕ) (domain : ℕ) (step : StepEntry) (column : Column) → Column
 column_after homes domain step column = record {
   count = column.count +ℤ change_in homes domain step;
@@ -56,6 +59,7 @@ columns_after homes domain step (column ∷ columns) = column_after homes domain
 
 -- ---- lines
 
+-- the word of a step's kind
 abbrev pub kind_word : (kind : StepKind) → Word
 kind_word kind.Add = word.Add
 kind_word kind.Fold = word.Fold
@@ -80,9 +84,11 @@ kind_word kind.Back = word.Back
 abbrev pub who_field : (cpus who : ℕ) → Field
 who_field cpus who = if nat_lt who cpus then num who else Name word.Timer
 
+-- the fields of a domain's column: its exact count and its bound with the peak so far
 abbrev pub column_fields : (column : Column) → List Field
 column_fields column = Int column.count ∷ num (column.base + column.peak) ∷ []
 
+-- the first fields of a step's line: its number, who did it, and its kind
 abbrev pub step_fields : (cpus number : ℕ) (step : StepEntry) → List Field
 step_fields cpus number step = num number ∷ who_field cpus step.who ∷ Name (kind_word step.kind) ∷ []
 
@@ -96,6 +102,7 @@ step_lines cpus homes number columns [] = []
 step_lines cpus homes number columns (step ∷ steps) =
     step_line cpus number step (columns_after homes 0 step columns) ∷ step_lines cpus homes (number + 1) (columns_after homes 0 step columns) steps
 
+-- the lines of steps; none where there is no step
 abbrev pub steps_part : (cpus : ℕ) (homes : List ℕ) (columns : List Column) (steps : List StepEntry) → List Line
 steps_part cpus homes columns [] = []
 steps_part cpus homes columns (step ∷ steps) = line word.Steps [] ∷ step_lines cpus homes 1 columns (step ∷ steps)

@@ -19,21 +19,26 @@ pub record AreThresholds (low high : ℕ) (bg : ℕ) (limits : Limits) : Type 0 
   pub at_most : limits.thresh ≤ high
   pub background : limits.bg ≤ bg
 
+-- decides whether a threshold is between two others and the background threshold no greater than its own bound
 abbrev pub are_thresholds : (low high : ℕ) (bg : ℕ) (limits : Limits) → Bool
 are_thresholds low high bg limits = nat_le low limits.thresh && (nat_le limits.thresh high && nat_le limits.bg bg)
 
+-- the threshold and the background threshold of the global domain
 pub record IsGlobal (pair : Pair) (limits : Limits) : Type 0 where
   pub thresh : limits.thresh ≡ pair.thresh
   pub background : limits.bg ≡ pair.bg
 
+-- decides whether limits have the global thresholds
 abbrev pub is_global : (pair : Pair) (limits : Limits) → Bool
 is_global pair limits = limits.thresh == pair.thresh && limits.bg == pair.bg
 
+-- a cgroup's thresholds are in the range that its file pages and its headroom allow
 abbrev pub IsCgroup : (trace : Trace) (now : ℕ) (which : Option Cgroup) (limits : Limits) → Type 0
 IsCgroup trace now None limits = ⊥
 IsCgroup trace now (Some cgroup) limits =
     AreThresholds (cgroup_with trace now cgroup.filepages).thresh (cgroup_with trace now (cgroup.filepages + cgroup.headroom)).thresh limits.thresh limits
 
+-- decides whether limits have thresholds that a cgroup may have
 abbrev pub is_cgroup : (trace : Trace) (now : ℕ) (which : Option Cgroup) (limits : Limits) → Bool
 is_cgroup trace now None limits = false
 is_cgroup trace now (Some cgroup) limits =
@@ -44,6 +49,7 @@ abbrev pub HasThresholds : (trace : Trace) (now domain : ℕ) (limits : Limits) 
 HasThresholds trace now zero limits = IsGlobal (global_at trace now) limits
 HasThresholds trace now (suc cgroup) limits = IsCgroup trace now (slice_get trace.cgroups cgroup) limits
 
+-- decides whether limits have thresholds that their domain may have at a moment
 abbrev pub has_thresholds : (trace : Trace) (now domain : ℕ) (limits : Limits) → Bool
 has_thresholds trace now zero limits = is_global (global_at trace now) limits
 has_thresholds trace now (suc cgroup) limits = is_cgroup trace now (slice_get trace.cgroups cgroup) limits
@@ -55,13 +61,16 @@ abbrev pub HardBy : (at_least : Bool) (before thresh hard : ℕ) → Type 0
 HardBy true before thresh hard = (hard ≤ before) × (before ≤ hard + (before - thresh) / 32)
 HardBy false before thresh hard = hard ≡ thresh
 
+-- a hard limit follows the domain's hard limit of the line before
 abbrev pub HardFollows : (before : ℕ) (limits : Limits) → Type 0
 HardFollows before limits = HardBy (nat_le limits.thresh before) before limits.thresh limits.hard
 
+-- decides whether a hard limit follows, by whether the one before was at least the threshold
 abbrev pub hard_by : (at_least : Bool) (before thresh hard : ℕ) → Bool
 hard_by true before thresh hard = nat_le hard before && nat_le before (hard + (before - thresh) / 32)
 hard_by false before thresh hard = hard == thresh
 
+-- decides whether a hard limit follows the domain's hard limit of the line before
 abbrev pub hard_follows : (before : ℕ) (limits : Limits) → Bool
 hard_follows before limits = hard_by (nat_le limits.thresh before) before limits.thresh limits.hard
 
@@ -79,6 +88,7 @@ pub record Opens (trace : Trace) (opened : ℕ) (lines : List Line) (domain now 
   pub thresholds : HasThresholds trace now domain limits
   pub hard : limits.hard ≡ limits.thresh
 
+-- decides whether a line is that of the opening of the next domain
 abbrev pub opens : (trace : Trace) (opened : ℕ) (lines : List Line) (domain now : ℕ) (limits : Limits) → Bool
 opens trace opened lines domain now limits =
     domain == length lines && (now == opened && (has_thresholds trace now domain limits && limits.hard == limits.thresh))
@@ -89,6 +99,7 @@ LineFollows trace None domain now limits = ⊥
 LineFollows trace (Some before) domain now limits =
     (before.now + TIMER_REST ≤ now) × (HasThresholds trace now domain limits) × HardFollows before.hard limits
 
+-- decides whether a line may follow the domain's line before
 abbrev pub line_follows : (trace : Trace) (before : Option Line) (domain now : ℕ) (limits : Limits) → Bool
 line_follows trace None domain now limits = false
 line_follows trace (Some before) domain now limits =
@@ -100,11 +111,13 @@ abbrev pub LimitsBy : (is_opening : Bool) (trace : Trace) (opened : ℕ) (lines 
 LimitsBy true trace opened lines domain now limits = Opens trace opened lines domain now limits
 LimitsBy false trace opened lines domain now limits = LineFollows trace (slice_get lines domain) domain now limits
 
+-- decides whether a line of limits may come
 abbrev pub limits_by : (is_opening : Bool) (trace : Trace) (opened : ℕ) (lines : List Line) (domain now : ℕ)
     (limits : Limits) → Bool
 limits_by true trace opened lines domain now limits = opens trace opened lines domain now limits
 limits_by false trace opened lines domain now limits = line_follows trace (slice_get lines domain) domain now limits
 
+-- whether a domain still lacks its line of the opening
 abbrev pub is_opening : (trace : Trace) (lines : List Line) → Bool
 is_opening trace lines = nat_lt (length lines) (domains trace)
 
@@ -113,21 +126,26 @@ pub record MayBegin (trace : Trace) (lines : List Line) (domain : ℕ) : Type 0 
   pub opened : is_opening trace lines ≡ false
   pub named : nat_lt domain (domains trace) ≡ true
 
+-- an entry of the timer may come after the lines so far
 abbrev pub TimerGoesOn : (trace : Trace) (opened : ℕ) (lines : List Line) (entry : TimerEntry) → Type 0
 TimerGoesOn trace opened lines (timer.Limits domain now limits) = LimitsBy (is_opening trace lines) trace opened lines domain now limits
 TimerGoesOn trace opened lines (timer.Period domain k) = MayBegin trace lines domain
 
+-- the last lines with one of a domain: in the place of the one before, or added as the next domain's
 abbrev pub put_line : (domain : ℕ) (line : Line) (lines : List Line) → List Line
 put_line domain line lines = if nat_lt domain (length lines) then set lines domain line else lines ++ line ∷ []
 
+-- the last lines of the domains after an entry; a period leaves them
 abbrev pub lines_after : (lines : List Line) (entry : TimerEntry) → List Line
 lines_after lines (timer.Limits domain now limits) = put_line domain (record { now = now; hard = limits.hard }) lines
 lines_after lines (timer.Period domain k) = lines
 
+-- the fault of a timer's entry that may not come
 abbrev pub timer_fault : (trace : Trace) (opened : ℕ) (lines : List Line) (entry : TimerEntry) → Option ℕ
 timer_fault trace opened lines (timer.Limits domain now limits) = unless (limits_by (is_opening trace lines) trace opened lines domain now limits) 0
 timer_fault trace opened lines (timer.Period domain k) =
     unless (if is_opening trace lines then false else nat_lt domain (domains trace)) 0
 
+-- each entry of the timer has one line
 abbrev pub one_line : (entry : TimerEntry) → ℕ
 one_line entry = 1

@@ -7,6 +7,7 @@ use Rattle.wbt_journal.specs.declared.entry.CheckEntry.{CheckEntry}
 use Rattle.wbt_journal.specs.declared.entry.EstEntry.{EstEntry}
 use Rattle.wbt_journal.specs.declared.entry.CpuJournal.{CpuJournal}
 
+-- an entry with what it tells; moments are in ticks, domains, contexts, tasks, flushers, inodes and pages are numbers of the trace
 pub data Told : Type 0 where
   wrote : (task page : ℕ) (fresh : Bool) → Told
   folded : (fold : Fold) → Told
@@ -27,10 +28,12 @@ abbrev pub one_checked : (which : Option CheckEntry) → List Told
 one_checked None = []
 one_checked (Some check) = checked check ∷ []
 
+-- the same for an estimate
 abbrev pub one_estimated : (which : Option EstEntry) → List Told
 one_estimated None = []
 one_estimated (Some est) = estimated est ∷ []
 
+-- an entry with the check or the estimate that it names by its place
 abbrev pub told_entry : (checks : List CheckEntry) (estimates : List EstEntry) (entry : Entry) → List Told
 told_entry checks estimates (entry.Write task page fresh) = wrote task page fresh ∷ []
 told_entry checks estimates (entry.Folded fold) = folded fold ∷ []
@@ -46,6 +49,7 @@ told_entry checks estimates (entry.Noticed flusher inode since) = noticed flushe
 told_entry checks estimates (entry.Aged flusher inode due now) = aged flusher inode due now ∷ []
 told_entry checks estimates (entry.Taken flusher inode) = took flusher inode ∷ []
 
+-- the entries of a CPU's part in order
 abbrev pub told : (part : CpuJournal) → List Told
 told part = flat_map (told_entry part.checks part.estimates) part.entries
 

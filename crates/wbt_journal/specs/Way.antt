@@ -15,6 +15,7 @@ pub record Way : Type 0 where
   pub faults : ℕ
   pub out : Collected
 
+-- a way of its three parts
 abbrev pub way : (held : Option (List ℕ)) (faults : ℕ) (out : Collected) → Way
 way held faults out = record { held = held; faults = faults; out = out }
 
@@ -26,6 +27,7 @@ PutsBy false true bytes old new = GainsPart old.held new.held (old.out.piece ++ 
 PutsBy true false bytes old new = ⊥
 PutsBy true true bytes old new = new.held ≡ old.held
 
+-- bytes were put on the way, and the sink's count of faults hasn't fallen
 pub record Puts (bytes : List ℕ) (old new : Way) : Type 0 where
   pub put : PutsBy old.out.failed new.out.failed bytes old new
   pub later : old.faults ≤ new.faults

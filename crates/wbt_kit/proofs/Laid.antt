@@ -1,5 +1,5 @@
 -- The layout of a lawful trace is one.
-use Rattle.std.proofs.Common.{◌≡◌, ℕ, zero, suc, ◌+◌, ◌<◌, ◌≤◌, ◌^◌, max, Bool, true, false, if◌then◌else◌, List, [], ◌∷◌, ◌++◌, All, length, map, get_or, refl, sym, ap, ◌∙◌, subst, arith, length-append}
+use Rattle.std.proofs.Common.{◌≡◌, ℕ, zero, suc, ◌+◌, ◌<◌, ◌≤◌, ◌^◌, max, Bool, true, false, if◌then◌else◌, List, [], ◌∷◌, ◌++◌, All, length, map, get_or, refl, sym, ap, ◌∙◌, subst, arith, length-append, None}
 use Rattle.std.proofs.lemmas.List.{length-map}
 use Rattle.std.proofs.lemmas.List.Elements.{All-nil}
 use Rattle.std.proofs.lemmas.List.Sums.{sum_by-cons}
@@ -138,7 +138,7 @@ module _ (trace : Trace) (now : ℕ) (lawful : IsLawful trace) where
         (λ i is. omega (arith, is.0, length-map trace.contexts (λ (c : Context). c.domain))) trace.inodes lawful.within.inodes.each;
     few_writers = omega (arith, length-map (all_writers trace) (seated trace), few);
     writers_on_cpus = all_mapped (IsPair (length trace.tasks) (length trace.contexts)) (λ (w : Seat). w.cpu < trace.cpus) (seated trace)
-        (λ w is. lawful.within.tasks w.task (record { cpu = 0 }) is.0) (all_writers trace) pairs;
+        (λ w is. lawful.within.tasks w.task (record { cpu = 0; pace = None }) is.0) (all_writers trace) pairs;
     writers_in_contexts = all_mapped (IsPair (length trace.tasks) (length trace.contexts)) (λ (w : Seat). w.context < length (homes_of trace)) (seated trace)
         (λ w is. omega (arith, is.1, length-map trace.contexts (λ (c : Context). c.domain))) (all_writers trace) pairs;
   }

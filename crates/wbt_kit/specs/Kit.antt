@@ -51,6 +51,7 @@ pub record AreSeatsOf (kit : Kit) (seats : Seats) : Type 0 where
 abbrev pub HasCpu : (cpu : ℕ) (r : CpuRecord) (seats : Seats) → Type 0
 HasCpu cpu r seats = Has seats.cpu.cpus cpu r
 
+-- they hold the timer with this record
 abbrev pub HasTimer : (r : TimerRecord) (seats : Seats) → Type 0
 HasTimer r seats = seats.cpu.timer ≡ Some r
 

@@ -1,5 +1,5 @@
 -- What a trace asks for at the opening: first limits, the layout of the throttle, and what each context and each device gets.
-use Rattle.std.specs.Prelude.{ℕ, zero, suc, Bool, ◌==◌, max, if◌then◌else◌, List, [], ◌∷◌, ◌++◌, length, map, get_or, count_by}
+use Rattle.std.specs.Prelude.{ℕ, zero, suc, Bool, ◌==◌, max, if◌then◌else◌, List, [], ◌∷◌, ◌++◌, length, map, get_or, count_by, None}
 use Rattle.wbt_num.specs.declared.limits.Limits.{Limits}
 use Rattle.wbt_num.specs.declared.most.TheConstants.{MOST_PAGE_STEPS}
 use Rattle.wbt_trace.specs.declared.trace.Context.{Context}
@@ -26,11 +26,13 @@ firsts_of trace now (suc n) = firsts_of trace now n ++ first_limits trace now n 
 
 -- the CPU of a task
 abbrev pub cpu_of : (trace : Trace) (task : ℕ) → ℕ
-cpu_of trace task = (get_or trace.tasks task (record { cpu = 0 })).cpu
+cpu_of trace task = (get_or trace.tasks task (record { cpu = 0; pace = None })).cpu
 
+-- an inode's place in the throttle's layout: its context, its first page and how many it has
 abbrev pub place_of : (inode : Inode) → Place
 place_of inode = record { context = inode.context; first = inode.first; pages = inode.pages }
 
+-- a writer in the throttle's layout: its task's CPU, and its context
 abbrev pub seated : (trace : Trace) (writer : Writer) → Seated
 seated trace writer = record { cpu = cpu_of trace writer.task; context = writer.context }
 
@@ -38,6 +40,7 @@ seated trace writer = record { cpu = cpu_of trace writer.task; context = writer.
 abbrev pub homes_of : (trace : Trace) → List ℕ
 homes_of trace = map (λ (context : Context). context.domain) trace.contexts
 
+-- the layout of the throttle that a trace asks for
 abbrev pub layout_of : (trace : Trace) (now : ℕ) → Layout
 layout_of trace now = record {
   cpus = trace.cpus;
@@ -73,5 +76,6 @@ abbrev pub sizes_of : (trace : Trace) (count : ℕ) → List ℕ
 sizes_of trace zero = []
 sizes_of trace (suc n) = sizes_of trace n ++ max (inodes_on trace n) 1 ∷ []
 
+-- as many numbers as the queue of each device holds
 abbrev pub queue_sizes : (trace : Trace) → List ℕ
 queue_sizes trace = sizes_of trace (length trace.devices)

@@ -71,6 +71,7 @@ abbrev pub put_global : (law : LawInput) (read : Result DomainRead Refusal) → 
 put_global law (Ok domain) = Ok (record law { reads = record law.reads { global = domain } })
 put_global law (Err why) = Err why
 
+-- the first domain, by the numbers of its line
 abbrev pub with_global : (ns : List ℕ) (law : LawInput) → Result LawInput Refusal
 with_global ns law = put_global law (domain_from ns)
 
@@ -79,6 +80,7 @@ abbrev pub put_cgroup : (law : LawInput) (read : Result DomainRead Refusal) → 
 put_cgroup law (Ok domain) = Ok (record law { reads = record law.reads { cgroup = Some domain } })
 put_cgroup law (Err why) = Err why
 
+-- the second domain, by the numbers of its line
 abbrev pub with_cgroup : (ns : List ℕ) (law : LawInput) → Result LawInput Refusal
 with_cgroup ns law = put_cgroup law (domain_from ns)
 

@@ -11,5 +11,6 @@ pub mod Passing
 pub mod PopFits
 pub mod MoveFits
 pub mod StepFits
+pub mod Stopping
 pub mod TimerFits
 pub mod BeginFits

@@ -17,6 +17,7 @@
 #![tactic(auto)]
 
 mod clock;
+mod cpus;
 mod opening;
 mod order;
 mod ordered;

@@ -8,6 +8,7 @@ ghost use Rattle.wbt_rules.specs.Thresholds.{DomainFits};
 ghost use Rattle.wbt_trace.specs.Sofar.{pages_in};
 ghost use Rattle.wbt_replay_moves.specs.Seen.{seen};
 
+use crate::cpus::first_cpus;
 use std::alloc::{AllocError, Global};
 use wbt_counter::Count;
 use wbt_expiry::Wheel;
@@ -15,17 +16,16 @@ use wbt_flex::Half;
 use wbt_journal::TimerEntry;
 use wbt_limits::ratelimit_pages;
 use wbt_num::{Items, Limits, Queue, Row};
-use wbt_replay_moves::cpu::turn_of;
 use wbt_replay_moves::{
-    Actor, Cpu, Domain, Flusher, Held, Machine, Pages, ReplayJob, ReplayPhase, ReplayTask,
-    ReplayWork, Stretch, Timer, Whose, Writeback,
+    Actor, Domain, Flusher, Machine, Pages, ReplayPhase, ReplayTask, ReplayWork, Stretch, Timer,
+    Writeback,
 };
 use wbt_rules::{
     PERIOD_TICKS, TIMER_REST, domains_of, first_estimate, first_limits as first_limits_at,
     first_of, flusher_device, is_ageing, is_strict, leads, thresholds_at,
 };
-use wbt_task::{CpuLocal, new_writer};
-use wbt_trace::{Action, Inode, Order, Trace};
+use wbt_task::new_writer;
+use wbt_trace::{Action, Inode, Order, Pace, Trace};
 
 // The moment of the opening.
 const OPENING: u64 = 1;
@@ -104,8 +104,8 @@ fn pages_of(inodes: &[Inode]) -> u32
 
 // ---- domains and contexts
 
-// The limits of a domain that reads no page. The hard limit is the threshold at first.
-fn first_limits(trace: &Trace, domain: u32) -> Limits
+/// The limits of a domain that reads no page. The hard limit is the threshold at first.
+pub fn first_limits(trace: &Trace, domain: u32) -> Limits
     requires { DomainFits trace.now domain }
     ensures { result ≡ spec.first_limits trace.now domain }
 {
@@ -183,17 +183,17 @@ fn first_tasks(alloc: Global, trace: &Trace) -> Result<Vec<ReplayTask>, AllocErr
 }
 
 fn idle_tasks(alloc: Global, trace: &Trace) -> Result<Vec<ReplayTask>, AllocError>
-    ensures { IfOk result (λ tasks. tasks.items ≡ replicate (length trace.now.tasks) (task_with trace.now [])) }
+    ensures { IfOk result (λ tasks. tasks.items ≡ map (λ line. task_with trace.now line.pace []) trace.now.tasks) }
 {
     let mut tasks = Vec::new(alloc);
-    for _ in 0..trace.tasks.as_slice().len() {
-        tasks.push(idle_task(alloc, trace)?)?;
+    for line in trace.tasks.as_slice() {
+        tasks.push(idle_task(alloc, trace, line.pace)?)?;
     }
     Ok(tasks)
 }
 
-fn idle_task(alloc: Global, trace: &Trace) -> Result<ReplayTask, AllocError>
-    ensures { IfOk result (λ task. task ≡ task_with trace.now []) }
+fn idle_task(alloc: Global, trace: &Trace, pace: Option<Pace>) -> Result<ReplayTask, AllocError>
+    ensures { IfOk result (λ task. task ≡ task_with trace.now pace []) }
 {
     let contexts = trace.contexts.as_slice().len();
     let writers = filled(alloc, contexts, new_writer(u64::from(trace.cap)))?;
@@ -203,6 +203,8 @@ fn idle_task(alloc: Global, trace: &Trace) -> Result<ReplayTask, AllocError>
         ended: false,
         context: 0,
         writers: Row::from_vec(writers),
+        pace,
+        since: 0,
     })
 }
 
@@ -269,9 +271,18 @@ fn first_flushers(alloc: Global, trace: &Trace) -> Result<Vec<Flusher>, AllocErr
             measures: measures_of(alloc, trace, flusher)?,
             weighs: weighs_of(alloc, trace, flusher)?,
             wheel: first_wheel(alloc, trace, flusher)?,
+            places: first_places(alloc, trace)?,
         })?;
     }
     Ok(flushers)
+}
+
+// Of each inode, the place at which the first scan begins.
+fn first_places(alloc: Global, trace: &Trace) -> Result<Row<u32>, AllocError>
+    ensures { IfOk result (λ places. places ≡ replicate (length trace.now.inodes) 0) }
+{
+    let places = filled(alloc, trace.inodes.as_slice().len(), 0u32)?;
+    Ok(Row::from_vec(places))
 }
 
 // The contexts of the flusher's device, where it is the device's first flusher.
@@ -327,121 +338,6 @@ fn first_wheel(alloc: Global, trace: &Trace, flusher: u32) -> Result<Option<Whee
         Ok(wheel) => Ok(Some(wheel)),
         Err(_) => Err(AllocError),
     }
-}
-
-// ---- CPUs
-
-fn first_cpus(alloc: Global, trace: &Trace) -> Result<Vec<Cpu>, AllocError>
-    requires tasks { length trace.now.tasks ≤ 256 }
-    requires flushers { length trace.now.flushers ≤ 64 }
-    requires cgroups { length trace.now.cgroups < 2 ^ 31 }
-    requires fits { DomainsFit trace.now }
-    ensures { IfOk result (λ cpus. cpus.items ≡ spec.first_cpus trace.now trace.now.cpus) }
-{
-    let mut cpus = Vec::new(alloc);
-    for cpu in 0..trace.cpus {
-        cpus.push(first_cpu(alloc, trace, cpu)?)?;
-    }
-    Ok(cpus)
-}
-
-fn first_cpu(alloc: Global, trace: &Trace, cpu: u32) -> Result<Cpu, AllocError>
-    requires tasks { length trace.now.tasks ≤ 256 }
-    requires flushers { length trace.now.flushers ≤ 64 }
-    requires cgroups { length trace.now.cgroups < 2 ^ 31 }
-    requires fits { DomainsFit trace.now }
-    ensures { IfOk result (λ c. c ≡ spec.first_cpu trace.now cpu) }
-{
-    let tasks = tasks_on(alloc, trace, cpu)?;
-    let jobs = first_jobs(alloc, trace, cpu, tasks.as_slice())?;
-    let own_domains = Row::from_vec(filled(alloc, domains_of(trace) as usize, 0)?);
-    let own_contexts = Row::from_vec(filled(alloc, trace.contexts.as_slice().len(), 0)?);
-    Ok(Cpu {
-        jobs,
-        next: 0,
-        tasks,
-        next_task: 0,
-        turn: turn_of(Whose::Task { task: 0 }, 0),
-        todo: Queue::new(alloc),
-        local: CpuLocal {
-            since_check: 0,
-            leaks: 0,
-        },
-        own_domains,
-        own_contexts,
-        held: Row::from_vec(first_held(alloc, trace)?),
-        entries: Items::new(alloc),
-        checks: Items::new(alloc),
-        estimates: Items::new(alloc),
-        made: 0,
-        stopped: false,
-    })
-}
-
-// What a CPU holds of each domain before its first load.
-fn first_held(alloc: Global, trace: &Trace) -> Result<Vec<Held>, AllocError>
-    requires few { length trace.now.cgroups < 2 ^ 31 }
-    requires fits { DomainsFit trace.now }
-    ensures { IfOk result (λ list. list.items ≡ spec.first_held trace.now (domains trace.now)) }
-{
-    let mut held = Vec::new(alloc);
-    for domain in 0..domains_of(trace) {
-        held.push(held_first(first_limits(trace, domain)))?;
-    }
-    Ok(held)
-}
-
-fn held_first(limits: Limits) -> Held
-    ensures { result ≡ spec.held_first limits }
-{
-    Held { version: 0, limits }
-}
-
-// The CPU's tasks by number.
-fn tasks_on(alloc: Global, trace: &Trace, cpu: u32) -> Result<Items<u32>, AllocError>
-    requires { length trace.now.tasks ≤ 256 }
-    ensures { IfOk result (λ tasks. tasks ≡ spec.tasks_from cpu 0 trace.now.tasks []) }
-{
-    let mut tasks = Items::new(alloc);
-    for (number, line) in trace.tasks.as_slice().iter().enumerate() {
-        if line.cpu == cpu {
-            let number = number as u32;
-            tasks.push(number)?;
-        }
-    }
-    Ok(tasks)
-}
-
-// The CPU's jobs: its writer side where it has tasks, and its flushers by number.
-fn first_jobs(
-    alloc: Global,
-    trace: &Trace,
-    cpu: u32,
-    tasks: &[u32],
-) -> Result<Items<ReplayJob>, AllocError>
-    requires { length trace.now.flushers ≤ 64 }
-    ensures { IfOk result (λ jobs. jobs ≡ spec.jobs_with trace.now cpu tasks.now) }
-{
-    let mut jobs = Items::new(alloc);
-    if !tasks.is_empty() {
-        jobs.push(ReplayJob::Writer)?;
-    }
-    put_flushers(&mut jobs, trace, cpu)?;
-    Ok(jobs)
-}
-
-// Puts the CPU's flushers after its other jobs.
-fn put_flushers(jobs: &mut Items<ReplayJob>, trace: &Trace, cpu: u32) -> Result<(), AllocError>
-    requires { length trace.now.flushers ≤ 64 }
-    ensures { OnOk result (jobs.new ≡ spec.flushers_from cpu 0 trace.now.flushers jobs.old) }
-{
-    for (flusher, line) in trace.flushers.as_slice().iter().enumerate() {
-        if line.cpu == cpu {
-            let flusher = flusher as u32;
-            jobs.push(ReplayJob::Flusher { flusher })?;
-        }
-    }
-    Ok(())
 }
 
 // ---- order lines, and the timer

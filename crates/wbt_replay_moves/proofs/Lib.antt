@@ -4,4 +4,5 @@ mod Loads
 mod Paging
 mod Parts
 mod Reading
+mod Scanning
 mod Writing

@@ -9,7 +9,7 @@ use Rattle.wbt_task.specs.declared.allowance.Due.TheVariants as due
 use Rattle.wbt_task.specs.declared.history.Writer.{Writer}
 use Rattle.wbt_replay_moves.specs.Definition.Check.{writer_of}
 use Rattle.wbt_replay_moves.specs.Definition.State.{State, task_of, with_task}
-use Rattle.wbt_replay_moves.specs.Definition.Writer.{after_first, check_items, dirty_next, dirty_page, leaked, without_page}
+use Rattle.wbt_replay_moves.specs.Definition.Writer.{after_first, check_items, dirty_next, dirty_page, leaked, passed_page}
 use Rattle.wbt_replay_moves.specs.declared.state.ReplayTask.{ReplayTask}
 use Rattle.wbt_replay_moves.specs.declared.state.ReplayWork.{ReplayWork}
 use Rattle.wbt_replay_moves.specs.declared.state.ReplayWork.TheVariants as work
@@ -33,7 +33,7 @@ pub dirties_next : (trace : Trace) (cpu task inode page pages : ℕ) (works : Li
     → first works ≡ Some (work.Write inode page pages)
     → dirty_next trace cpu task works s
     ≡ dirty_page trace cpu task inode page
-    (with_task task (record (task_of task s) { works = without_page inode page pages (after_first works) }) s)
+    (with_task task (passed_page inode page pages (after_first works) (task_of task s)) s)
 unfolding or_work
 dirties_next trace cpu task inode page pages [] s is = absurd (none-some (work.Write inode page pages) is)
 dirties_next trace cpu task inode page pages (w ∷ works) s is =

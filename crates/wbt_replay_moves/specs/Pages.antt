@@ -3,6 +3,7 @@ use Rattle.std.specs.Prelude.{ℕ, List, get_or}
 use Rattle.wbt_book.specs.Book.{Book}
 use Rattle.wbt_book.specs.PageWords.{word_of, bits_at}
 
+-- the pages in memory: how many there are, and their words
 pub record Paged : Type 0 where
   pub count : ℕ
   pub words : List ℕ

@@ -3,6 +3,7 @@ use Rattle.wbt_replay_moves.specs.Definition.State.{State}
 use Rattle.wbt_replay_moves.specs.Pages.{book_of}
 use Rattle.wbt_replay_moves.specs.declared.machine.Machine.{Machine}
 
+-- the state that a machine in memory stands for
 abbrev pub seen : (m : Machine) → State
 seen m = record {
   now = m.clock;

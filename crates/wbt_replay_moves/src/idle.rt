@@ -16,9 +16,9 @@ use std::alloc::AllocError;
 use wbt_counter::Counter;
 use wbt_grant::StepKind;
 use wbt_rules::{
-    ESTIMATE_AGE, FLUSHER_REST, Scan, context_of, device_at, first_of, flusher_device, quota_of,
+    ESTIMATE_AGE, FLUSHER_REST, Scan, context_of, device_at, flusher_device, inode_at, quota_of,
 };
-use wbt_trace::Trace;
+use wbt_trace::{Inode, Trace};
 
 impl Machine {
     /// Begins a turn of an idle flusher.
@@ -232,6 +232,7 @@ impl Machine {
         requires flusher { HasFlusher trace.now flusher (length (seen self.old).flushers) (length (seen self.old).queues) }
         requires inode { HasInode trace.now inode (length (seen self.old).marks) (length (seen self.old).queues) }
         requires context { things.context_of trace.now inode < length (seen self.old).contexts }
+        requires place { inode < length (flusher_of flusher (seen self.old)).places }
         ensures { OnOk result (seen self.new ≡ spec.unmark_of trace.now cpu flusher inode (seen self.old)) }
     {
         let phase = self.scan_of(trace, flusher, inode);
@@ -244,18 +245,36 @@ impl Machine {
         requires flusher { HasFlusher trace.now flusher (length (seen self.now).flushers) (length (seen self.now).queues) }
         requires inode { inode < length trace.now.inodes }
         requires context { things.context_of trace.now inode < length (seen self.now).contexts }
+        requires place { inode < length (flusher_of flusher (seen self.now)).places }
         ensures { result ≡ spec.scan_of trace.now flusher inode (seen self.now) }
     {
         let context = context_of(trace, inode);
         let avg = self.contexts[context as usize].estimate.avg;
+        let Inode { first, pages, .. } = inode_at(trace, inode);
         let device = device_at(trace, flusher_device(trace, flusher));
         ReplayPhase::Scanning {
             scan: Scan {
                 inode,
-                page: first_of(trace, inode),
+                first,
+                pages,
+                start: self.start_of(trace, flusher, inode),
+                passed: 0,
                 quota: quota_of(&device, avg, self.flushers[flusher as usize].hard),
                 noted: false,
             },
+        }
+    }
+
+    // The place of the inode at which its scan begins.
+    fn start_of(&self, trace: &Trace, flusher: u32, inode: u32) -> u32
+        requires flusher { HasFlusher trace.now flusher (length (seen self.now).flushers) (length (seen self.now).queues) }
+        requires place { inode < length (flusher_of flusher (seen self.now)).places }
+        ensures { result ≡ spec.start_of trace.now flusher inode (seen self.now) }
+    {
+        if device_at(trace, flusher_device(trace, flusher)).cyclic {
+            self.flushers[flusher as usize].places.get(inode)
+        } else {
+            0
         }
     }
 }

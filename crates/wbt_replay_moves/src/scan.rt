@@ -4,8 +4,9 @@ ghost use Rattle.std.specs.Prelude.{◌≡◌, ◌+◌, ◌<◌, ◌≤◌, ◌^
 ghost use Rattle.wbt_replay_moves.specs.Definition.Scan as spec;
 ghost use Rattle.wbt_replay_moves.specs.Definition.State.{cpu_of, flusher_of};
 ghost use Rattle.wbt_replay_moves.specs.Definition.Cpu.{then_do as then_do_value};
-ghost use Rattle.wbt_replay_moves.specs.Kept.Fit.{LookFits, OfFlusher, ScanningFits};
+ghost use Rattle.wbt_replay_moves.specs.Kept.Fit.{ComesTo, LookFits, OfFlusher, ScanFits, ScanningFits};
 ghost use Rattle.wbt_replay_moves.specs.Seen.{seen};
+ghost use Rattle.wbt_rules.specs.Places.{page_of};
 
 use crate::machine::Machine;
 use crate::state::{ReplayPhase, Whose};
@@ -15,7 +16,7 @@ use wbt_book::is_claimable_at;
 use wbt_grant::StepKind;
 use wbt_io::done_at;
 use wbt_journal::Entry;
-use wbt_rules::{FLUSHER_REST, Scan, end_of, flusher_device, rate_of};
+use wbt_rules::{FLUSHER_REST, Scan, device_at, flusher_device, rate_of};
 use wbt_trace::Trace;
 
 impl Machine {
@@ -52,11 +53,10 @@ impl Machine {
     fn look_at(&mut self, cpu: u32, flusher: u32, scan: Scan) -> Result<(), AllocError>
         requires cpu { cpu < length (seen self.old).cpus }
         requires flusher { flusher < length (seen self.old).flushers }
-        requires page { scan.page < (seen self.old).pages }
-        requires next { scan.page + 1 < 2 ^ 32 }
-        ensures { OnOk result (seen self.new ≡ spec.looked_at cpu flusher scan ((seen self.old).book scan.page) (seen self.old)) }
+        requires page { ComesTo scan (seen self.old).pages }
+        ensures { OnOk result (seen self.new ≡ spec.looked_at cpu flusher scan ((seen self.old).book (page_of scan)) (seen self.old)) }
     {
-        let page = scan.page;
+        let page = scan.page();
         let word = self.pages.word(page);
         if is_claimable_at(word, page) {
             return self.then_do(cpu, &[Todo::Step(Step::Claim { word })]);
@@ -66,10 +66,9 @@ impl Machine {
             flusher,
             ReplayPhase::Scanning {
                 scan: Scan {
-                    inode: scan.inode,
-                    page: page + 1,
-                    quota: scan.quota,
+                    passed: scan.passed + 1,
                     noted: scan.noted || both,
+                    ..scan
                 },
             },
         );
@@ -96,7 +95,7 @@ impl Machine {
     {
         match self.phase(flusher) {
             ReplayPhase::Scanning { scan } => {
-                if self.pages.word(scan.page) == word {
+                if self.pages.word(scan.page()) == word {
                     self.claim_now(cpu, flusher, scan)?;
                 }
                 self.plain_step(cpu, StepKind::Claim)
@@ -111,20 +110,17 @@ impl Machine {
     fn claim_now(&mut self, cpu: u32, flusher: u32, scan: Scan) -> Result<(), AllocError>
         requires cpu { cpu < length (seen self.old).cpus }
         requires flusher { flusher < length (seen self.old).flushers }
-        requires page { scan.page < (seen self.old).pages }
-        requires next { scan.page + 1 < 2 ^ 32 }
+        requires page { ComesTo scan (seen self.old).pages }
         ensures { OnOk result (seen self.new ≡ spec.claim_now cpu flusher scan (seen self.old)) }
     {
-        let page = scan.page;
+        let page = scan.page();
         self.set_claimed(page);
         let at = &mut self.flushers[flusher as usize];
         at.batch.push_back(page)?;
         at.phase = ReplayPhase::Scanning {
             scan: Scan {
-                inode: scan.inode,
-                page: page + 1,
-                quota: scan.quota,
-                noted: scan.noted,
+                passed: scan.passed + 1,
+                ..scan
             },
         };
         self.log(cpu, Entry::Claimed { flusher, page })?;
@@ -151,10 +147,10 @@ impl Machine {
     {
         match self.phase(flusher) {
             ReplayPhase::Scanning { scan } => {
-                let end = end_of(trace, scan.inode);
                 let pages = self.flushers[flusher as usize].batch.len() as u64;
-                if end <= scan.page || scan.quota <= pages {
-                    self.close_now(cpu, scan.inode, scan.noted || scan.page < end)
+                if scan.pages <= scan.passed || scan.quota <= pages {
+                    self.keep_place(trace, flusher, &scan);
+                    self.close_now(cpu, scan.inode, scan.noted || scan.passed < scan.pages)
                 } else {
                     Ok(())
                 }
@@ -163,6 +159,19 @@ impl Machine {
             | ReplayPhase::Taken { .. }
             | ReplayPhase::Flying { .. }
             | ReplayPhase::Finished => { Ok(()) }
+        }
+    }
+
+    // The next scan of the inode begins at the place to which this one has come, where the device says so.
+    #[tactic(auto, using(crate::proofs::Scanning::stays_placed))]
+    fn keep_place(&mut self, trace: &Trace, flusher: u32, scan: &Scan)
+        requires fits { ScanFits trace.now flusher scan.now (seen self.old) }
+        ensures { seen self.new ≡ spec.keep_place trace.now flusher scan.now (seen self.old) }
+    {
+        if device_at(trace, flusher_device(trace, flusher)).cyclic {
+            self.flushers[flusher as usize]
+                .places
+                .put(scan.inode, scan.place());
         }
     }
 

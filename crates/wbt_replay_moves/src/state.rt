@@ -9,6 +9,7 @@ use wbt_journal::{CheckEntry, Entry, EstEntry, TimerEntry};
 use wbt_num::{Items, Limits, Queue, Row};
 use wbt_rules::Scan;
 use wbt_task::{CpuLocal, Writer};
+use wbt_trace::Pace;
 
 /// Who makes moves.
 #[derive(Clone, Copy)]
@@ -142,6 +143,9 @@ pub struct ReplayTask {
     pub context: u32,
     /// Its writers, one for each context.
     pub writers: Row<Writer>,
+    /// When it rests between its pages, and how many it has written since it began or rested so.
+    pub pace: Option<Pace>,
+    pub since: u32,
 }
 
 /// What a flusher is at.
@@ -174,6 +178,8 @@ pub struct Flusher {
     pub weighs: Items<u32>,
     /// The inodes that it has noticed and not taken yet, where its device is ageing.
     pub wheel: Option<Wheel>,
+    /// By inode: the place at which its next scan begins, where the flusher's device is cyclic.
+    pub places: Row<u32>,
 }
 
 /// A domain of dirty pages.

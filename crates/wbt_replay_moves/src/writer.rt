@@ -7,7 +7,7 @@ ghost use Rattle.wbt_task.specs.History.{wrote_page, wrote_writer};
 ghost use Rattle.wbt_replay_moves.specs.Definition.Check as checks;
 ghost use Rattle.wbt_rules.specs.Things.{context_of as context_value};
 ghost use Rattle.wbt_replay_moves.specs.Definition.State.{cpu_of, task_of, with_task};
-ghost use Rattle.wbt_replay_moves.specs.Kept.Fit.{HasInode, WriteFits, RestFits, CountFits, DirtyFits, EndFits, TaskBegins, TaskEnds};
+ghost use Rattle.wbt_replay_moves.specs.Kept.Fit.{HasInode, WriteFits, PauseFits, RestFits, CountFits, DirtyFits, EndFits, TaskBegins, TaskEnds};
 ghost use Rattle.wbt_replay_moves.specs.Seen.{seen};
 
 use crate::machine::Machine;
@@ -18,7 +18,7 @@ use wbt_counter::Counter;
 use wbt_grant::StepKind;
 use wbt_journal::Entry;
 use wbt_num::Queue;
-use wbt_rules::{context_of, device_of, group_of};
+use wbt_rules::{context_of, device_of, group_of, pause_of, since_after};
 use wbt_task::{CpuLocal, Due, Writer, end_task, page_done};
 use wbt_trace::Trace;
 
@@ -90,17 +90,42 @@ impl Machine {
     fn begin_work(&mut self, cpu: u32, task: u32) -> Result<(), AllocError>
         requires cpu { cpu < length (seen self.old).cpus }
         requires task { task < length (seen self.old).tasks }
-        requires rest { RestFits (seen self.old).now (task_of task (seen self.old)).works }
+        requires rest { RestFits (seen self.old).now (spec.pause_in (task_of task (seen self.old))) (task_of task (seen self.old)).works }
         ensures { OnOk result (seen self.new ≡ spec.begin_work cpu task (task_of task (seen self.old)).works (seen self.old)) }
     {
         match self.tasks[task as usize].works.front() {
             None => self.then_do(cpu, &[Todo::Silent(Silent::End)]),
             Some(ReplayWork::Rest { ticks }) => self.begin_rest(cpu, task, ticks),
-            Some(ReplayWork::Write { .. }) => self.then_do(
-                cpu,
-                &[Todo::Step(Step::Dirty), Todo::Silent(Silent::End)],
-            ),
+            Some(ReplayWork::Write { .. }) => self.begin_page(cpu, task),
         }
+    }
+
+    // The task, which has a page next, writes it, or rests right before it.
+    fn begin_page(&mut self, cpu: u32, task: u32) -> Result<(), AllocError>
+        requires cpu { cpu < length (seen self.old).cpus }
+        requires task { task < length (seen self.old).tasks }
+        requires pause { PauseFits (seen self.old).now (spec.pause_in (task_of task (seen self.old))) }
+        ensures { OnOk result (seen self.new ≡ spec.begin_page cpu task (spec.pause_in (task_of task (seen self.old))) (seen self.old)) }
+    {
+        let at = &self.tasks[task as usize];
+        match pause_of(at.pace, at.since) {
+            None => self.then_do(cpu, &[Todo::Step(Step::Dirty), Todo::Silent(Silent::End)]),
+            Some(ticks) => self.begin_pause(cpu, task, ticks),
+        }
+    }
+
+    // The task rests from now on, before its next page.
+    fn begin_pause(&mut self, cpu: u32, task: u32, ticks: u64) -> Result<(), AllocError>
+        requires cpu { cpu < length (seen self.old).cpus }
+        requires task { task < length (seen self.old).tasks }
+        requires fits { (seen self.old).now + ticks < 2 ^ 64 }
+        ensures { OnOk result (seen self.new ≡ spec.begin_pause cpu task ticks (seen self.old)) }
+    {
+        let until = self.clock + ticks;
+        let at = &mut self.tasks[task as usize];
+        at.since = 0;
+        at.rest = until;
+        self.then_do(cpu, &[Todo::Silent(Silent::End)])
     }
 
     // The task, which has a rest next, rests from now on.
@@ -151,7 +176,8 @@ impl Machine {
         requires first { first (task_of task (seen self.old)).works ≡ Some (ReplayWork.Write inode page pages) }
         requires some { 1 ≤ pages }
         requires next { page + 1 < 2 ^ 32 }
-        ensures { OnOk result (seen self.new ≡ with_task task (record (task_of task (seen self.old)) { works = spec.without_page inode page pages (spec.after_first (task_of task (seen self.old)).works) }) (seen self.old)) }
+        requires since { (task_of task (seen self.old)).since + 1 < 2 ^ 32 }
+        ensures { OnOk result (seen self.new ≡ with_task task (spec.passed_page inode page pages (spec.after_first (task_of task (seen self.old)).works) (task_of task (seen self.old))) (seen self.old)) }
     {
         self.tasks[task as usize].pass_page(inode, page, pages)
     }
@@ -310,8 +336,10 @@ impl ReplayTask {
         requires first { first self.old.works ≡ Some (ReplayWork.Write inode page pages) }
         requires some { 1 ≤ pages }
         requires next { page + 1 < 2 ^ 32 }
-        ensures { OnOk result (self.new ≡ record self.old { works = spec.without_page inode page pages (spec.after_first self.old.works) }) }
+        requires since { self.old.since + 1 < 2 ^ 32 }
+        ensures { OnOk result (self.new ≡ spec.passed_page inode page pages (spec.after_first self.old.works) self.old) }
     {
+        self.since = since_after(self.pace, self.since);
         let _first = self.works.pop_front();
         if pages == 1 {
             return Ok(());

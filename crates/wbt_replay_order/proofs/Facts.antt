@@ -9,5 +9,7 @@ pub mod Over
 pub mod Pairs
 pub mod Settings
 pub mod Tasks
+pub mod Paces
 pub mod Parts
+pub mod Scans
 pub mod Things

@@ -18,19 +18,24 @@ pub record RunsWell (trace : Trace) : Type 0 where
   pub followed : IsFollowed trace
   pub ended : HasEnded trace
 
+-- the journal of a lawful trace's run is legal
 abbrev pub JournalsAreLegal : Type 0
 JournalsAreLegal = (trace : Trace) → IsLawful trace → RunsWell trace → law.IsLegal trace (journal_of trace)
 
+-- the journal of a run that isn't spent is lawful
 abbrev pub JournalsAreLawful : Type 0
 JournalsAreLawful = (trace : Trace) → IsLawful trace → RunsWell trace → CompletesAll trace
     → ((journal_of trace).ending ≡ ending.Spent → ⊥) → law.IsLawful trace (journal_of trace)
 
+-- each check of a run decides by the control law
 abbrev pub ChecksDecideByTheLaw : Type 0
 ChecksDecideByTheLaw = (trace : Trace) → IsLawful trace → RunsWell trace → AreDecided trace
 
+-- each domain's printed count is exact and within its bound
 abbrev pub CountsAreBounded : Type 0
 CountsAreBounded = (trace : Trace) → IsLawful trace → RunsWell trace → IsCounted trace × PrintsBound trace × IsBounded (journal_of trace)
     × IsBoundedCloser trace
 
+-- each context of a strict device stays within its bound
 abbrev pub StrictContextsAreBounded : Type 0
 StrictContextsAreBounded = (trace : Trace) → IsLawful trace → RunsWell trace → StaysWithinStrict trace

@@ -1,8 +1,7 @@
 -- Each state of a run is in range.
-use Rattle.std.proofs.Common.{◌≡◌, ℕ, false}
+use Rattle.std.proofs.Common.{ℕ}
 use Rattle.wbt_trace.specs.Lawful.{IsLawful}
 use Rattle.wbt_trace.specs.declared.trace.Trace.{Trace}
-use Rattle.wbt_replay_moves.specs.Definition.State.{State}
 use Rattle.wbt_replay_order.specs.Definition.Opening.{opening}
 use Rattle.wbt_replay_order.specs.Definition.Run.{state_at}
 use Rattle.wbt_replay_order.specs.Kept.InRange.{IsInRange, StaysInRange}

@@ -2,7 +2,7 @@
 //!
 //! ```text
 //! pages    the bits of pages in a replay
-//! replays  memory is enough for small replays, and a sink that fails
+//! replays  memory is enough for small replays, the rests of a pace, and a sink that fails
 //! ```
 #![tactic(auto)]
 

@@ -30,6 +30,17 @@ const ONE_A_SCAN: &[u8] =
 const SLOW_AT_FIRST: &[u8] =
     b"cpus 1\navail 0 100000\navail 150 50000\ndevice 0 25600 0 100\ncontext 0 0 0\nestimate 0 100 100 50\ninode 0 0 2\ntask 0 0\nflusher 0 0 0\nrest 0 300\nwrite 0 0 0 1\n";
 
+// Inodes of two pages and of five, of which each scan takes one page, or two, and goes on where the last one ended.
+const ROUND_TWO: &[u8] =
+    b"cpus 1\navail 0 100000\ndevice 0 25600 0 100\ncontext 0 0 0\ninode 0 0 2\ntask 0 0\nflusher 0 0 0\nchunk 0 1\nwrite 0 0 0 2\ncyclic 0\n";
+
+const ROUND_FIVE: &[u8] =
+    b"cpus 1\navail 0 100000\ndevice 0 25600 0 100\ncontext 0 0 0\ninode 0 0 5\ntask 0 0\nflusher 0 0 0\nchunk 0 2\nwrite 0 0 0 5\ncyclic 0\n";
+
+// A task that rests for its pace before pages 2, 4 and 6.
+const PACED: &[u8] =
+    b"cpus 1\navail 0 100000\ndevice 0 25600 0 100\ncontext 0 0 0\ninode 0 0 7\ntask 0 0\npace 0 2 50\nflusher 0 0 0\nwrite 0 0 0 5\nrest 0 3\nwrite 0 0 5 2\n";
+
 // The texts of their journals.
 const EMPTY_TEXT: &[u8] =
     b"timer\nlimits 0 1 19995 9985 19995\ncpu 0\ncensus 0 0\ntotals 0 0\nend done\n";
@@ -48,6 +59,15 @@ const ONE_A_SCAN_TEXT: &[u8] =
 
 const SLOW_AT_FIRST_TEXT: &[u8] =
     b"timer\nlimits 0 1 19995 9985 19995\nlimits 0 201 9997 4992 19683\ncpu 0\nest 0 1 95 100 50 100 0 0 201\nwrite 0 0 fresh\nclaim 0 0\nbatch 0 1 301 302\ndone 0 0\nshare 0 0 1\nsteps\nstep 1 0 first 0 21067\nstep 2 0 middle 0 21067\nstep 3 0 limits 0 21067\nstep 4 0 count 0 21067\nstep 5 0 first 0 21067\nstep 6 0 middle 0 21067\nstep 7 0 limits 0 21067\nstep 8 0 count 0 21067\nstep 9 0 first 0 21067\nstep 10 0 middle 0 21067\nstep 11 0 limits 0 21067\nstep 12 0 count 0 21067\nstep 13 0 count 0 21067\nstep 14 timer count 0 21067\nstep 15 timer peak 0 21067\nstep 16 timer unseal 0 21067\nstep 17 timer thresh 0 21067\nstep 18 timer publish 0 21067\nstep 19 0 dirty 1 21067\nstep 20 0 add 1 21067\nstep 21 0 add 1 21067\nstep 22 0 mark 1 21067\nstep 23 0 unmark 1 21067\nstep 24 0 look 1 21067\nstep 25 0 claim 1 21067\nstep 26 0 look 1 21067\nstep 27 0 complete 0 21067\nstep 28 0 add 0 21067\nstep 29 0 add 0 21067\ncensus 0 0\ntotals 1 1\nend done\n";
+
+const ROUND_TWO_TEXT: &[u8] =
+    b"timer\nlimits 0 1 19995 9985 19995\ncpu 0\nwrite 0 0 fresh\nwrite 0 1 fresh\nclaim 0 0\nbatch 0 1 1 2\ndone 0 0\nshare 0 0 1\nclaim 0 1\nbatch 0 1 2 3\ndone 0 1\nshare 0 0 1\nsteps\nstep 1 0 dirty 1 21067\nstep 2 0 add 1 21067\nstep 3 0 add 1 21067\nstep 4 0 mark 1 21067\nstep 5 0 first 1 21067\nstep 6 0 middle 1 21067\nstep 7 0 limits 1 21067\nstep 8 0 count 1 21067\nstep 9 0 dirty 2 21067\nstep 10 0 add 2 21067\nstep 11 0 add 2 21067\nstep 12 0 mark 2 21067\nstep 13 0 unmark 2 21067\nstep 14 0 look 2 21067\nstep 15 0 claim 2 21067\nstep 16 0 mark 2 21067\nstep 17 0 complete 1 21067\nstep 18 0 add 1 21067\nstep 19 0 add 1 21067\nstep 20 0 unmark 1 21067\nstep 21 0 look 1 21067\nstep 22 0 claim 1 21067\nstep 23 0 mark 1 21067\nstep 24 0 complete 0 21067\nstep 25 0 add 0 21067\nstep 26 0 add 0 21067\nstep 27 0 unmark 0 21067\nstep 28 0 look 0 21067\nstep 29 0 look 0 21067\ncensus 0 0\ntotals 2 2\nend done\n";
+
+const ROUND_FIVE_TEXT: &[u8] =
+    b"timer\nlimits 0 1 19995 9985 19995\ncpu 0\nwrite 0 0 fresh\nwrite 0 1 fresh\nwrite 0 2 fresh\nwrite 0 3 fresh\nwrite 0 4 fresh\nclaim 0 0\nclaim 0 1\nbatch 0 2 1 2\ndone 0 0\ndone 0 1\nshare 0 0 2\nclaim 0 2\nclaim 0 3\nbatch 0 2 2 3\ndone 0 2\ndone 0 3\nshare 0 0 2\nclaim 0 4\nbatch 0 1 3 4\ndone 0 4\nshare 0 0 1\nsteps\nstep 1 0 dirty 1 21067\nstep 2 0 add 1 21067\nstep 3 0 add 1 21067\nstep 4 0 mark 1 21067\nstep 5 0 first 1 21067\nstep 6 0 middle 1 21067\nstep 7 0 limits 1 21067\nstep 8 0 count 1 21067\nstep 9 0 dirty 2 21067\nstep 10 0 add 2 21067\nstep 11 0 add 2 21067\nstep 12 0 mark 2 21067\nstep 13 0 dirty 3 21067\nstep 14 0 add 3 21067\nstep 15 0 add 3 21067\nstep 16 0 mark 3 21067\nstep 17 0 dirty 4 21067\nstep 18 0 add 4 21067\nstep 19 0 add 4 21067\nstep 20 0 mark 4 21067\nstep 21 0 dirty 5 21067\nstep 22 0 add 5 21067\nstep 23 0 add 5 21067\nstep 24 0 mark 5 21067\nstep 25 0 unmark 5 21067\nstep 26 0 look 5 21067\nstep 27 0 claim 5 21067\nstep 28 0 look 5 21067\nstep 29 0 claim 5 21067\nstep 30 0 mark 5 21067\nstep 31 0 complete 4 21067\nstep 32 0 add 4 21067\nstep 33 0 add 4 21067\nstep 34 0 complete 3 21067\nstep 35 0 add 3 21067\nstep 36 0 add 3 21067\nstep 37 0 unmark 3 21067\nstep 38 0 look 3 21067\nstep 39 0 claim 3 21067\nstep 40 0 look 3 21067\nstep 41 0 claim 3 21067\nstep 42 0 mark 3 21067\nstep 43 0 complete 2 21067\nstep 44 0 add 2 21067\nstep 45 0 add 2 21067\nstep 46 0 complete 1 21067\nstep 47 0 add 1 21067\nstep 48 0 add 1 21067\nstep 49 0 unmark 1 21067\nstep 50 0 look 1 21067\nstep 51 0 claim 1 21067\nstep 52 0 look 1 21067\nstep 53 0 look 1 21067\nstep 54 0 look 1 21067\nstep 55 0 look 1 21067\nstep 56 0 complete 0 21067\nstep 57 0 add 0 21067\nstep 58 0 add 0 21067\ncensus 0 0\ntotals 5 5\nend done\n";
+
+const PACED_TEXT: &[u8] =
+    b"timer\nlimits 0 1 19995 9985 19995\ncpu 0\nwrite 0 0 fresh\nwrite 0 1 fresh\nwrite 0 2 fresh\nwrite 0 3 fresh\nwrite 0 4 fresh\nwrite 0 5 fresh\nwrite 0 6 fresh\nclaim 0 0\nclaim 0 1\nclaim 0 2\nclaim 0 3\nclaim 0 4\nclaim 0 5\nclaim 0 6\nbatch 0 7 154 155\ndone 0 0\ndone 0 1\ndone 0 2\ndone 0 3\ndone 0 4\ndone 0 5\ndone 0 6\nshare 0 0 7\nsteps\nstep 1 0 dirty 1 21067\nstep 2 0 add 1 21067\nstep 3 0 add 1 21067\nstep 4 0 mark 1 21067\nstep 5 0 first 1 21067\nstep 6 0 middle 1 21067\nstep 7 0 limits 1 21067\nstep 8 0 count 1 21067\nstep 9 0 dirty 2 21067\nstep 10 0 add 2 21067\nstep 11 0 add 2 21067\nstep 12 0 mark 2 21067\nstep 13 0 dirty 3 21067\nstep 14 0 add 3 21067\nstep 15 0 add 3 21067\nstep 16 0 mark 3 21067\nstep 17 0 dirty 4 21067\nstep 18 0 add 4 21067\nstep 19 0 add 4 21067\nstep 20 0 mark 4 21067\nstep 21 0 first 4 21067\nstep 22 0 middle 4 21067\nstep 23 0 limits 4 21067\nstep 24 0 count 4 21067\nstep 25 0 dirty 5 21067\nstep 26 0 add 5 21067\nstep 27 0 add 5 21067\nstep 28 0 mark 5 21067\nstep 29 0 dirty 6 21067\nstep 30 0 add 6 21067\nstep 31 0 add 6 21067\nstep 32 0 mark 6 21067\nstep 33 0 dirty 7 21067\nstep 34 0 add 7 21067\nstep 35 0 add 7 21067\nstep 36 0 mark 7 21067\nstep 37 0 unmark 7 21067\nstep 38 0 look 7 21067\nstep 39 0 claim 7 21067\nstep 40 0 look 7 21067\nstep 41 0 claim 7 21067\nstep 42 0 look 7 21067\nstep 43 0 claim 7 21067\nstep 44 0 look 7 21067\nstep 45 0 claim 7 21067\nstep 46 0 look 7 21067\nstep 47 0 claim 7 21067\nstep 48 0 look 7 21067\nstep 49 0 claim 7 21067\nstep 50 0 look 7 21067\nstep 51 0 claim 7 21067\nstep 52 0 complete 6 21067\nstep 53 0 add 6 21067\nstep 54 0 add 6 21067\nstep 55 0 complete 5 21067\nstep 56 0 add 5 21067\nstep 57 0 add 5 21067\nstep 58 0 complete 4 21067\nstep 59 0 add 4 21067\nstep 60 0 add 4 21067\nstep 61 0 complete 3 21067\nstep 62 0 add 3 21067\nstep 63 0 add 3 21067\nstep 64 0 complete 2 21067\nstep 65 0 add 2 21067\nstep 66 0 add 2 21067\nstep 67 0 complete 1 21067\nstep 68 0 add 1 21067\nstep 69 0 add 1 21067\nstep 70 0 complete 0 21067\nstep 71 0 add 0 21067\nstep 72 0 add 0 21067\ncensus 0 0\ntotals 7 7\nend done\n";
 
 // What came of writing a text to a sink.
 #[derive(Drop)]
@@ -87,11 +107,42 @@ fn memory_is_enough_for_small_runs(rt: HostRuntime) -> Result<(), Fail> {
         (CHECKS, CHECKS_TEXT),
         (ONE_A_SCAN, ONE_A_SCAN_TEXT),
         (SLOW_AT_FIRST, SLOW_AT_FIRST_TEXT),
+        (ROUND_TWO, ROUND_TWO_TEXT),
+        (ROUND_FIVE, ROUND_FIVE_TEXT),
+        (PACED, PACED_TEXT),
     ] {
         let printed = print_run(rt.alloc(), trace, 99)?;
         assert_eq!(rt; printed.end, Ok(()));
         assert_eq!(rt; printed.faults, 0);
         assert_eq!(rt; printed.held.as_slice(), text);
+    }
+    Ok(())
+}
+
+// A task whose last page ends its pace's count, and one at whose third page a rest line and a rest of its pace come together; and the same
+// with the rests as lines.
+const PACE_TO_THE_END: &[u8] =
+    b"cpus 1\navail 0 100000\ndevice 0 25600 0 100\ncontext 0 0 0\ninode 0 0 4\ntask 0 0\npace 0 2 50\nflusher 0 0 0\nwrite 0 0 0 4\n";
+
+const CUT_TO_THE_END: &[u8] =
+    b"cpus 1\navail 0 100000\ndevice 0 25600 0 100\ncontext 0 0 0\ninode 0 0 4\ntask 0 0\nflusher 0 0 0\nwrite 0 0 0 2\nrest 0 50\nwrite 0 0 2 2\n";
+
+const PACE_AFTER_A_REST: &[u8] =
+    b"cpus 1\navail 0 100000\ndevice 0 25600 0 100\ncontext 0 0 0\ninode 0 0 4\ntask 0 0\npace 0 2 50\nflusher 0 0 0\nwrite 0 0 0 2\nrest 0 300\nwrite 0 0 2 1\n";
+
+const CUT_AFTER_A_REST: &[u8] =
+    b"cpus 1\navail 0 100000\ndevice 0 25600 0 100\ncontext 0 0 0\ninode 0 0 4\ntask 0 0\nflusher 0 0 0\nwrite 0 0 0 2\nrest 0 300\nrest 0 50\nwrite 0 0 2 1\n";
+
+#[test]
+fn a_pace_rests_where_lines_would(rt: HostRuntime) -> Result<(), Fail> {
+    for (paced, cut) in [
+        (PACE_TO_THE_END, CUT_TO_THE_END),
+        (PACE_AFTER_A_REST, CUT_AFTER_A_REST),
+    ] {
+        let found = print_run(rt.alloc(), paced, 99)?;
+        let wanted = print_run(rt.alloc(), cut, 99)?;
+        assert_eq!(rt; found.end, Ok(()));
+        assert_eq!(rt; found.held.as_slice(), wanted.held.as_slice());
     }
     Ok(())
 }

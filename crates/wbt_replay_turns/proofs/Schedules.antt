@@ -41,6 +41,7 @@ scheduled_lawful trace lawful choices h =
         inodes = w.inodes;
         tasks = w.tasks;
         few_tasks = w.few_tasks;
+        paces = w.paces;
         flushers = w.flushers;
         few_flushers = w.few_flushers;
         actions = w.actions;

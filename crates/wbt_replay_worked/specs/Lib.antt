@@ -7,5 +7,6 @@ pub mod WorkedDisks
 pub mod WorkedEstimates
 pub mod WorkedOpening
 pub mod WorkedOrders
+pub mod WorkedPaces
 pub mod WorkedStrict
 pub mod WorkedTimer

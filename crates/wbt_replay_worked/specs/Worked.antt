@@ -20,11 +20,11 @@ small pages actions = record {
   cap = 1024;
   settings = no_settings;
   avail = (record { from = 0; pages = 100000 }) ∷ [];
-  devices = (record { rate = 25600; min = 0; max = 100; strict = false; chunk = None }) ∷ [];
+  devices = (record { rate = 25600; min = 0; max = 100; strict = false; chunk = None; cyclic = false }) ∷ [];
   cgroups = [];
   contexts = (record { device = 0; domain = 0; expire = None; estimate = None }) ∷ [];
   inodes = (record { context = 0; first = 0; pages = pages }) ∷ [];
-  tasks = (record { cpu = 0 }) ∷ [];
+  tasks = (record { cpu = 0; pace = None }) ∷ [];
   flushers = (record { device = 0; cpu = 0 }) ∷ [];
   actions = actions;
   order = [];
@@ -33,17 +33,21 @@ small pages actions = record {
 
 -- ---- nothing is written
 
+-- a task that does nothing
 abbrev pub empty_trace : Trace
 empty_trace = small 2 []
 
+-- the limits of the opening, and no step
 abbrev pub empty_text : List ℕ
 empty_text = codes "timer\nlimits 0 1 19995 9985 19995\ncpu 0\ncensus 0 0\ntotals 0 0\nend done\n"
 
+-- the ordered run of this trace has just this journal
 unfoldable pub EmptyRun : Type 0
 EmptyRun = journal_text (journal_of empty_trace) ≡ empty_text
 
 -- ---- two pages are written
 
+-- a task writes the two pages of an inode
 abbrev pub two_pages_trace : Trace
 two_pages_trace = small 2 (Write 0 0 0 2 ∷ [])
 
@@ -56,14 +60,17 @@ two_pages_parts = codes "timer\nlimits 0 1 19995 9985 19995\ncpu 0\nwrite 0 0 fr
 abbrev pub two_pages_steps : List ℕ
 two_pages_steps = codes "steps\nstep 1 0 dirty 1 21067\nstep 2 0 add 1 21067\nstep 3 0 add 1 21067\nstep 4 0 mark 1 21067\nstep 5 0 first 1 21067\nstep 6 0 middle 1 21067\nstep 7 0 limits 1 21067\nstep 8 0 count 1 21067\nstep 9 0 dirty 2 21067\nstep 10 0 add 2 21067\nstep 11 0 add 2 21067\nstep 12 0 mark 2 21067\nstep 13 0 unmark 2 21067\nstep 14 0 look 2 21067\nstep 15 0 claim 2 21067\nstep 16 0 look 2 21067\nstep 17 0 claim 2 21067\nstep 18 0 complete 1 21067\nstep 19 0 add 1 21067\nstep 20 0 add 1 21067\nstep 21 0 complete 0 21067\nstep 22 0 add 0 21067\nstep 23 0 add 0 21067\n"
 
+-- nothing is left; the sums, and how the run ended
 abbrev pub two_pages_end : List ℕ
 two_pages_end = codes "census 0 0\ntotals 2 2\nend done\n"
 
+-- the ordered run of this trace has just this journal
 unfoldable pub TwoPagesRun : Type 0
 TwoPagesRun = journal_text (journal_of two_pages_trace) ≡ two_pages_parts ++ two_pages_steps ++ two_pages_end
 
 -- ---- eight pages are written
 
+-- a task writes the eight pages of an inode
 abbrev pub eight_pages_trace : Trace
 eight_pages_trace = small 8 (Write 0 0 0 8 ∷ [])
 
@@ -75,9 +82,11 @@ eight_pages_parts = codes "timer\nlimits 0 1 19995 9985 19995\ncpu 0\nwrite 0 0 
 abbrev pub eight_pages_steps : List ℕ
 eight_pages_steps = codes "steps\nstep 1 0 dirty 1 21067\nstep 2 0 add 1 21067\nstep 3 0 add 1 21067\nstep 4 0 mark 1 21067\nstep 5 0 first 1 21067\nstep 6 0 middle 1 21067\nstep 7 0 limits 1 21067\nstep 8 0 count 1 21067\nstep 9 0 dirty 2 21067\nstep 10 0 add 2 21067\nstep 11 0 add 2 21067\nstep 12 0 mark 2 21067\nstep 13 0 dirty 3 21067\nstep 14 0 add 3 21067\nstep 15 0 add 3 21067\nstep 16 0 mark 3 21067\nstep 17 0 dirty 4 21067\nstep 18 0 add 4 21067\nstep 19 0 add 4 21067\nstep 20 0 mark 4 21067\nstep 21 0 dirty 5 21067\nstep 22 0 add 5 21067\nstep 23 0 add 5 21067\nstep 24 0 mark 5 21067\nstep 25 0 dirty 6 21067\nstep 26 0 add 6 21067\nstep 27 0 add 6 21067\nstep 28 0 mark 6 21067\nstep 29 0 dirty 7 21067\nstep 30 0 add 7 21067\nstep 31 0 add 7 21067\nstep 32 0 mark 7 21067\nstep 33 0 dirty 8 21067\nstep 34 0 add 8 21067\nstep 35 0 fold 8 21067\nstep 36 0 clear 8 21067\nstep 37 0 add 8 21067\nstep 38 0 mark 8 21067\nstep 39 0 unmark 8 21067\nstep 40 0 look 8 21067\nstep 41 0 claim 8 21067\nstep 42 0 look 8 21067\nstep 43 0 claim 8 21067\nstep 44 0 look 8 21067\nstep 45 0 claim 8 21067\nstep 46 0 look 8 21067\nstep 47 0 claim 8 21067\nstep 48 0 look 8 21067\nstep 49 0 claim 8 21067\nstep 50 0 look 8 21067\nstep 51 0 claim 8 21067\nstep 52 0 look 8 21067\nstep 53 0 claim 8 21067\nstep 54 0 look 8 21067\nstep 55 0 claim 8 21067\nstep 56 0 complete 7 21067\nstep 57 0 add 7 21067\nstep 58 0 add 7 21067\nstep 59 0 complete 6 21067\nstep 60 0 add 6 21067\nstep 61 0 add 6 21067\nstep 62 0 complete 5 21067\nstep 63 0 add 5 21067\nstep 64 0 add 5 21067\nstep 65 0 complete 4 21067\nstep 66 0 add 4 21067\nstep 67 0 add 4 21067\nstep 68 0 complete 3 21067\nstep 69 0 add 3 21067\nstep 70 0 add 3 21067\nstep 71 0 complete 2 21067\nstep 72 0 add 2 21067\nstep 73 0 add 2 21067\nstep 74 0 complete 1 21067\nstep 75 0 add 1 21067\nstep 76 0 add 1 21067\nstep 77 0 complete 0 21067\nstep 78 0 add 0 21067\nstep 79 0 fold 0 21067\nstep 80 0 clear 0 21067\nstep 81 0 add 0 21067\n"
 
+-- nothing is left; the sums, and how the run ended
 abbrev pub eight_pages_end : List ℕ
 eight_pages_end = codes "census 0 0\ntotals 8 8\nend done\n"
 
+-- the ordered run of this trace has just this journal
 unfoldable pub EightPagesRun : Type 0
 EightPagesRun = journal_text (journal_of eight_pages_trace) ≡ eight_pages_parts ++ eight_pages_steps ++ eight_pages_end
 
@@ -91,11 +100,11 @@ two_cpus_trace = record {
   cap = 1024;
   settings = no_settings;
   avail = (record { from = 0; pages = 100000 }) ∷ [];
-  devices = (record { rate = 25600; min = 0; max = 100; strict = false; chunk = None }) ∷ [];
+  devices = (record { rate = 25600; min = 0; max = 100; strict = false; chunk = None; cyclic = false }) ∷ [];
   cgroups = [];
   contexts = (record { device = 0; domain = 0; expire = None; estimate = None }) ∷ [];
   inodes = (record { context = 0; first = 0; pages = 2 }) ∷ [];
-  tasks = (record { cpu = 0 }) ∷ (record { cpu = 1 }) ∷ [];
+  tasks = (record { cpu = 0; pace = None }) ∷ (record { cpu = 1; pace = None }) ∷ [];
   flushers = (record { device = 0; cpu = 1 }) ∷ [];
   actions = Write 0 0 0 1 ∷ Write 1 0 1 1 ∷ [];
   order = Steps 0 2 ∷ Steps 1 1 ∷ Steps 0 1 ∷ [];
@@ -111,8 +120,10 @@ two_cpus_parts = codes "timer\nlimits 0 1 19995 9985 19995\ncpu 0\nwrite 0 0 fre
 abbrev pub two_cpus_steps : List ℕ
 two_cpus_steps = codes "steps\nstep 1 0 dirty 1 22171\nstep 2 0 add 1 22171\nstep 3 1 dirty 2 22171\nstep 4 0 add 2 22171\nstep 5 0 mark 2 22171\nstep 6 1 add 2 22171\nstep 7 1 add 2 22171\nstep 8 1 mark 2 22171\nstep 9 1 unmark 2 22171\nstep 10 1 look 2 22171\nstep 11 1 claim 2 22171\nstep 12 1 look 2 22171\nstep 13 1 claim 2 22171\nstep 14 1 complete 1 22171\nstep 15 1 add 1 22171\nstep 16 1 add 1 22171\nstep 17 1 complete 0 22171\nstep 18 1 add 0 22171\nstep 19 1 add 0 22171\n"
 
+-- nothing is left; the sums, and how the run ended
 abbrev pub two_cpus_end : List ℕ
 two_cpus_end = codes "census 0 0\ntotals 2 2\nend done\n"
 
+-- the ordered run of this trace has just this journal
 unfoldable pub TwoCpusRun : Type 0
 TwoCpusRun = journal_text (journal_of two_cpus_trace) ≡ two_cpus_parts ++ two_cpus_steps ++ two_cpus_end

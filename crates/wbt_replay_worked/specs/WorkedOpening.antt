@@ -20,22 +20,26 @@ no_action_trace = record {
   cgroups = [];
   contexts = [];
   inodes = [];
-  tasks = (record { cpu = 0 }) ∷ [];
+  tasks = (record { cpu = 0; pace = None }) ∷ [];
   flushers = [];
   actions = [];
   order = Tick 200 ∷ Timer 5 ∷ [];
   halt = None;
 }
 
+-- what the timer did
 abbrev pub no_action_timer : List ℕ
 no_action_timer = codes "timer\nlimits 0 1 199 99 199\n"
 
+-- what CPU 0 did
 abbrev pub no_action_cpu_0 : List ℕ
 no_action_cpu_0 = codes "cpu 0\n"
 
+-- nothing is left; the sums, and how the run ended
 abbrev pub no_action_end : List ℕ
 no_action_end = codes "census 0 0\ntotals 0 0\nend done\n"
 
+-- the ordered run of this trace has just this journal
 unfoldable pub NoActionRun : Type 0
 NoActionRun = journal_text (journal_of no_action_trace) ≡ no_action_timer ++ no_action_cpu_0 ++ no_action_end
 
@@ -45,6 +49,7 @@ NoActionRun = journal_text (journal_of no_action_trace) ≡ no_action_timer ++ n
 abbrev pub odd_settings : Settings
 odd_settings = record { ratio = 20; bg_ratio = 10; bytes = 24577; bg_bytes = 24577 }
 
+-- one CPU and two cgroups, of 57 and of 99 pages
 abbrev pub odd_limits_trace : Trace
 odd_limits_trace = record {
   cpus = 1;
@@ -67,11 +72,14 @@ odd_limits_trace = record {
 abbrev pub odd_limits_timer : List ℕ
 odd_limits_timer = codes "timer\nlimits 0 1 7 3 7\nlimits 1 1 3 1 3\nlimits 2 1 5 2 5\n"
 
+-- what CPU 0 did
 abbrev pub odd_limits_cpu_0 : List ℕ
 odd_limits_cpu_0 = codes "cpu 0\n"
 
+-- nothing is left; the sums, and how the run ended
 abbrev pub odd_limits_end : List ℕ
 odd_limits_end = codes "census 0 0\ntotals 0 0\nend done\n"
 
+-- the ordered run of this trace has just this journal
 unfoldable pub OddLimitsRun : Type 0
 OddLimitsRun = journal_text (journal_of odd_limits_trace) ≡ odd_limits_timer ++ odd_limits_cpu_0 ++ odd_limits_end

@@ -3,10 +3,11 @@
 ghost use Rattle.wbt_replay_worked.specs.WorkedAgain.{DirtyAgainRun};
 ghost use Rattle.wbt_replay_worked.specs.WorkedAges.{AgedPageRun, WaitingInodeRun};
 ghost use Rattle.wbt_replay_worked.specs.WorkedChecks.{CheckedRun};
-ghost use Rattle.wbt_replay_worked.specs.WorkedChunks.{ChunkedRun};
+ghost use Rattle.wbt_replay_worked.specs.WorkedChunks.{ChunkedRun, CyclicRun};
 ghost use Rattle.wbt_replay_worked.specs.WorkedOrders.{LastRestRun, HaltedRun, BeforeClearRun, SameReadingRun, MissedClaimRun};
 ghost use Rattle.wbt_replay_worked.specs.Worked.{EmptyRun, TwoPagesRun, EightPagesRun, TwoCpusRun};
 ghost use Rattle.wbt_replay_worked.specs.WorkedDisks.{TwoDisksRun};
+ghost use Rattle.wbt_replay_worked.specs.WorkedPaces.{PacedRun};
 ghost use Rattle.wbt_replay_worked.specs.WorkedStrict.{StrictPagesRun, StrictWeighedRun};
 ghost use Rattle.wbt_replay_worked.specs.WorkedTimer.{RestingRun, EstimatedRun, CutTurnRun, UnsealedRun, OvertakenRun};
 ghost use Rattle.wbt_replay_worked.specs.WorkedOpening.{NoActionRun, OddLimitsRun};
@@ -169,8 +170,20 @@ pub fn chunked_run()
     ensures { ChunkedRun }
 {}
 
+/// The run of that trace where each scan begins at the place to which the one before it came: the second scan looks at page 1 alone, has one
+/// page then and marks the inode again in step 23, as it hasn't passed page 0, and a third one finds both pages clean.
+pub fn cyclic_run()
+    ensures { CyclicRun }
+{}
+
 /// The run of the trace whose task rests for 300 ticks, with a context that begins with 100 pages a second, 100 on average, and a rate limit
 /// of 50: the update at tick 201 goes on from these.
 pub fn given_estimate_run()
     ensures { GivenEstimateRun }
+{}
+
+/// The run of a trace whose task rests for 50 ticks after each two of its seven pages: the pages go to the disk in one flight at tick 154,
+/// after three such rests and one of 3 ticks that the trace has between the fifth page and the sixth.
+pub fn paced_run()
+    ensures { PacedRun }
 {}

@@ -3,3 +3,5 @@ pub mod Sharing
 pub mod Parts
 pub mod Quotas
 pub mod Openings
+pub mod Places
+pub mod Paces

@@ -14,6 +14,7 @@ is_over_background reading limits = nat_lt limits.bg reading
 abbrev pub HasLanded : (until now : ℕ) → Type 0
 HasLanded until now = until ≤ now
 
+-- decides whether the disk has written the batch
 abbrev pub has_landed : (until now : ℕ) → Bool
 has_landed until now = nat_le until now
 
@@ -23,6 +24,7 @@ has_landed until now = nat_le until now
 abbrev pub IsWithinChunk : (chunk : Option ℕ) (pages : ℕ) → Type 0
 IsWithinChunk chunk pages = IfSome chunk (λ most. pages ≤ most)
 
+-- decides whether a batch has no more pages than a device's line says
 abbrev pub is_within_chunk : (chunk : Option ℕ) (pages : ℕ) → Bool
 is_within_chunk None pages = true
 is_within_chunk (Some most) pages = nat_le pages most

@@ -6,3 +6,5 @@ pub mod Moments
 pub mod Strict
 pub mod Age
 pub mod First
+pub mod Places
+pub mod Pace

@@ -15,9 +15,11 @@ domains trace = suc (length trace.cgroups)
 abbrev pub inode_in : (inodes : List Inode) (inode : ℕ) → Inode
 inode_in inodes inode = get_or inodes inode (record { context = 0; first = 0; pages = 0 })
 
+-- a context by number, of these
 abbrev pub context_in : (contexts : List Context) (context : ℕ) → Context
 context_in contexts context = get_or contexts context (record { device = 0; domain = 0; expire = None; estimate = None })
 
+-- an inode of the trace by number
 abbrev pub inode_of : (trace : Trace) (inode : ℕ) → Inode
 inode_of trace inode = inode_in trace.inodes inode
 
@@ -29,9 +31,11 @@ context_of trace inode = (inode_of trace inode).context
 abbrev pub inode_end : (inode : Inode) → ℕ
 inode_end inode = inode.first + inode.pages
 
+-- the number of the page after an inode's last, by the inode's number
 abbrev pub end_of : (trace : Trace) (inode : ℕ) → ℕ
 end_of trace inode = inode_end (inode_of trace inode)
 
+-- a context of the trace by number
 abbrev pub context_at : (trace : Trace) (context : ℕ) → Context
 context_at trace context = context_in trace.contexts context
 
@@ -43,9 +47,11 @@ group_of trace context = (context_at trace context).domain
 abbrev pub device_of : (trace : Trace) (inode : ℕ) → ℕ
 device_of trace inode = (context_at trace (context_of trace inode)).device
 
+-- the device of a flusher
 abbrev pub flusher_device : (trace : Trace) (flusher : ℕ) → ℕ
 flusher_device trace flusher = (get_or trace.flushers flusher (record { device = 0; cpu = 0 })).device
 
+-- the CPU of a flusher
 abbrev pub flusher_cpu : (trace : Trace) (flusher : ℕ) → ℕ
 flusher_cpu trace flusher = (get_or trace.flushers flusher (record { device = 0; cpu = 0 })).cpu
 
@@ -58,8 +64,9 @@ first_flusher device number (flusher ∷ more) = if flusher.device == device the
 abbrev pub leads : (trace : Trace) (flusher : ℕ) → Bool
 leads trace flusher = first_flusher (flusher_device trace flusher) 0 trace.flushers == flusher
 
+-- a device of the trace by number
 abbrev pub device_at : (trace : Trace) (device : ℕ) → Device
-device_at trace device = get_or trace.devices device (record { rate = 1; min = 0; max = 100; strict = false; chunk = None })
+device_at trace device = get_or trace.devices device (record { rate = 1; min = 0; max = 100; strict = false; chunk = None; cyclic = false })
 
 -- how many pages the device writes in a second
 abbrev pub rate_of : (trace : Trace) (device : ℕ) → ℕ

@@ -13,9 +13,11 @@ abbrev pub avail_among : (now before : ℕ) (avails : List Avail) → ℕ
 avail_among now before [] = before
 avail_among now before (line ∷ more) = if nat_le line.from now then avail_among now line.pages more else avail_among now before more
 
+-- how many pages are available at a moment
 abbrev pub avail_at : (trace : Trace) (now : ℕ) → ℕ
 avail_at trace now = avail_among now 0 trace.avail
 
+-- the thresholds of the global domain at a moment, in pages
 abbrev pub global_at : (trace : Trace) (now : ℕ) → Pair
 global_at trace now = thresholds_of (avail_at trace now) trace.settings None
 

@@ -1,6 +1,8 @@
 //! The numbers of the model that no formula gives, each as a numeral. Each function's contract is a law; calling it does nothing.
 
 ghost use Rattle.std.specs.Prelude.{◌≡◌};
+ghost use Rattle.wbt_rules.specs.Pace.{RestsAtMultiples};
+ghost use Rattle.wbt_rules.specs.Places.{PassesEachOnce};
 ghost use Rattle.wbt_rules.specs.declared.age.TheConstants.{DEFAULT_EXPIRE, EXPIRE_TICKS, MOST_NOTICED};
 ghost use Rattle.wbt_rules.specs.declared.moments.TheConstants.{ESTIMATE_AGE, FLUSHER_REST, MOST_FAULTS, PERIOD_TICKS, RETRY_REST, TIMER_REST};
 
@@ -20,4 +22,16 @@ pub fn ages()
     ensures default { DEFAULT_EXPIRE ≡ 3000 }
     ensures ticks { EXPIRE_TICKS ≡ 10 }
     ensures noticed { MOST_NOTICED ≡ 64 }
+{}
+
+/// A scan that passes as many pages as its inode has passes each of them once, wherever it begins.
+#[tactic(auto, using(crate::proofs::Places::passes_each_once))]
+pub fn scans()
+    ensures { PassesEachOnce }
+{}
+
+/// A task with a pace of N pages rests for it right before each of its pages whose number, from 0, is a multiple of N above 0.
+#[tactic(auto, using(crate::proofs::Paces::rests_at_multiples))]
+pub fn paces()
+    ensures { RestsAtMultiples }
 {}

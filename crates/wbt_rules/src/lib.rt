@@ -23,6 +23,7 @@ mod flusher;
 pub mod laws;
 mod limits;
 mod moments;
+mod pace;
 mod read;
 mod scan;
 mod strict;
@@ -36,10 +37,11 @@ pub use moments::{
     ESTIMATE_AGE, FLUSHER_REST, MOST_FAULTS, PERIOD_TICKS, RETRY_REST, TIMER_REST, next_period,
     periods_by,
 };
+pub use pace::{pause_of, since_after};
 pub use read::part_read;
-pub use scan::Scan;
+pub use scan::{Scan, page_at, place_after};
 pub use strict::{is_over_own, is_strict};
 pub use things::{
     context_device, context_of, device_at, device_of, domains_of, end_of, first_of, flusher_device,
-    greatest_share, group_of, leads, least_shares, max_share, rate_of,
+    greatest_share, group_of, inode_at, leads, least_shares, max_share, rate_of,
 };

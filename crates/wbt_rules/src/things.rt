@@ -7,7 +7,7 @@ ghost use Rattle.wbt_rules.specs.Things as spec;
 ghost use Rattle.wbt_rules.specs.Things.{IsAbove};
 ghost use Rattle.wbt_trace.specs.Sofar.{least_shares as least_value};
 
-use wbt_trace::{Device, FlusherLine, Trace};
+use wbt_trace::{Device, FlusherLine, Inode, Trace};
 
 /// How many domains there are: the global one, and one for each cgroup.
 pub fn domains_of(trace: &Trace) -> u32
@@ -33,6 +33,14 @@ pub fn device_of(trace: &Trace, inode: u32) -> u32
 {
     let context = context_of(trace, inode);
     trace.contexts.as_slice()[context as usize].device
+}
+
+/// The inode of this number.
+pub fn inode_at(trace: &Trace, inode: u32) -> Inode
+    requires { inode < length trace.now.inodes }
+    ensures { result ≡ spec.inode_of trace.now inode }
+{
+    trace.inodes.as_slice()[inode as usize]
 }
 
 /// The number of the inode's first page.

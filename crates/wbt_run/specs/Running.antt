@@ -46,6 +46,7 @@ pub record TellMoments (told : ℕ → Type 0) (logs : List CpuJournal) (lines :
 abbrev pub IsShortCheck : (check : CheckEntry) → Type 0
 IsShortCheck check = check.decision.pause ≤ 200
 
+-- an entry's check, if it is one, pauses at most 200 ticks
 abbrev pub IsShort : (entry : Told) → Type 0
 IsShort entry = IfSome (effect entry).check IsShortCheck
 

@@ -15,9 +15,11 @@ use Rattle.wbt_trace.specs.declared.trace.Trace.{Trace}
 abbrev pub team_in : {D : Type 0} (written : D → Option ℕ) (faults : D → ℕ) (worker : Worker D) → Team
 team_in {D} written faults worker = team_of written faults worker.side
 
+-- the trace of a worker
 abbrev pub trace_in : {D : Type 0} (worker : Worker D) → Trace
 trace_in {D} worker = worker.side.writers.trace
 
+-- the CPU of a worker
 abbrev pub cpu_in : {D : Type 0} (worker : Worker D) → ℕ
 cpu_in {D} worker = worker.side.writers.cpu
 
@@ -26,6 +28,7 @@ pub record MayWork {D : Type 0} (signals : TableId) (written : D → Option ℕ)
   pub side : IsSide (trace_in worker) (cpu_in worker) kit (team_in written faults worker) worker.seats
   pub voice : MaySpeak signals worker.writes worker.voice
 
+-- where a worker stands between two turns: its team and its seats
 abbrev pub stance_in : {D : Type 0} (written : D → Option ℕ) (faults : D → ℕ) (worker : Worker D) → Stance
 stance_in written faults worker = stance_of written faults worker.side worker.seats
 
@@ -47,6 +50,7 @@ pub record HasWorked {D : Type 0} (told : ℕ → Type 0) (said : ℕ → ℕ �
   pub run : HasRun told said kit (Some new.side.end) (stance_in written faults old) (stance_in written faults new)
   pub speaks : HasSpoken old.voice.signals new.writes (Some new.side.end) old.voice new.voice
 
+-- the worker's side has ended: it needn't be served in turn
 abbrev pub HasEnded : {D : Type 0} (worker : Worker D) → Type 0
 HasEnded worker = worker.in_turn ≡ false
 
@@ -64,6 +68,7 @@ pub record HasGoneOn {D : Type 0} (signals : TableId) (told : ℕ → Type 0) (s
 abbrev pub AllMay : {W : Type 0} (may : W → Type 0) (workers : List W) → Type 0
 AllMay {W} may workers = (n : ℕ) (other : W) → n < length workers → may (get_or workers n other)
 
+-- each of these did so, by what it was and what it is
 abbrev pub AllDid : {W : Type 0} (did : W → W → Type 0) (old new : List W) → Type 0
 AllDid {W} did old new = (n : ℕ) (other : W) → n < length old → did (get_or old n other) (get_or new n other)
 
@@ -71,8 +76,10 @@ AllDid {W} did old new = (n : ℕ) (other : W) → n < length old → did (get_o
 abbrev pub AllMayWork : {D : Type 0} (signals : TableId) (written : D → Option ℕ) (faults : D → ℕ) (kit : Kit) (workers : List (Worker D)) → Type 0
 AllMayWork {D} signals written faults kit workers = AllMay (λ (worker : Worker D). MayWork signals written faults kit worker) workers
 
+-- each worker took turns until its side ended, or until it was to be served in turn
 abbrev pub AllHaveGone : {D : Type 0} (signals : TableId) (told : ℕ → Type 0) (said : ℕ → ℕ → Bool → Type 0) (written : D → Option ℕ) (faults : D → ℕ) (kit : Kit) (old new : List (Worker D)) → Type 0
 AllHaveGone {D} signals told said written faults kit old new = AllDid (λ (before behind : Worker D). HasGone signals told said written faults kit before behind) old new
 
+-- each worker took turns until its side ended
 abbrev pub AllHaveWorked : {D : Type 0} (told : ℕ → Type 0) (said : ℕ → ℕ → Bool → Type 0) (written : D → Option ℕ) (faults : D → ℕ) (kit : Kit) (old new : List (Worker D)) → Type 0
 AllHaveWorked {D} told said written faults kit old new = AllDid (λ (before behind : Worker D). HasWorked told said written faults kit before behind) old new

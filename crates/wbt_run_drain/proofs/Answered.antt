@@ -4,7 +4,7 @@ use Rattle.wbt_flusher.specs.Ages.{HasWheel}
 use Rattle.wbt_flusher.specs.Answers.{AreTold, FlusherAnswers, IsReady, IsUntouched, Went}
 use Rattle.wbt_flusher.specs.Did.{Moments, no_moments, OwesNothing}
 use Rattle.wbt_flusher.specs.Sights.{Sight, sight}
-use Rattle.wbt_flusher.specs.Turns.{AreProper, IsPhase, IsSteady}
+use Rattle.wbt_flusher.specs.Turns.{AreProper, ArePlaces, IsPhase, IsSteady}
 use Rattle.wbt_flusher.specs.declared.plan.FlusherPlan.{FlusherPlan}
 use Rattle.wbt_flusher.specs.declared.work.Phase.{Phase}
 use Rattle.wbt_flusher.specs.declared.work.Phase.TheVariants.{Failed}
@@ -54,6 +54,7 @@ module _ (plan : FlusherPlan) (kit : Kit) (old new : Sight) (ready : IsReady pla
       waiting = ap (λ w. length w.items) none.waiting ∙ ready.steady.lists.waiting;
       none_wait = λ nobody inode. ap (λ w. get_or w.items inode false) none.waiting ∙ ready.steady.lists.none_wait (sym none.some_wait ∙ nobody) inode;
       wheel = subst (HasWheel plan) (sym none.left.wheel) ready.steady.lists.wheel;
+      places = subst (λ v. ArePlaces plan v.items) (sym none.left.places) ready.steady.lists.places;
     };
     phase = subst (λ b. IsPhase plan b new.work.phase) (sym none.left.batch) (subst (λ (p : Phase). IsPhase plan old.work.batch.items p) (sym none.left.phase) ready.steady.phase);
     few_faults = omega (arith, none.left.faults, ready.steady.few_faults);

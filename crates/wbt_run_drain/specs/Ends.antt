@@ -27,18 +27,22 @@ EndsSo end side = (side.end ≡ end) ⊎ Any (IsOut end) side.posts.items
 abbrev pub SomeEnds : {D : Type 0} (end : End) (sides : List (CpuSide D)) → Type 0
 SomeEnds end sides = Any (EndsSo end) sides
 
+-- no CPU's side ended so, nor a flusher in the drain
 abbrev pub NoneEnds : {D : Type 0} (end : End) (sides : List (CpuSide D)) → Type 0
 NoneEnds end sides = SomeEnds end sides → ⊥
 
 -- ---- all tasks have ended, and each flusher is turned in the drain or was done there
 
+-- the flusher is turned in the drain, or was done there
 abbrev pub GoesOn : {D : Type 0} (post : Post D) → Type 0
 GoesOn post = (end : End) → post.stand ≡ Out end → ⊥
 
+-- all tasks of the side have ended, and each of its flushers goes on
 pub record HasEnded {D : Type 0} (side : CpuSide D) : Type 0 where
   pub ended : side.end ≡ Ended
   pub posts : Each GoesOn side.posts.items
 
+-- so it is of all sides
 abbrev pub HaveEnded : {D : Type 0} (sides : List (CpuSide D)) → Type 0
 HaveEnded sides = Each HasEnded sides
 

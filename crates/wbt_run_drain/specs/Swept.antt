@@ -86,6 +86,7 @@ IsInodeCleaned trace kit inode seats = (page : ℕ) → page < pages trace → (
 abbrev pub reopened : {D : Type 0} (device : ℕ) (post : Post D) → Post D
 reopened {D} device post = if post.flusher.plan.device == device then record post { stand = Open } else post
 
+-- the device's flushers of a side are turned again, and nothing else of it changed
 pub record IsReopened {D : Type 0} (device : ℕ) (old new : CpuSide D) : Type 0 where
   pub writers : new.writers ≡ old.writers
   pub posts : new.posts.items ≡ map (reopened device) old.posts.items

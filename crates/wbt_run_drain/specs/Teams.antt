@@ -13,15 +13,19 @@ use Rattle.wbt_run_laws.specs.Shown.{Shown, none_shown}
 use Rattle.wbt_run_laws.specs.Worker as turns
 use Rattle.wbt_writer.specs.Desk.{Desk, shown_of, sight}
 
+-- flushers as contracts see them, with what their disks tell
 abbrev pub posts_of : {D : Type 0} (written : D → Option ℕ) (faults : D → ℕ) (posts : List (Post D)) → List Seen
 posts_of {D} written faults posts = map (λ (post : Post D). seen written faults post) posts
 
+-- the writers and flushers of each CPU
 abbrev pub teams_of : {D : Type 0} (written : D → Option ℕ) (faults : D → ℕ) (sides : List (CpuSide D)) → List Team
 teams_of {D} written faults sides = map (λ (side : CpuSide D). team_of written faults side) sides
 
+-- the logs of the CPUs, in order
 abbrev pub logs_of : {D : Type 0} (sides : List (CpuSide D)) → List CpuJournal
 logs_of {D} sides = map (λ (side : CpuSide D). side.log) sides
 
+-- the writers of the CPUs, in order
 abbrev pub desks_of : {D : Type 0} (sides : List (CpuSide D)) → List Desk
 desks_of {D} sides = map (λ (side : CpuSide D). side.writers) sides
 
@@ -50,6 +54,7 @@ faults_told logs = sum_by (λ (log : CpuJournal). count_by is_fault (told_by log
 abbrev pub shown_there : (trace : Trace) (shown : Shown) → Shown
 shown_there trace shown = record shown { flushers = λ flusher. if nat_lt flusher (length trace.flushers) then shown.flushers flusher else none_shown }
 
+-- a worker as of the trace's flushers alone
 abbrev pub worker_there : (trace : Trace) (worker : turns.Worker) → turns.Worker
 worker_there trace worker = record worker { shown = shown_there trace worker.shown }
 

@@ -40,6 +40,7 @@ pub record CpuWorked (trace : Trace) (opened cpu : ℕ) (first : Seats) (log : C
   pub names : NamesInOrder log
   pub since : NotedSince trace opened cpu (told log) (first_shown trace (firsts_of first)) last (first_notes first) notes
 
+-- the log of a CPU
 abbrev pub log_at : (logs : List CpuJournal) (cpu : ℕ) → CpuJournal
 log_at logs cpu = get_or logs cpu empty_log
 
@@ -87,6 +88,7 @@ IsCleaned trace last page =
 abbrev pub AreCleaned : (trace : Trace) (last : ℕ → Shown) → Type 0
 AreCleaned trace last = (page : ℕ) → page < pages trace → IsCleaned trace last page
 
+-- at the end of each CPU's part no check is due, unless the run was cut off
 abbrev pub NoneIsDue : (trace : Trace) (last : ℕ → Shown) (ended : Ending) → Type 0
 NoneIsDue trace last ended = (cpu : ℕ) → cpu < trace.cpus → NoneDue ended (last cpu).side
 
@@ -99,6 +101,7 @@ EndsSo trace last ending.Faulted = SomeFailed trace last
 
 -- ---- all of it
 
+-- all that is known of a run once the seats of all its workers are together again
 pub record HaveWorked (trace : Trace) (opened : ℕ) (kit : Kit) (logs : List CpuJournal) (timer : List TimerEntry) (ended : Ending) (seats : Seats) : Type 0 where
   pub first : ℕ → Seats
   pub last : ℕ → Shown

@@ -1,8 +1,7 @@
 -- Pages and faults of a rack that takes disks back one after another.
-use Rattle.std.proofs.Common.{◌≡◌, ◌⊎◌, ⊎_elim, ℕ, ◌+◌, ◌≤◌, List, [], ◌∷◌, length, Option, Some, None, refl, sym, ap, ◌∙◌, subst, arith}
+use Rattle.std.proofs.Common.{◌≡◌, ℕ, ◌+◌, ◌≤◌, List, [], ◌∷◌, length, Option, Some, None, refl, sym, ap, ◌∙◌, subst, arith}
 use Rattle.wbt_io.specs.Faults.{HasRisenBy, more}
 use Rattle.wbt_io.specs.Pages.{Grows}
-use Rattle.std.specs.List.{sum_by}
 use Rattle.std.proofs.lemmas.List.Sums.{sum_by-cons}
 use Rattle.wbt_journal.specs.Each.{Each}
 use Rattle.wbt_run_worker.specs.Team.{Seen, Team, both_told, faults_in, seen, team_of, written_by}

@@ -82,6 +82,7 @@ pub record IsFirstTeam (trace : Trace) (now cpu : ℕ) (team : Team) : Type 0 wh
   pub posts : AreFirstPosts trace cpu team.posts
   pub log : team.log ≡ empty_log
 
+-- the side of a CPU before its first turn, with its posts open
 pub record IsFirstSide {D : Type 0} (written : D → Option ℕ) (faults : D → ℕ) (trace : Trace) (now cpu : ℕ) (side : CpuSide D) : Type 0 where
   pub team : IsFirstTeam trace now cpu (team_of written faults side)
   pub opens : Each IsOpen side.posts.items

@@ -31,6 +31,7 @@ abbrev pub all_voices : (into : Known) (voices : List Known) → Known
 all_voices into [] = into
 all_voices into (from ∷ more) = all_voices (both_voices into from) more
 
+-- the voices of workers, in order
 abbrev pub voices_of : {D : Type 0} (workers : List (Worker D)) → List Known
 voices_of {D} workers = map (λ (worker : Worker D). worker.voice) workers
 

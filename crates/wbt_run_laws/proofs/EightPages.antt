@@ -1,5 +1,5 @@
 -- The run of eight pages, worked out.
-use Rattle.std.proofs.Common.{◌≡◌, ℕ, zero, suc, ◌+◌, ◌*◌, ◌^◌, ◌<◌, ◌≤◌, true, eqb, leb, not, ◌&&◌, ◌||◌, Some, pos, List, [], ◌∷◌, map, ◌++◌, flat_map, count_by, slice_get, All, Contains, inl, sym, refl, ap, ◌∙◌, subst, arith}
+use Rattle.std.proofs.Common.{◌≡◌, ℕ, zero, suc, ◌+◌, ◌^◌, ◌<◌, ◌≤◌, true, eqb, leb, not, ◌&&◌, ◌||◌, Some, pos, List, [], ◌∷◌, map, ◌++◌, flat_map, count_by, slice_get, All, Contains, inl, sym, refl, ap, ◌∙◌, subst, arith}
 use Rattle.std.specs.List.{list_all}
 use Rattle.std.proofs.lemmas.Bool.{ltb-true}
 use Rattle.std.proofs.lemmas.List.Elements.{All-head}

@@ -27,7 +27,7 @@ use Rattle.wbt_pause.specs.declared.reads.Task.{Task}
 use Rattle.wbt_published.specs.Known.{first_one}
 use Rattle.wbt_published.specs.Publishing.{IsRising}
 use Rattle.wbt_published.proofs.Places.{first_version}
-use Rattle.wbt_trace.specs.Lawful.{IsLawful, IsDevice, IsCgroup, IsContext, IsInode, IsTask, IsFlusher, IsAction, IsOrder}
+use Rattle.wbt_trace.specs.Lawful.{IsLawful, IsDevice, IsCgroup, IsContext, IsInode, IsTask, HasPace, IsFlusher, IsAction, IsOrder}
 use Rattle.wbt_trace.specs.Lawful.{has_flusher}
 use Rattle.wbt_trace.specs.declared.trace.Trace.{Trace}
 use Rattle.wbt_journal.specs.Checks.{IsInRange}
@@ -76,14 +76,15 @@ module _ (cpus cap size on : ℕ) (some_cpus : 1 ≤ cpus) (few_cpus : cpus ≤ 
       settings = record { ratio = omega arith; bg_ratio = omega arith; bytes = omega arith; bg_bytes = omega arith };
       avail = (refl, omega arith, omega arith, tt);
       few_avail = omega arith;
-      devices = record { each = one_of IsDevice (record { rate = 100; min = 0; max = 100; strict = false; chunk = None }) (record { rate = (omega arith, omega arith); shares = (omega arith, omega arith); chunk = tt }); shares = omega arith; few = omega arith };
+      devices = record { each = one_of IsDevice (record { rate = 100; min = 0; max = 100; strict = false; chunk = None; cyclic = false }) (record { rate = (omega arith, omega arith); shares = (omega arith, omega arith); chunk = tt }); shares = omega arith; few = omega arith };
       cgroups = All-nil IsCgroup;
       few_cgroups = omega arith;
       contexts = one_of (IsContext 1 0) (record { device = 0; domain = 0; expire = None; estimate = None }) (omega arith, omega arith, tt, tt);
       few_contexts = omega arith;
       inodes = record { each = one_of (IsInode 1) (record { context = 0; first = 0; pages = size }) (omega arith, some_size); firsts = (refl, tt); total = omega arith; few = omega arith };
-      tasks = one_of (IsTask cpus) (record { cpu = 0 }) (omega arith);
+      tasks = one_of (IsTask cpus) (record { cpu = 0; pace = None }) (omega arith);
       few_tasks = omega arith;
+      paces = one_of HasPace (record { cpu = 0; pace = None }) tt;
       flushers = one_of (IsFlusher 1 cpus) (record { device = 0; cpu = on }) (omega arith, there);
       few_flushers = omega arith;
       actions = one_of (IsAction 1 (record { context = 0; first = 0; pages = size } ∷ [])) _ (omega arith, omega arith, some_size, omega arith);

@@ -1,5 +1,5 @@
 -- All waiting lists of a CPU along its part, from the walk of each.
-use Rattle.std.proofs.Common.{◌≡◌, ℕ, zero, suc, ◌<◌, true, false, Bool, cond, eqb, nat_lt, Option, None, Some, IfSome, List, [], ◌∷◌, length, set, get_or, sym, refl, ◌∙◌, ap, subst, arith, eq-eqb, ne_eqb, true≢false, ltb-true}
+use Rattle.std.proofs.Common.{◌≡◌, ℕ, zero, suc, ◌<◌, true, false, Bool, cond, eqb, nat_lt, Option, None, Some, IfSome, List, [], ◌∷◌, length, set, sym, refl, ◌∙◌, ap, subst, eq-eqb, ne_eqb, true≢false, ltb-true}
 use Rattle.std.proofs.lemmas.Bool.{cond-true, cond-false}
 use Rattle.std.proofs.lemmas.List.{get_or-set_same, get_or-set_other, length-set}
 use mathlib.Core.Logic.{dite}

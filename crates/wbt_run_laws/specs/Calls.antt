@@ -34,6 +34,7 @@ pub record NotesGrew (added : ℕ → ℕ) (old new : List Note) : Type 0 where
 abbrev pub LooksAddNone : Type 0
 LooksAddNone = (more : List Note) (old new : Seated) → AreFound more → Looks more old new → NotesGrew (λ context. 0) old.notes new.notes
 
+-- an addition is noted as so many events of its context's part, and none of any other
 abbrev pub AddIsNoted : Type 0
 AddIsNoted = (context n : ℕ) (old new : Seated) → Adds context n old new
     → NotesGrew (λ of. if context == of then n else 0) old.notes new.notes
@@ -43,6 +44,7 @@ pub record ReadGives (context : ℕ) (fraction : Fraction) (old new : List Note)
   pub was_read : WasRead new context fraction
   pub no_earlier : (before : Fraction) → IsKept old context before → before.period ≤ fraction.period
 
+-- a read of a fraction lets the CPU keep it
 abbrev pub ReadMayBeKept : Type 0
 ReadMayBeKept = (context : ℕ) (fraction : Fraction) (old new : Seated) → Reads context fraction old new
     → ReadGives context fraction old.notes new.notes
@@ -52,6 +54,7 @@ pub record BeginGives (k : ℕ) (old new : List Note) : Type 0 where
   pub begun_are : begun_at_once new ≡ k ∷ begun_at_once old
   pub in_order : AreInOrder old → AreInOrder new
 
+-- periods that begin are noted as the newest
 abbrev pub BeginIsNoted : Type 0
 BeginIsNoted = (k : ℕ) (old new : Seated) → 1 ≤ k → Begins k true old new → BeginGives k old.notes new.notes
 

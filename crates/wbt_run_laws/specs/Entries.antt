@@ -39,6 +39,7 @@ pub record WritesNext (trace : Trace) (cpu task page : ℕ) (old new : ℕ → �
   pub one_more : new task ≡ old task + 1
   pub others : (t : ℕ) → t ≢ task → new t ≡ old t
 
+-- a write of the task's next page is one page more that the task wrote
 abbrev pub WriteIsNext : Type 0
 WriteIsNext = (trace : Trace) (cpu task page : ℕ) (fresh : Bool) (old new : ℕ → ℕ) → WritesNext trace cpu task page old new
     → Wrote trace cpu old (wrote task page fresh ∷ []) new
@@ -47,9 +48,11 @@ WriteIsNext = (trace : Trace) (cpu task page : ℕ) (fresh : Bool) (old new : �
 abbrev pub is_write : (entry : Told) → Bool
 is_write entry = is_some (effect entry).write
 
+-- whether an entry is a check
 abbrev pub is_check : (entry : Told) → Bool
 is_check entry = is_some (effect entry).check
 
+-- an entry that is no write leaves what each task wrote
 abbrev pub OthersWriteNone : Type 0
 OthersWriteNone = (trace : Trace) (cpu : ℕ) (entry : Told) (written : ℕ → ℕ) → is_write entry ≡ false → IsOwn trace cpu entry
     → Wrote trace cpu written (entry ∷ []) written
@@ -66,10 +69,12 @@ pub record NamesSeen (check : CheckEntry) (old new : ℕ → Known) : Type 0 whe
   pub seen_now : check.estimate ≤ (new check.context).seen
   pub none_falls : NoneFalls old new
 
+-- a check that names no older version than its pass has seen keeps the named versions from going back
 abbrev pub CheckNamesSeen : Type 0
 CheckNamesSeen = (cpu : ℕ) (check : CheckEntry) (old new : ℕ → Known) → NamesSeen check old new
     → Walks HasNamed NamesGoOn names_after old (items_told cpu (checked check ∷ [])) new
 
+-- an entry that is no check names no version, so that none goes back
 abbrev pub OthersNameNone : Type 0
 OthersNameNone = (cpu : ℕ) (entry : Told) (old new : ℕ → Known) → is_check entry ≡ false → NoneFalls old new
     → Walks HasNamed NamesGoOn names_after old (items_told cpu (entry ∷ [])) new
@@ -80,10 +85,12 @@ pub record ReadsKept (check : CheckEntry) (old new : ℕ → ℕ → Fraction) :
   pub kept_now : Each (λ (read : DomainLine). read.share.period ≤ (new read.domain check.context).period) (reads_of check)
   pub none_falls : (domain context : ℕ) → (old domain context).period ≤ (new domain context).period
 
+-- a check whose fractions are of no earlier periods than those kept keeps the read periods from going back
 abbrev pub CheckReadsKept : Type 0
 CheckReadsKept = (cpu : ℕ) (check : CheckEntry) (old new : ℕ → ℕ → Fraction) → ReadsKept check old new
     → Walks KeepsPeriods PeriodsGoOn periods_after old (items_told cpu (checked check ∷ [])) new
 
+-- an entry that is no check reads no period, so that none goes back
 abbrev pub OthersReadNone : Type 0
 OthersReadNone = (cpu : ℕ) (entry : Told) (kept : ℕ → ℕ → Fraction) → is_check entry ≡ false
     → Walks KeepsPeriods PeriodsGoOn periods_after kept (items_told cpu (entry ∷ [])) kept

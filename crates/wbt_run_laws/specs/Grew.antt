@@ -30,6 +30,7 @@ event_in entry = listed (event_of entry)
 abbrev pub found_in : (entry : Told) → List ℕ
 found_in entry = listed (found_of entry)
 
+-- a count that was loaded, as a record keeps it
 abbrev pub reading_of : (load : Load) → Reading
 reading_of load = record { counter = load.counter; version = load.count.version; value = load.count.value }
 

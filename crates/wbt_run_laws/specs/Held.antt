@@ -14,6 +14,7 @@ use Rattle.wbt_journal.specs.declared.entry.CheckEntry.{CheckEntry}
 use Rattle.wbt_journal.specs.declared.entry.DomainLine.{DomainLine}
 use Rattle.wbt_run_laws.specs.Notes.{Longer}
 
+-- the limits of a domain that a check read, with their version
 abbrev pub limits_of : (read : DomainLine) → DomainLimits
 limits_of read = record { domain = read.domain; version = read.triple; limits = read.limits }
 

@@ -18,6 +18,7 @@ is_plain (entry.Check place) = false
 is_plain (entry.Est place) = false
 is_plain other = true
 
+-- the log with a further entry, which names no check and no estimate
 abbrev pub with_entry : (e : Entry) (log : CpuJournal) → CpuJournal
 with_entry e log = record { entries = log.entries ++ e ∷ []; checks = log.checks; estimates = log.estimates }
 
@@ -29,6 +30,7 @@ with_check check log = record {
   estimates = log.estimates;
 }
 
+-- an estimate stands at the end of the log's estimates, and the entry names this place
 abbrev pub with_estimate : (est : EstEntry) (log : CpuJournal) → CpuJournal
 with_estimate est log = record {
   entries = log.entries ++ entry.Est (length log.estimates) ∷ [];
@@ -38,17 +40,22 @@ with_estimate est log = record {
 
 -- ---- laws
 
+-- a log that stays tells nothing more
 abbrev pub LoggedNothing : Type 0
 LoggedNothing = (log : CpuJournal) → Logged [] log log
 
+-- additions to a log compose, one after the other
 abbrev pub LoggedBoth : Type 0
 LoggedBoth = (a b : List Told) (old mid new : CpuJournal) → Logged a old mid → Logged b mid new → Logged (a ++ b) old new
 
+-- a plain entry tells itself
 abbrev pub LoggedEntry : Type 0
 LoggedEntry = (e : Entry) (log : CpuJournal) → is_plain e ≡ true → Logged (told_entry [] [] e) log (with_entry e log)
 
+-- a check that is put at the end is told
 abbrev pub LoggedCheck : Type 0
 LoggedCheck = (check : CheckEntry) (log : CpuJournal) → Logged (checked check ∷ []) log (with_check check log)
 
+-- an estimate that is put at the end is told
 abbrev pub LoggedEstimate : Type 0
 LoggedEstimate = (est : EstEntry) (log : CpuJournal) → Logged (estimated est ∷ []) log (with_estimate est log)

@@ -24,10 +24,12 @@ pub record DecidesByRead (trace : Trace) (opened : ℕ) (known : Known) (s : Sid
   pub in_range : IsInRange check estimate (task_numbers trace s check)
   pub decision : check.decision ≡ asked_by trace s check estimate
 
+-- an item's check decides by an estimate that was read
 abbrev pub DecidesItem : (trace : Trace) (opened : ℕ) (known : ℕ → Known) (s : Side) (i : Item) → Type 0
 DecidesItem trace opened known s (begins cpu) = Unit {0}
 DecidesItem trace opened known s (tells cpu entry) = IfSome (effect entry).check (λ (check : CheckEntry). DecidesByRead trace opened (known check.context) s check)
 
+-- an event's check decides by an estimate that was read
 abbrev pub DecidesAlong : (trace : Trace) (opened : ℕ) (known : ℕ → Known) (s : Side) (event : Event) → Type 0
 DecidesAlong trace opened known s (item i) = DecidesItem trace opened known s i
 DecidesAlong trace opened known s (ends task) = Unit {0}
@@ -36,12 +38,14 @@ DecidesAlong trace opened known s (ends task) = Unit {0}
 abbrev pub AreDecided : (trace : Trace) (opened : ℕ) (known : ℕ → Known) (s : Side) (events : List Event) → Type 0
 AreDecided trace opened known s events = Along (DecidesAlong trace opened known) (side_after trace opened) s events
 
+-- a turn of the CPU's writers, with what it notes and what its checks decide
 pub record NotedWriterTurn (trace : Trace) (opened cpu : ℕ) (added : List Told) (old new : Shown) (before behind : Notes) : Type 0 where
   pub turn : WriterTurn trace opened cpu added old new
   pub shares : SharesGrew cpu added before behind
   pub estimates : EstimatesGrew (first_estimates trace opened) cpu added before behind
   pub decided : AreDecided trace opened behind.estimates old.side turn.side.events
 
+-- a turn of one of the CPU's flushers, with what it notes
 pub record NotedFlusherTurn (trace : Trace) (opened cpu flusher : ℕ) (added : List Told) (old new : Shown) (before behind : Notes) : Type 0 where
   pub turn : FlusherTurn trace opened cpu flusher added old new
   pub shares : SharesGrew cpu added before behind
@@ -56,17 +60,21 @@ pub record NotedSince (trace : Trace) (opened cpu : ℕ) (added : List Told) (ol
 
 -- ---- laws
 
+-- a single turn of the CPU's writers counts as turns of the CPU
 abbrev pub NotedWriterTurnIsSince : Type 0
 NotedWriterTurnIsSince = (trace : Trace) (opened cpu : ℕ) (added : List Told) (old new : Shown) (before behind : Notes)
     → NotedWriterTurn trace opened cpu added old new before behind → NotedSince trace opened cpu added old new before behind
 
+-- a single turn of one of its flushers counts as turns of the CPU
 abbrev pub NotedFlusherTurnIsSince : Type 0
 NotedFlusherTurnIsSince = (trace : Trace) (opened cpu flusher : ℕ) (added : List Told) (old new : Shown) (before behind : Notes)
     → NotedFlusherTurn trace opened cpu flusher added old new before behind → NotedSince trace opened cpu added old new before behind
 
+-- without a turn all stays as it is
 abbrev pub NotedNow : Type 0
 NotedNow = (trace : Trace) (opened cpu : ℕ) (shown : Shown) (notes : Notes) → NotedSince trace opened cpu [] shown shown notes notes
 
+-- turns compose, one stretch of them after another
 abbrev pub NotedMore : Type 0
 NotedMore = (trace : Trace) (opened cpu : ℕ) (a b : List Told) (old mid new : Shown) (before between behind : Notes)
     → NotedSince trace opened cpu a old mid before between → NotedSince trace opened cpu b mid new between behind

@@ -22,6 +22,7 @@ use Rattle.wbt_journal.specs.declared.entry.CheckEntry.{CheckEntry}
 use Rattle.wbt_journal.specs.Walk.{after}
 use Rattle.wbt_run_laws.specs.Walks.{items_told, Walks}
 
+-- what a CPU notes
 pub record Notes : Type 0 where
   pub shares : (domain : ℕ) → List Note  -- of steps on the domain's words, the newest first
   pub kept : (domain context : ℕ) → Fraction  -- that the CPU's writers read last
@@ -47,6 +48,7 @@ pub record WasRead (notes : List Note) (context : ℕ) (fraction : Fraction) : T
   pub behind : period_of part ≤ period_of whole
   pub value : fraction ≡ fraction_of (half_of part) (half_of whole)
 
+-- a fraction that a CPU may keep: the one before the first read, or one that these notes found
 abbrev pub IsKept : (notes : List Note) (context : ℕ) (fraction : Fraction) → Type 0
 IsKept notes context fraction = (fraction ≡ no_fraction) ⊎ WasRead notes context fraction
 
@@ -62,6 +64,7 @@ TellsKept shares entry = IfSome (effect entry).check (λ (check : CheckEntry). E
 abbrev pub KeepsPeriods : (kept : ℕ → ℕ → Fraction) (seen : List Period) → Type 0
 KeepsPeriods kept seen = (domain context period : ℕ) → (kept domain context).period ≤ period → list_all (is_no_later domain context period) seen ≡ true
 
+-- the notes of shares got more at their front, as the entries tell
 pub record SharesGrew (cpu : ℕ) (added : List Told) (old new : Notes) : Type 0 where
   pub longer : (domain : ℕ) → Longer (old.shares domain) (new.shares domain)
   -- what was added to the parts is told

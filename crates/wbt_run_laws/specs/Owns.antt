@@ -27,6 +27,7 @@ pub record IsOwnFlight (trace : Trace) (cpu : ℕ) (flight : Flight) : Type 0 wh
   pub page : NamesPage trace flight.move
   pub chunk : MeetsChunk (chunk_at trace flight.flusher) flight.move
 
+-- what an entry names is there, and its task or its flusher is the CPU's own
 pub record IsOwn (trace : Trace) (cpu : ℕ) (entry : Told) : Type 0 where
   pub write : IfSome (effect entry).write (λ (write : Write). is_own_task trace cpu write.task ≡ true)
   pub fold : IfSome (effect entry).fold (λ (fold : Fold). has_counter trace fold.counter ≡ true)

@@ -9,6 +9,7 @@ use Rattle.wbt_journal.specs.Told.{Told}
 use Rattle.wbt_run_laws.specs.Owns.{IsOfFlusher}
 use Rattle.wbt_run_laws.specs.Walks.{Walked}
 
+-- the flusher after an entry; an entry of another flusher leaves it as it is
 abbrev pub flusher_after : (flusher : ℕ) (is : ToldFlusher) (entry : Told) → ToldFlusher
 flusher_after flusher is entry =
     of_part is (λ (flight : Flight). if flight.flusher == flusher then moved flight.move is else is) (effect entry).flight
@@ -23,6 +24,7 @@ Flew flusher old added new = Walked (FliesInTurn flusher) (flusher_after flusher
 
 -- ---- faults
 
+-- whether a flusher has failed
 abbrev pub is_failed : (phase : ToldPhase) → Bool
 is_failed failed = true
 is_failed other = false

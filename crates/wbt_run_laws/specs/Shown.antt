@@ -32,6 +32,7 @@ new_shown = record { told = new_flusher; waits = [] }
 abbrev pub none_shown : ShownFlusher
 none_shown = record { told = no_flusher; waits = [] }
 
+-- what a CPU shows between two turns
 pub record Shown : Type 0 where
   pub held : CpuRecord  -- of the CPU's seat
   pub firsts : (domain : ℕ) → Limits  -- the limits that it held at first
@@ -102,17 +103,21 @@ pub record Since (trace : Trace) (opened cpu : ℕ) (added : List Told) (old new
 
 -- ---- laws
 
+-- a single turn of the CPU's writers counts as turns of the CPU
 abbrev pub WriterTurnIsSince : Type 0
 WriterTurnIsSince = (trace : Trace) (opened cpu : ℕ) (added : List Told) (old new : Shown)
     → WriterTurn trace opened cpu added old new → Since trace opened cpu added old new
 
+-- a single turn of one of its flushers counts as turns of the CPU
 abbrev pub FlusherTurnIsSince : Type 0
 FlusherTurnIsSince = (trace : Trace) (opened cpu flusher : ℕ) (added : List Told) (old new : Shown)
     → FlusherTurn trace opened cpu flusher added old new → Since trace opened cpu added old new
 
+-- without a turn all stays as it is
 abbrev pub SinceNow : Type 0
 SinceNow = (trace : Trace) (opened cpu : ℕ) (shown : Shown) → Since trace opened cpu [] shown shown
 
+-- turns compose, one stretch of them after another
 abbrev pub SinceMore : Type 0
 SinceMore = (trace : Trace) (opened cpu : ℕ) (a b : List Told) (old mid new : Shown)
     → Since trace opened cpu a old mid → Since trace opened cpu b mid new → Since trace opened cpu (a ++ b) old new

@@ -30,17 +30,18 @@ small_trace cpus cap size flusher_on = record {
   cap = cap;
   settings = record { ratio = 40; bg_ratio = 20; bytes = 0; bg_bytes = 0 };
   avail = record { from = 0; pages = 100 } ∷ [];
-  devices = record { rate = 100; min = 0; max = 100; strict = false; chunk = None } ∷ [];
+  devices = record { rate = 100; min = 0; max = 100; strict = false; chunk = None; cyclic = false } ∷ [];
   cgroups = [];
   contexts = record { device = 0; domain = 0; expire = None; estimate = None } ∷ [];
   inodes = record { context = 0; first = 0; pages = size } ∷ [];
-  tasks = record { cpu = 0 } ∷ [];
+  tasks = record { cpu = 0; pace = None } ∷ [];
   flushers = record { device = 0; cpu = flusher_on } ∷ [];
   actions = action.Write 0 0 0 size ∷ [];
   order = [];
   halt = None;
 }
 
+-- the throttle of a small trace, with the same first limits in each domain
 abbrev pub small_setting : (trace : Trace) → Setting
 small_setting trace = record {
   cpus = trace.cpus;
@@ -78,9 +79,11 @@ abbrev pub of_first : {A : Type 0} (value other : A) (number : ℕ) → A
 of_first value other zero = value
 of_first value other (suc number) = other
 
+-- what a pass knows of a context's estimates: all of them, those that were read, and the greatest version seen
 abbrev pub knows : (publishes : Bool) (all reads : List Estimate) (seen : ℕ) → Known
 knows publishes all reads seen = record { publishes = publishes; all = all; reads = reads; seen = seen }
 
+-- what a pass knows of a context that isn't there
 abbrev pub knows_nothing : Known
 knows_nothing = knows false [] [] 0
 

@@ -29,6 +29,7 @@ pub record Gathered (loads : List Load) (old new : CpuRecord) : Type 0 where
   pub limits : Longer old.triples new.triples
   pub fresh : Each (λ load. NoneAhead load.count.version load.counter old) loads
 
+-- loads are gathered one after another
 abbrev pub GatheredMore : Type 0
 GatheredMore = (a b : List Load) (old mid new : CpuRecord) → Gathered a old mid → Gathered b mid new → Gathered (a ++ b) old new
 
@@ -42,12 +43,15 @@ CheckGrows = (check : CheckEntry) (old new : CpuRecord) → Gathered (loads_of c
 
 -- ---- each kind of step, by what it found
 
+-- the fold that a step makes of the CPU's own number, by the word that was found
 abbrev pub fold_made : (set : Setting) (x : Counter) (found : ℕ) (r : CpuRecord) → Fold
 fold_made set x found r = record { counter = x; version = version_in found + 1; delta = own_told set x r }
 
+-- the count that a load found in a counter's word
 abbrev pub load_made : (x : Counter) (found : ℕ) → Load
 load_made x found = record { counter = x; count = record { version = version_in found; value = count_in found } }
 
+-- what each kind of step makes of a CPU's record, by the word that it found
 pub record EachStepGrows (set : Setting) (found : ℕ) (r : CpuRecord) : Type 0 where
   -- additions, clears, looks, marks and grants, the first two loads of limits, and what misses of claims and of giving back, are untold: no entry
   -- tells them
@@ -67,5 +71,6 @@ pub record EachStepGrows (set : Setting) (found : ℕ) (r : CpuRecord) : Type 0 
   pub backs : (i flusher p : ℕ) → (found == last_found r.last) ≡ true
       → Grew (gave_back flusher p (set.coding.page_bits found p).dirty ∷ []) r (record_after set (back i p) found r)
 
+-- so it is in each setting, for each word and each record
 abbrev pub StepsGrow : Type 0
 StepsGrow = (set : Setting) (found : ℕ) (r : CpuRecord) → EachStepGrows set found r

@@ -8,6 +8,7 @@ use Rattle.wbt_journal.specs.Machine.{contexts, pages, page_context, context_dom
 use Rattle.wbt_journal.specs.Side.{all_writers}
 use Rattle.wbt_journal.specs.declared.journal.Left.{Left}
 
+-- a writer of the trace by its number
 abbrev pub writer_at : (trace : Trace) (w : ℕ) → Writer
 writer_at trace w = get_or (all_writers trace) w (record { task = 0; context = 0 })
 

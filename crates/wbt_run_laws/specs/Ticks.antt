@@ -43,10 +43,12 @@ pub data Fate : Type 0 where
   gate_stopped : Fate
   last_version : Fate
 
+-- a raised peak, and what became of its limits
 pub record Peak : Type 0 where
   pub raised : Raised
   pub fate : Fate
 
+-- the peak that was raised
 abbrev pub raised_by : (peak : Peak) → List Raised
 raised_by peak = peak.raised ∷ []
 
@@ -55,6 +57,7 @@ abbrev pub told_so : (fate : Fate) (raised : Raised) → List Raised
 told_so has_line raised = raised ∷ []
 told_so other raised = []
 
+-- the peak, where its limits have a line
 abbrev pub told_by : (peak : Peak) → List Raised
 told_by peak = told_so peak.fate peak.raised
 
@@ -63,6 +66,7 @@ abbrev pub one_stop : (fate : Fate) → ℕ
 one_stop gate_stopped = 1
 one_stop other = 0
 
+-- how often the gate stopped the timer behind these peaks
 abbrev pub stops_in : (peaks : List Peak) → ℕ
 stops_in [] = 0
 stops_in (peak ∷ peaks) = one_stop peak.fate + stops_in peaks
@@ -72,6 +76,7 @@ abbrev pub IsLastBy : (fate : Fate) (domain : ℕ) (published : List DomainLimit
 IsLastBy last_version domain published = LAST_SEQUENCE ≤ 2 * version_of domain published
 IsLastBy other domain published = Unit {0}
 
+-- where a peak has no line because its domain has had its last version, that version stands published
 abbrev pub HasItsCause : (published : List DomainLimits) (peak : Peak) → Type 0
 HasItsCause published peak = IsLastBy peak.fate peak.raised.domain published
 
@@ -111,9 +116,11 @@ pub record TimerSince (trace : Trace) (opened stops : ℕ) (added : List TimerEn
 
 -- ---- laws
 
+-- without a turn of the timer all stays as it is
 abbrev pub TimerSinceNow : Type 0
 TimerSinceNow = (trace : Trace) (opened : ℕ) (ticked : Ticked) → TimerSince trace opened 0 [] ticked ticked
 
+-- turns of the timer compose, and the stops of the gate add up
 abbrev pub TimerSinceMore : Type 0
 TimerSinceMore = (trace : Trace) (opened m n : ℕ) (a b : List TimerEntry) (old mid new : Ticked)
     → TimerSince trace opened m a old mid → TimerSince trace opened n b mid new → TimerSince trace opened (m + n) (a ++ b) old new

@@ -33,6 +33,7 @@ part_at j cpu = get_or (parts_of j) cpu []
 
 -- ---- how it ended
 
+-- no flusher has failed
 abbrev pub NoneFailed : (trace : Trace) (last : ℕ → Shown) → Type 0
 NoneFailed trace last = (cpu flusher : ℕ) → cpu < trace.cpus → flusher < length trace.flushers → is_failed ((last cpu).flushers flusher).told.phase ≡ false
 
@@ -84,11 +85,13 @@ pub record Run : Type 0 where
   pub publisher : (context : ℕ) → ℕ  -- the CPU that publishes for it
   pub all_known : (context : ℕ) → Known  -- joined
 
+-- the timer begins with the lines of the opening, has published nothing and noted nothing
 pub record OpensTimer (trace : Trace) (r : Run) : Type 0 where
   pub published : r.timer_first.held.published ≡ []
   pub lines : r.timer_first.lines ≡ after lines_after [] (opening_lines trace r.opened r.set.firsts)
   pub shares : (domain : ℕ) → r.timer_first.shares domain ≡ []
 
+-- all that is known of a run and its journal once all workers are joined and the table is closed
 pub record Worked (trace : Trace) (j : Journal) (r : Run) : Type 0 where
   pub lawful : IsLawful trace
   pub throttle : IsThrottleOf trace r.set

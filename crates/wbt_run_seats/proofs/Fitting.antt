@@ -96,8 +96,8 @@ module _ (trace : Trace) (now : ℕ) (lawful : IsLawful trace) (kit : Kit) (is :
 
   its_device : IsDevice plan.shares
   its_device =
-      let there = found_there trace.devices plan.device plan.shares (record { rate = 0; min = 0; max = 0; strict = false; chunk = None }) of.shares in
-      subst IsDevice there.1 (lawful.within.devices.each plan.device (record { rate = 0; min = 0; max = 0; strict = false; chunk = None }) there.0)
+      let there = found_there trace.devices plan.device plan.shares (record { rate = 0; min = 0; max = 0; strict = false; chunk = None; cyclic = false }) of.shares in
+      subst IsDevice there.1 (lawful.within.devices.each plan.device (record { rate = 0; min = 0; max = 0; strict = false; chunk = None; cyclic = false }) there.0)
 
   is_plan : IsPlan plain
   is_plan = record {

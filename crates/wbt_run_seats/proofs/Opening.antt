@@ -115,9 +115,9 @@ module _ (trace : Trace) (now : ℕ) (lawful : IsLawful trace) where
   writer_seated w less =
       let pair = pairs trace now lawful w (record { task = 0; context = 0 }) less in
       let same = ap (λ (x : Writer). x.cpu) (writer_same w less) in (
-        task_there trace.tasks (writer_at trace w).task (record { cpu = 0 }) pair.0 ∙ ap Some (sym same),
+        task_there trace.tasks (writer_at trace w).task (record { cpu = 0; pace = None }) pair.0 ∙ ap Some (sym same),
         same,
-        subst (λ (n : ℕ). n < trace.cpus) (sym same) (lawful.within.tasks (writer_at trace w).task (record { cpu = 0 }) pair.0),
+        subst (λ (n : ℕ). n < trace.cpus) (sym same) (lawful.within.tasks (writer_at trace w).task (record { cpu = 0; pace = None }) pair.0),
         pair.1,
       )
 

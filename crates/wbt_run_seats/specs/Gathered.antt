@@ -50,6 +50,7 @@ pub record AreGatheredIn (trace : Trace) (cpus : ℕ) (publisher : (context : �
 abbrev pub AreGathered : (trace : Trace) (cpus : ℕ) (publisher : (context : ℕ) → ℕ) (notes : ℕ → Notes) (timer : (domain : ℕ) → List Note) (seats : Seats) → Type 0
 AreGathered trace cpus publisher notes timer seats = AreGatheredIn trace cpus publisher notes timer seats.share seats.est
 
+-- nothing was noted of any domain
 abbrev pub no_notes : (domain : ℕ) → List Note
 no_notes domain = []
 

@@ -66,6 +66,7 @@ pub record IsOpened (trace : Trace) (now : ℕ) (kit : Kit) : Type 0 where
   pub inodes : (inode page : ℕ) → inode < length trace.inodes → (inode_at inode trace.inodes).first ≤ page
       → page < (inode_at inode trace.inodes).first + (inode_at inode trace.inodes).pages → IsPageOf trace kit inode page
 
+-- the kit of a lawful trace is opened as the trace says
 abbrev pub KitIsOpened : Type 0
 KitIsOpened = (trace : Trace) (now : ℕ) (kit : Kit) → IsLawful trace → IsKitOf trace now kit → IsOpened trace now kit
 
@@ -97,6 +98,7 @@ pub record IsFirstPart (kit : Kit) (cpu : ℕ) (part : Seats) : Type 0 where
       → ((known_of context part.est).publishes ≡ true) × ((known_of context part.est).all ≡ first_one ∷ [])
   pub no_other : (context : ℕ) → context < length kit.published.names → owner_of kit context ≢ cpu → (known_of context part.est).publishes ≡ false
 
+-- a CPU's part of the first seats did nothing and noted nothing
 abbrev pub PartIsFirst : Type 0
 PartIsFirst = (trace : Trace) (now : ℕ) (kit : Kit) (first part : Seats) (cpu : ℕ) → IsLawful trace → IsKitOf trace now kit → AreSeatsOf kit first
     → AreFirst kit first → cpu < trace.cpus → IsPart kit cpu first part → IsFirstPart kit cpu part
@@ -111,6 +113,7 @@ pub record OwesNothing (plan : FlusherPlan) (work : FlusherWork) : Type 0 where
   pub shares : (domain : ℕ) → domain < plan.domains → owing plan domain work ≡ 0
   pub totals : (context : ℕ) → context < length plan.contexts → owing_total plan context work ≡ 0
 
+-- a flusher that owes nothing has its rooms in the part of its CPU
 abbrev pub FlusherHasRooms : Type 0
 FlusherHasRooms = (trace : Trace) (now : ℕ) (kit : Kit) (first part : Seats) (plan : FlusherPlan) (work : FlusherWork) → IsLawful trace → IsKitOf trace now kit
     → AreSeatsOf kit first → AreFirst kit first → IsPlanOf trace plan → IsPart kit plan.cpu first part
@@ -125,6 +128,7 @@ pub record IsFirstLeft (trace : Trace) (kit : Kit) (left : Seats) : Type 0 where
   pub nothing : (domain : ℕ) → noted left.share domain ≡ []
   pub publishes_none : (context : ℕ) → context < length kit.published.names → (known_of context left.est).publishes ≡ false
 
+-- what is left of the first seats holds the timer, which did nothing
 abbrev pub LeftIsFirst : Type 0
 LeftIsFirst = (trace : Trace) (now : ℕ) (kit : Kit) (first left : Seats) → IsLawful trace → IsKitOf trace now kit → AreFirst kit first
     → IsLeft kit trace.cpus first left → IsFirstLeft trace kit left

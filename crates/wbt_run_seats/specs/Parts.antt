@@ -53,6 +53,7 @@ abbrev pub rest_of : (kit : Kit) (count : ℕ) (seats : Seats) → Seats
 rest_of kit zero seats = seats
 rest_of kit (suc n) seats = without kit n (rest_of kit n seats)
 
+-- the own seats of the first so many CPUs, in order
 abbrev pub parts_of : (kit : Kit) (count : ℕ) (seats : Seats) → List Seats
 parts_of kit zero seats = []
 parts_of kit (suc n) seats = parts_of kit n seats ++ own_of kit n (rest_of kit n seats) ∷ []

@@ -21,6 +21,7 @@ use Rattle.wbt_run_seats.specs.Parts.{noted, HoldsOnly}
 
 -- ---- what one list of seats has, one after the other taken in
 
+-- the table seats, with those of these taken in
 abbrev pub cpus_with : (parts : List Seats) (cpu : Seated) → Seated
 cpus_with [] cpu = cpu
 cpus_with (part ∷ more) cpu = cpus_with more (joined_seat cpu part.cpu)
@@ -30,6 +31,7 @@ abbrev pub notes_with : (domain : ℕ) (parts : List Seats) (notes : List Note) 
 notes_with domain [] notes = notes
 notes_with domain (part ∷ more) notes = notes_with domain more (noted part.share domain ++ notes)
 
+-- the notes of written totals, those of the last seats first
 abbrev pub tallies_with : (parts : List Seats) (notes : List TotalNote) → List TotalNote
 tallies_with [] notes = notes
 tallies_with (part ∷ more) notes = tallies_with more (part.share.totals.notes ++ notes)
@@ -93,6 +95,7 @@ pub record HoldsAllOf (cpu : ℕ) (old : Seats) (parts : List Seats) (new : Seat
   pub no_more : (c : ℕ) (r : CpuRecord) → HasCpu c r new → c < cpu + length parts
   pub timer : new.cpu.timer ≡ old.cpu.timer
 
+-- the records of CPUs that come in order come together
 abbrev pub RecordsComeTogether : Type 0
 RecordsComeTogether = (kit : Kit) (cpu : ℕ) (old new : Seats) (parts : List Seats) → AreTogether kit old parts new → InOrder cpu parts → HoldsNone cpu old
     → ((part : Seats) (k : ℕ) → k < length parts → AreSeatsOf kit (get_or parts k part)) → AreSeatsOf kit old → HoldsAllOf cpu old parts new

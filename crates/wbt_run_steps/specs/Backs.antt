@@ -74,6 +74,7 @@ pub data HaltsBack (kit : Kit) (cpu page : ℕ) (old new : Seats) : Type 0 where
   after_its_look : (n : ℕ) → (bits_at n page).writeback ≡ true → Came cpu (Kept (setting kit.throttle.layout) page (bits_at n page).dirty) old new
       → HaltsBack kit cpu page old new
 
+-- a page wasn't given back, as the gate said false: some of the steps were made, and nothing is told
 pub record StopsBack (kit : Kit) (cpu page : ℕ) (said : ℕ → ℕ → Bool → Type 0) (old new : Seats) (before behind : CpuJournal) : Type 0 where
   pub made : List Made
   pub cut : IsCutBack cpu page made

@@ -22,6 +22,7 @@ use Rattle.wbt_run_steps.specs.Made.{MakesThese}
 use Rattle.wbt_run_steps.specs.Records.{OnlyCpu}
 use Rattle.wbt_run_steps.specs.declared.loads.DomainLoad.{DomainLoad}
 
+-- a list of one thing
 abbrev pub one : {A : Type 0} (x : A) → List A
 one x = x ∷ []
 
@@ -29,6 +30,7 @@ one x = x ∷ []
 abbrev pub load_of : (load : DomainLoad) → Load
 load_of load = record { counter = Domain load.domain; count = load.count }
 
+-- the limits of a domain, with their version, as a load
 abbrev pub triple_of : (load : DomainLoad) → DomainLimits
 triple_of load = record { domain = load.domain; version = load.version; limits = load.limits }
 
@@ -41,6 +43,7 @@ pub record HoldsLoader (kit : Kit) (who : Who) (seats : Seats) : Type 0 where
 abbrev pub held_as : (domain : ℕ) (triple : Triple) → DomainLimits
 held_as domain triple = record { domain = domain; version = triple.version; limits = triple.limits }
 
+-- the CPU holds these limits of the domain now
 abbrev pub HoldsNow : (kit : Kit) (cpu domain : ℕ) (triple : Triple) (seats : Seats) → Type 0
 HoldsNow kit cpu domain triple seats = Holds seats.cpu.cpus cpu (λ r. held_of (setting kit.throttle.layout) domain r.triples ≡ held_as domain triple)
 

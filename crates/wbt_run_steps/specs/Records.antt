@@ -8,6 +8,7 @@ use Rattle.wbt_table.specs.Rule.{Cpus, Has}
 use Rattle.wbt_table.specs.Seat.{Seated}
 use Rattle.wbt_kit.specs.declared.kit.Seats.{Seats}
 
+-- the record that a seat holds; an empty one where it holds none
 abbrev pub held_in : (which : Option CpuRecord) → CpuRecord
 held_in None = no_record
 held_in (Some r) = r

@@ -7,9 +7,11 @@ use Rattle.wbt_kit.specs.declared.kit.Seats.{Seats}
 use Rattle.wbt_run_worker.specs.declared.side.CpuSide.{CpuSide}
 use Rattle.wbt_run_worker.specs.declared.worker.Worker.{Worker}
 
+-- the seats of workers, in order
 abbrev pub seats_of : {D : Type 0} (workers : List (Worker D)) → List Seats
 seats_of {D} workers = map (λ (worker : Worker D). worker.seats) workers
 
+-- the sides of workers, in order
 abbrev pub sides_of : {D : Type 0} (workers : List (Worker D)) → List (CpuSide D)
 sides_of {D} workers = map (λ (worker : Worker D). worker.side) workers
 

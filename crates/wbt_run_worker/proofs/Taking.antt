@@ -156,7 +156,7 @@ module _ (told : ℕ → Type 0) (said : ℕ → ℕ → Bool → Type 0) (kit :
     cpu = refl;
     fractions = refl;
     flushers = left_set old.posts k d q (subst (λ (p : Seen). IsLeft p q) (sym is)
-        (record { plan = same; phase = left.phase; batch = left.batch; hard = left.hard; tallies = left.tallies; wheel = left.wheel }));
+        (record { plan = same; phase = left.phase; batch = left.batch; hard = left.hard; tallies = left.tallies; wheel = left.wheel; places = left.places }));
   }
 
   rests : (now until : ℕ) → Answers (turn.Resting now until) → FlusherRests told k (until - now) old

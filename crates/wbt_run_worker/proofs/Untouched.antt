@@ -6,7 +6,7 @@ use Rattle.wbt_flusher.specs.Answers.{IsUntouched}
 use Rattle.wbt_flusher.specs.Did as flusher_did
 use Rattle.wbt_flusher.specs.Plans.{IsWork, Suits}
 use Rattle.wbt_flusher.specs.Sights.{OwesMark, OwesRescan, owing, owing_total, phase_by, pages_by, sight}
-use Rattle.wbt_flusher.specs.Turns.{AreProper, IsPhase, IsSteady}
+use Rattle.wbt_flusher.specs.Turns.{AreProper, ArePlaces, IsPhase, IsSteady}
 use Rattle.wbt_flusher.specs.declared.plan.FlusherPlan.{FlusherPlan}
 use Rattle.wbt_flusher.specs.declared.work.Phase.{Phase}
 use Rattle.wbt_io.specs.Pages.{Grows}
@@ -158,6 +158,7 @@ module _ (told : ℕ → Type 0) (kit : Kit) (old : Team) (k : ℕ) (d q : Seen)
       waiting = ap (λ w. length w.items) none.waiting ∙ steady_was.lists.waiting;
       none_wait = λ nobody inode. ap (λ w. get_or w.items inode false) none.waiting ∙ steady_was.lists.none_wait (sym none.some_wait ∙ nobody) inode;
       wheel = subst (HasWheel d.plan) (sym none.left.wheel) steady_was.lists.wheel;
+      places = subst (λ v. ArePlaces d.plan v.items) (sym none.left.places) steady_was.lists.places;
     };
     phase = subst (λ b. IsPhase d.plan b q.work.phase) (sym none.left.batch)
         (subst (λ (phase : Phase). IsPhase d.plan d.work.batch.items phase) (sym none.left.phase) steady_was.phase);

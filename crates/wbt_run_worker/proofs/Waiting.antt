@@ -19,7 +19,7 @@ use Rattle.wbt_run_worker.proofs.Going.{idled_more, idled_now}
 -- ---- flushers
 
 left_one : (p : Seen) → IsLeft p p
-left_one p = record { plan = refl; phase = refl; batch = refl; hard = refl; tallies = refl; wheel = refl }
+left_one p = record { plan = refl; phase = refl; batch = refl; hard = refl; tallies = refl; wheel = refl; places = refl }
 
 pub left_same : (xs : List Seen) → AreLeft xs xs
 left_same [] = tt
@@ -38,6 +38,7 @@ left_both p q r a b = record {
   hard = b.hard ∙ a.hard;
   tallies = b.tallies ∙ a.tallies;
   wheel = b.wheel ∙ a.wheel;
+  places = b.places ∙ a.places;
 }
 
 pub left_more : (xs ys zs : List Seen) → AreLeft xs ys → AreLeft ys zs → AreLeft xs zs

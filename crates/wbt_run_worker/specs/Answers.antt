@@ -25,6 +25,7 @@ abbrev pub WaitsOn : (answer : Turn) → Type 0
 WaitsOn (turn.Resting now until) = now ≤ until
 WaitsOn other = Unit {0}
 
+-- what a turn's answer is as the outcome of a job
 abbrev pub job_by : (answer : Turn) → JobOutcome
 job_by turn.Stepped = job.Stepped
 job_by (turn.Resting now until) = job.Resting (until - now)

@@ -19,6 +19,7 @@ pub record Stance : Type 0 where
   pub next : Job
   pub seats : Seats
 
+-- the stance of a side on its seats
 abbrev pub stance_of : {D : Type 0} (written : D → Option ℕ) (faults : D → ℕ) (side : CpuSide D) (seats : Seats) → Stance
 stance_of written faults side seats = record { team = team_of written faults side; next = side.next; seats = seats }
 
@@ -45,6 +46,7 @@ EndBy None rounds = Each GoesOn rounds
 EndBy (Some Stopped) rounds = Each GoesOn rounds
 EndBy (Some end) rounds = (before : List Round) × (last : Round) × (rounds ≡ before ++ last ∷ []) × Each GoesOn before × IsLast end last
 
+-- a worker's rounds, of which the last one is why its side ended, if it has
 pub record HasRun (told : ℕ → Type 0) (said : ℕ → ℕ → Bool → Type 0) (kit : Kit) (end : Option End) (old new : Stance) : Type 0 where
   pub rounds : List Round
   pub are : AreRounds told said kit rounds old new

@@ -59,6 +59,7 @@ abbrev pub FlusherWaits : (told : ℕ → Type 0) (place : ℕ) (team : Team) (a
 FlusherWaits told place team (Resting ticks) = FlusherRests told place ticks team
 FlusherWaits told place team other = ⊥
 
+-- what a job says that has nothing to do, the writers' or a flusher's
 abbrev pub HasNothingToDo : (told : ℕ → Type 0) (trace : Trace) (team : Team) (job : Job) (answer : JobOutcome) → Type 0
 HasNothingToDo told trace team Writers answer = WritersWait told trace team answer
 HasNothingToDo told trace team (Flusher place) answer = FlusherWaits told place team answer
@@ -83,7 +84,7 @@ none_is_over (other ∷ more) = none_is_over more
 
 -- ---- what such jobs leave
 
--- a flusher with its batch, its phase, what it is to add and to count, and the inodes that wait for their age
+-- a flusher with its batch, its phase, what it is to add and to count, the inodes that wait for their age, and their places
 pub record IsLeft (old new : Seen) : Type 0 where
   pub plan : new.plan ≡ old.plan
   pub phase : new.work.phase ≡ old.work.phase
@@ -91,7 +92,9 @@ pub record IsLeft (old new : Seen) : Type 0 where
   pub hard : new.work.hard ≡ old.work.hard
   pub tallies : new.work.tallies ≡ old.work.tallies
   pub wheel : new.work.wheel ≡ old.work.wheel
+  pub places : new.work.places ≡ old.work.places
 
+-- each flusher stands where it stood
 abbrev pub AreLeft : (old new : List Seen) → Type 0
 AreLeft [] [] = Unit {0}
 AreLeft (p ∷ old) (q ∷ new) = IsLeft p q × AreLeft old new

@@ -53,6 +53,7 @@ pub record WritersTurn (told : ℕ → Type 0) (said : ℕ → ℕ → Bool → 
   pub turned : Turned told said old.desk.trace old.desk.cpu kit answer (writer.sight old.desk.work seats old.log) (writer.sight new.desk.work seats' new.log)
   pub did : WriterTakes told said old.desk.trace kit old.desk.cpu answer (writer.sight old.desk.work seats old.log) (writer.sight new.desk.work seats' new.log)
 
+-- a job's turn, the writers' or a flusher's
 abbrev pub TakesTurn : (told : ℕ → Type 0) (said : ℕ → ℕ → Bool → Type 0) (kit : Kit) (job : Job) (answer : Turn) (old new : Team) (seats seats' : Seats) → Type 0
 TakesTurn told said kit Writers answer old new seats seats' = WritersTurn told said kit answer old new seats seats'
 TakesTurn told said kit (Flusher place) answer old new seats seats' = FlusherTurn told said kit place answer old new seats seats'

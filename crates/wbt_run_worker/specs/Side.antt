@@ -67,8 +67,10 @@ pub record HasEnded (trace : Trace) (tasks : Tasks) : Type 0 where
   pub all : AllEnded tasks 0 (length tasks.tasks.items)
   pub done : IsAllDone trace tasks
 
+-- every task of the team's CPU has ended
 abbrev pub HaveEnded : (trace : Trace) (team : Team) → Type 0
 HaveEnded trace team = HasEnded trace team.desk.work.tasks
 
+-- no flusher has failed
 abbrev pub NoneFailed : (posts : List Seen) → Type 0
 NoneFailed posts = Each (λ (p : Seen). p.work.phase ≡ Failed → ⊥) posts

@@ -21,6 +21,7 @@ pub record Seen : Type 0 where
   pub written : Option ℕ
   pub faults : ℕ
 
+-- a flusher at its post, with what its disk tells
 abbrev pub seen : {D : Type 0} (written : D → Option ℕ) (faults : D → ℕ) (post : Post D) → Seen
 seen written faults post = record {
   plan = post.flusher.plan;
@@ -35,6 +36,7 @@ pub record Team : Type 0 where
   pub posts : List Seen
   pub log : CpuJournal
 
+-- the team of a CPU's side
 abbrev pub team_of : {D : Type 0} (written : D → Option ℕ) (faults : D → ℕ) (side : CpuSide D) → Team
 team_of {D} written faults side = record {
   desk = side.writers;
@@ -63,6 +65,7 @@ flusher_at (p ∷ posts) flusher = if flusher == p.plan.flusher then shown_by p.
 abbrev pub claimed_by : (page : ℕ) (p : Seen) → ℕ
 claimed_by page p = times_in page (pages_by p.work.batch.items p.work.phase)
 
+-- how often a page stands among those that all of them claimed, and neither completed nor gave back
 abbrev pub claimed_in : (page : ℕ) (posts : List Seen) → ℕ
 claimed_in page posts = sum_by (claimed_by page) posts
 
@@ -70,12 +73,15 @@ claimed_in page posts = sum_by (claimed_by page) posts
 abbrev pub owed_by : (domain : ℕ) (p : Seen) → ℕ
 owed_by domain p = owing p.plan domain p.work
 
+-- what all flushers are still to add to a domain
 abbrev pub owed_in : (posts : List Seen) (domain : ℕ) → ℕ
 owed_in posts domain = sum_by (owed_by domain) posts
 
+-- what one of them is still to count into what a context wrote
 abbrev pub owed_total : (context : ℕ) (p : Seen) → ℕ
 owed_total context p = owing_total p.plan context p.work
 
+-- what all flushers are still to count into what a context wrote
 abbrev pub owed_totals : (posts : List Seen) (context : ℕ) → ℕ
 owed_totals posts context = sum_by (owed_total context) posts
 
@@ -94,11 +100,13 @@ written_by (p ∷ posts) = both_told p.written (written_by posts)
 abbrev pub failed_in : (posts : List Seen) → ℕ
 failed_in posts = sum_by (λ (p : Seen). p.work.faults) posts
 
+-- how many faults the disks count
 abbrev pub faults_in : (posts : List Seen) → ℕ
 faults_in posts = sum_by (λ (p : Seen). p.faults) posts
 
 -- ---- as a worker
 
+-- a team and its seats as a worker: what it shows and notes, and its log
 abbrev pub worker_of : (trace : Trace) (cpu : ℕ) (team : Team) (seats : Seats) → Worker
 worker_of trace cpu team seats = record {
   shown = shown_of cpu (flusher_at team.posts) (sight team.desk.work seats team.log);

@@ -21,6 +21,7 @@ pub record TimerStance : Type 0 where
   pub seats : Seats
   pub log : List TimerEntry
 
+-- the stance of the timer's worker on its seats
 abbrev pub timer_stance : (worker : TimerWorker) (seats : Seats) → TimerStance
 timer_stance worker seats = record { side = worker.side; seats = seats; log = worker.log.items }
 
@@ -58,6 +59,7 @@ abbrev pub is_refused : (answer : Turn) → Bool
 is_refused NoMemory = true
 is_refused other = false
 
+-- whether the gate stopped a turn
 abbrev pub is_stopped : (answer : Turn) → Bool
 is_stopped Halted = true
 is_stopped other = false
@@ -120,6 +122,7 @@ IsOneTurn [] halted voice = (voice.quiet ≡ true) ⊎ (halted ≡ true)
 IsOneTurn (answer ∷ []) halted voice = halted ≡ false
 IsOneTurn (answer ∷ next ∷ more) halted voice = ⊥
 
+-- the timer's worker took one turn, or none
 pub record HasTurnedOnce (told : ℕ → Type 0) (said : ℕ → ℕ → Bool → Type 0) (kit : Kit) (old new : TimerWorker) (seats seats' : Seats) : Type 0 where
   pub turned : HasTurned told said kit old new seats seats'
   pub once : IsOneTurn turned.turns old.halted new.voice

@@ -32,6 +32,7 @@ HasWritten None writes = Unit {0}
 HasWritten (Some Stopped) writes = Unit {0}
 HasWritten (Some end) writes = writes ≡ false
 
+-- what a CPU's worker says by its voice, as its side goes on or ends
 pub record Speaks (signals : TableId) (writes : Bool) (end : Option End) (old new : Known) : Type 0 where
   pub may : MaySpeak signals writes new
   pub stakes : new.stakes ≡ old.stakes

@@ -35,6 +35,7 @@ pub record IsStill (old new : Seen) : Type 0 where
   pub failed : old.work.faults ≤ new.work.faults
   pub risen : HasRisenBy (new.work.faults - old.work.faults) old.faults new.faults
 
+-- each flusher has its plan still, and counts no fewer failures
 abbrev pub AreStill : (old new : List Seen) → Type 0
 AreStill [] [] = Unit {0}
 AreStill (p ∷ old) (q ∷ new) = IsStill p q × AreStill old new
@@ -46,6 +47,7 @@ pub record IsFaulted (old new : Seen) : Type 0 where
   pub failed : new.work.phase ≡ Failed
   pub eighth : new.work.faults ≡ MOST_FAULTS
 
+-- one of these flushers failed for the last time
 abbrev pub AnyFaulted : (old new : List Seen) → Type 0
 AnyFaulted (p ∷ old) (q ∷ new) = IsFaulted p q ⊎ AnyFaulted old new
 AnyFaulted _ _ = ⊥

@@ -90,6 +90,7 @@ pub record TurnsFollow (domains : ℕ) : Type 0 where
   pub cut : (old mid new : Seats) → Steps (IsWhole (IsTimerTurn domains)) old mid → CutsTurn domains mid new → Steps (IsCutOff (IsTimerTurn domains)) old new
   pub ended : (old new : Seats) → Steps (IsWhole (IsTimerTurn domains)) old new → Steps (IsCutOff (IsTimerTurn domains)) old new
 
+-- so it is for any number of domains
 abbrev pub TurnsFollowOneAnother : Type 0
 TurnsFollowOneAnother = (domains : ℕ) → TurnsFollow domains
 

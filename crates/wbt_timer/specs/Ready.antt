@@ -18,6 +18,7 @@ pub record IsReady (trace : Trace) (kit : Kit) (side : Side) (seats : Seats) : T
 
 -- ---- a law
 
+-- the timer is ready at the opening
 abbrev pub IsReadyFirst : Type 0
 IsReadyFirst = (trace : Trace) (now : ℕ) (kit : Kit) (side : Side) (seats : Seats) → IsKitOf trace now kit → AreSeatsOf kit seats → AreFirst kit seats
     → IsTimerOf trace side → IsFirstSide trace now side → IsReady trace kit side seats

@@ -42,6 +42,7 @@ pub record IsSide (side : Side) : Type 0 where
 
 -- ---- at the opening
 
+-- what the timer keeps of a domain at the opening: its first hard limit, and that no period is owed
 abbrev pub first_side : (trace : Trace) (now domain : ℕ) → DomainSide
 first_side trace now domain = record { hard = (first_limits trace now domain).hard; at = now; owed = 0 }
 
@@ -62,6 +63,7 @@ pub record IsFirstSide (trace : Trace) (now : ℕ) (side : Side) : Type 0 where
 abbrev pub line_of : (s : DomainSide) → Line
 line_of s = record { now = s.at; hard = s.hard }
 
+-- its last lines of all domains
 abbrev pub lines_of : (side : Side) → List Line
 lines_of side = map line_of side.domains
 

@@ -34,12 +34,15 @@ use Rattle.wbt_timer.specs.declared.side.DomainSide.{DomainSide}
 
 -- ---- limits, by the counts that were loaded in this turn
 
+-- a count before its first fold
 abbrev pub no_count : Count
 no_count = record { version = 0; value = pos 0 }
 
+-- what the timer keeps of a domain that isn't there
 abbrev pub no_side : DomainSide
 no_side = record { hard = 0; at = 0; owed = 0 }
 
+-- how many pages a count reads; one below zero reads none
 abbrev pub pages_read : (count : Count) → ℕ
 pages_read count = at_least_zero count.value
 
@@ -63,6 +66,7 @@ pub record Outcome : Type 0 where
   pub limits : Limits
   pub put : Put
 
+-- the limits that were found, domain by domain
 abbrev pub limits_of : (outcomes : List Outcome) → List Limits
 limits_of outcomes = map (λ (o : Outcome). o.limits) outcomes
 
@@ -72,6 +76,7 @@ is_through Done = true
 is_through Stopped = false
 is_through Last = true
 
+-- the gate stopped none of these publications
 abbrev pub AreThrough : (outcomes : List Outcome) → Type 0
 AreThrough outcomes = Each (λ (o : Outcome). is_through o.put ≡ true) outcomes
 
@@ -81,6 +86,7 @@ line_for Done domain now limits = LimitsLine domain now limits ∷ []
 line_for Stopped domain now limits = []
 line_for Last domain now limits = []
 
+-- the lines of those that were published, of domains from one on
 abbrev pub lines_from : (now domain : ℕ) (outcomes : List Outcome) → List TimerEntry
 lines_from now domain [] = []
 lines_from now domain (one ∷ more) = line_for one.put domain now one.limits ++ lines_from now (suc domain) more
@@ -91,6 +97,7 @@ published_by Done domain limits older = record { domain = domain; version = suc 
 published_by Stopped domain limits older = older
 published_by Last domain limits older = older
 
+-- what is published after all of them, the newest first, of domains from one on
 abbrev pub published_from : (domain : ℕ) (outcomes : List Outcome) (older : List DomainLimits) → List DomainLimits
 published_from domain [] older = older
 published_from domain (one ∷ more) older = published_from (suc domain) more (published_by one.put domain one.limits older)
@@ -106,6 +113,7 @@ IsLastPut Done domain older = Unit {0}
 IsLastPut Stopped domain older = Unit {0}
 IsLastPut Last domain older = LAST_SEQUENCE ≤ 2 * version_of domain older
 
+-- each that was left out as the last version has its cause, of domains from one on
 abbrev pub AreLast : (domain : ℕ) (outcomes : List Outcome) (older : List DomainLimits) → Type 0
 AreLast domain [] older = Unit {0}
 AreLast domain (one ∷ more) older = IsLastPut one.put domain older × AreLast (suc domain) more (published_by one.put domain one.limits older)
@@ -122,6 +130,7 @@ side_after Done now limits s = record s { hard = limits.hard; at = now }
 side_after Stopped now limits s = s
 side_after Last now limits s = s
 
+-- what the timer keeps of the domains after these publications
 abbrev pub with_limits : (now : ℕ) (outcomes : List Outcome) (sides : List DomainSide) → List DomainSide
 with_limits now [] sides = sides
 with_limits now (one ∷ more) [] = []
@@ -136,9 +145,11 @@ pub data Tries (domain k : ℕ) (old new : ShareSeat) (owed : ℕ) (added : List
   refused : 1 ≤ k → Begins k false old new → owed ≡ 0 → added ≡ [] → Tries domain k old new owed added
   came_between : (again : Again) → 1 ≤ k → Lost k again old new → owed ≡ k → added ≡ [] → Tries domain k old new owed added
 
+-- the seat at a domain's shares
 abbrev pub seat_at : (domain : ℕ) (share : ShareSeats) → ShareSeat
 seat_at domain share = get_or share.domains domain no_seat
 
+-- what was noted of a domain's shares, the newest first
 abbrev pub noted : (share : ShareSeats) (domain : ℕ) → List Note
 noted share domain = (seat_at domain share).notes
 
@@ -170,6 +181,7 @@ pub record Became (readings : List Reading) (published : List DomainLimits) (rai
   pub published_are : held.published ≡ published
   pub raised_are : held.raised ≡ raised
 
+-- a domain's count was loaded, and nothing else changed but the timer's record
 pub record Counted (domain : ℕ) (count : Count) (old new : Seats) : Type 0 where
   pub kept : SeatsKept old new
   pub became : (r : TimerRecord) → HasTimer r old → Became (reading_of domain count ∷ r.readings) r.published r.raised new
@@ -243,6 +255,7 @@ pub record TriedEach (come done : ℕ) (sides sides' : List DomainSide) (old new
 
 -- ---- the turn
 
+-- what the timer keeps of a domain
 abbrev pub side_at : (domain : ℕ) (side : Side) → DomainSide
 side_at domain side = get_or side.domains domain no_side
 

@@ -25,6 +25,7 @@ use Rattle.wbt_top_plain.specs.declared.status.Words.{Words}
 
 -- ---- the words
 
+-- the words are `audit` alone
 abbrev pub IsAudit : (words : Words) → Type 0
 IsAudit words = IsWord (codes "audit") words
 
@@ -84,6 +85,7 @@ PartsTell front rest (bad_trace fault) = IsAnswer front (Err fault)
 PartsTell front rest (bad_journal line) = ((trace : Trace) × IsAnswer front (Ok trace)) × IsBadAt rest line
 PartsTell front rest (both trace j) = IsAnswer front (Ok trace) × IsJournalOf rest j
 
+-- the parts of an input tell this
 pub record Tells (input : List ℕ) (what : Told) : Type 0 where
   pub front : List ℕ
   pub rest : Option (List ℕ)

@@ -10,6 +10,7 @@ use Rattle.wbt_top_plain.specs.declared.status.Words.{Words}
 
 -- ---- the words
 
+-- the words are `run` alone
 abbrev pub IsRun : (words : Words) → Type 0
 IsRun words = IsWord (codes "run") words
 

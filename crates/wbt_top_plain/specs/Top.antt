@@ -38,12 +38,15 @@ use Rattle.wbt_top_plain.specs.declared.status.Words.{Words}
 abbrev pub IsWord : (word : List ℕ) (words : Words) → Type 0
 IsWord word words = map string_bytes words.list ≡ word ∷ []
 
+-- the words are `replay` alone
 abbrev pub IsReplay : (words : Words) → Type 0
 IsReplay words = IsWord (codes "replay") words
 
+-- the words are `check` alone
 abbrev pub IsCheck : (words : Words) → Type 0
 IsCheck words = IsWord (codes "check") words
 
+-- the words are `law` alone
 abbrev pub IsLaw : (words : Words) → Type 0
 IsLaw words = IsWord (codes "law") words
 
@@ -98,6 +101,7 @@ IsLawRefused left fault = IfSome left (λ input. (length input ≤ MOST_INPUT) �
 abbrev pub IfLawTold : (left : Option (List ℕ)) (holds : LawInput → Type 0) → Type 0
 IfLawTold left holds = IfSome left (λ input. length input ≤ MOST_INPUT → (law : LawInput) → IsLawAnswer input (Ok law) → holds law)
 
+-- where the input is told, isn't too long and has a fault, this holds of its first one
 abbrev pub IfLawFaulty : (left : Option (List ℕ)) (holds : TraceFault → Type 0) → Type 0
 IfLawFaulty left holds = IfSome left (λ input. length input ≤ MOST_INPUT → (fault : TraceFault) → IsLawAnswer input (Err fault) → holds fault)
 

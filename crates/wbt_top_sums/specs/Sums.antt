@@ -14,6 +14,7 @@ abbrev pub absorbs_one : (event : Event) → Bool
 absorbs_one (Absorb page) = true
 absorbs_one other = false
 
+-- whether an entry gives a page back which was dirty again
 abbrev pub is_absorption : (entry : Told) → Bool
 is_absorption entry = of_part false absorbs_one (event_of entry)
 

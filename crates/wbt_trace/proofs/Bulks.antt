@@ -3,7 +3,7 @@ use Rattle.std.proofs.Common.{◌≡◌, ℕ, zero, suc, ◌+◌, ◌%◌, ◌<�
 use Rattle.std.specs.List.{All}
 use Rattle.std.proofs.lemmas.List.Elements.{All-cons, All-nil}
 use Rattle.wbt_trace.specs.Bulk.{bulk_trace, bulk_inodes, bulk_write, disk, pages_of}
-use Rattle.wbt_trace.specs.Lawful.{IsLawful, AreInodes, IsInode, IsDevice, IsContext, IsTask, IsFlusher, IsAction, IsCgroup, IsOrder}
+use Rattle.wbt_trace.specs.Lawful.{IsLawful, AreInodes, IsInode, IsDevice, IsContext, HasPace, IsTask, IsFlusher, IsAction, IsCgroup, IsOrder}
 use Rattle.wbt_trace.specs.Lawful.{has_flusher}
 use Rattle.wbt_trace.specs.Sofar.{pages_in}
 
@@ -72,6 +72,7 @@ bulk_is_lawful n enough few = record {
     inodes = inodes_are n enough few;
     tasks = four (IsTask 4) _ _ _ _ (omega arith) (omega arith) (omega arith) (omega arith);
     few_tasks = omega arith;
+    paces = four HasPace _ _ _ _ tt tt tt tt;
     flushers = two (IsFlusher 2 4) _ _ (omega arith, omega arith) (omega arith, omega arith);
     few_flushers = omega arith;
     actions = four (IsAction 4 (bulk_inodes n)) _ _ _ _ (action_is n 0 enough (omega arith) (omega arith)) (action_is n 1 enough (omega arith) (omega arith)) (action_is n 2 enough (omega arith) (omega arith)) (action_is n 3 enough (omega arith) (omega arith));

@@ -1,5 +1,5 @@
 -- The trace that a bulk run runs: two disks, four CPUs, and four tasks that each write all pages of an inode of their own.
-use Rattle.std.specs.Prelude.{ℕ, ◌+◌, ◌/◌, ◌%◌, nat_lt, if◌then◌else◌, List, [], ◌∷◌, None, false}
+use Rattle.std.specs.Prelude.{ℕ, ◌+◌, ◌/◌, ◌%◌, nat_lt, if◌then◌else◌, List, [], ◌∷◌, None, false, true}
 use Rattle.wbt_num.specs.declared.most.TheConstants.{MOST_CAP}
 use Rattle.wbt_trace.specs.declared.bulk.TheConstants.{BULK_AVAIL}
 use Rattle.wbt_trace.specs.declared.ranges.TheConstants.{DEFAULT_BACKGROUND_RATIO, DEFAULT_RATIO, MOST_DEVICE_RATE, MOST_PERCENT}
@@ -15,7 +15,7 @@ pages_of n i = n / 4 + (if nat_lt i (n % 4) then 1 else 0)
 
 -- a disk without a least share, as fast as one may be
 abbrev pub disk : Device
-disk = record { rate = MOST_DEVICE_RATE; min = 0; max = MOST_PERCENT; strict = false; chunk = None }
+disk = record { rate = MOST_DEVICE_RATE; min = 0; max = MOST_PERCENT; strict = false; chunk = None; cyclic = true }
 
 -- each begins where the one before ends, and they take turns on the two disks
 abbrev pub bulk_inodes : (n : ℕ) → List Inode
@@ -30,9 +30,11 @@ bulk_inodes n =
 abbrev pub bulk_write : (n i : ℕ) → Action
 bulk_write n i = Write i i 0 (pages_of n i)
 
+-- what all four tasks do
 abbrev pub bulk_writes : (n : ℕ) → List Action
 bulk_writes n = bulk_write n 0 ∷ bulk_write n 1 ∷ bulk_write n 2 ∷ bulk_write n 3 ∷ []
 
+-- the trace of a bulk run of n pages
 abbrev pub bulk_trace : (n : ℕ) → Trace
 bulk_trace n = record {
   cpus = 4;
@@ -43,7 +45,7 @@ bulk_trace n = record {
   cgroups = [];
   contexts = record { device = 0; domain = 0; expire = None; estimate = None } ∷ record { device = 1; domain = 0; expire = None; estimate = None } ∷ [];
   inodes = bulk_inodes n;
-  tasks = record { cpu = 0 } ∷ record { cpu = 0 } ∷ record { cpu = 1 } ∷ record { cpu = 1 } ∷ [];
+  tasks = record { cpu = 0; pace = None } ∷ record { cpu = 0; pace = None } ∷ record { cpu = 1; pace = None } ∷ record { cpu = 1; pace = None } ∷ [];
   flushers = record { device = 0; cpu = 2 } ∷ record { device = 1; cpu = 3 } ∷ [];
   actions = bulk_writes n;
   order = [];

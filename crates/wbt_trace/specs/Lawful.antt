@@ -16,11 +16,13 @@ use Rattle.wbt_trace.specs.declared.trace.FlusherLine.{FlusherLine}
 use Rattle.wbt_trace.specs.declared.trace.Inode.{Inode}
 use Rattle.wbt_trace.specs.declared.trace.Order.{Order}
 use Rattle.wbt_trace.specs.declared.trace.Order.TheVariants.{Steps, Timer, Tick}
+use Rattle.wbt_trace.specs.declared.trace.Pace.{Pace}
 use Rattle.wbt_trace.specs.declared.trace.TaskLine.{TaskLine}
 use Rattle.wbt_trace.specs.declared.trace.Trace.{Trace}
 use Rattle.wbt_trace.specs.declared.writers.Writer.{Writer}
 use Rattle.wbt_trace.specs.declared.ranges.TheConstants.{MOST_AVAIL_PAGES, MOST_COUNT, MOST_DEVICE_RATE, MOST_EXPIRE, MOST_PERCENT, MOST_FIRST_RATE, MOST_SETTING_BYTES}
 
+-- percentages are at most 100, and bytes in range
 pub record AreSettings (settings : Settings) : Type 0 where
   pub ratio : settings.ratio ≤ MOST_PERCENT
   pub bg_ratio : settings.bg_ratio ≤ MOST_PERCENT
@@ -41,16 +43,19 @@ AreAvails last (a ∷ more) = IsNext last a.from × (a.from ≤ MOST_COUNT) × (
 abbrev pub IsChunk : (pages : ℕ) → Type 0
 IsChunk pages = (1 ≤ pages) × (pages ≤ MOST_PAGES)
 
+-- a device's rate, its shares and its chunk are in range
 pub record IsDevice (device : Device) : Type 0 where
   pub rate : (1 ≤ device.rate) × (device.rate ≤ MOST_DEVICE_RATE)
   pub shares : (device.min ≤ device.max) × (device.max ≤ MOST_PERCENT)
   pub chunk : IfSome device.chunk IsChunk
 
+-- devices in range, not too many, whose least shares are at most 100 percent together
 pub record AreDevices (devices : List Device) : Type 0 where
   pub each : All IsDevice devices
   pub shares : least_shares devices ≤ MOST_PERCENT
   pub few : length devices ≤ MOST_DEVICES
 
+-- a cgroup's file pages and headroom are in range
 abbrev pub IsCgroup : (cgroup : Cgroup) → Type 0
 IsCgroup cgroup = (cgroup.filepages ≤ MOST_AVAIL_PAGES) × (cgroup.headroom ≤ MOST_AVAIL_PAGES)
 
@@ -62,6 +67,7 @@ IsExpire centi = (1 ≤ centi) × (centi ≤ MOST_EXPIRE)
 abbrev pub IsFirstRate : (rate : ℕ) → Type 0
 IsFirstRate rate = (1 ≤ rate) × (rate ≤ MOST_FIRST_RATE)
 
+-- each rate of a first estimate is in range
 pub record IsFirstEstimate (estimate : FirstEstimate) : Type 0 where
   pub bandwidth : IsFirstRate estimate.bandwidth
   pub average : IsFirstRate estimate.average
@@ -81,21 +87,33 @@ abbrev pub AreFirsts : (n : ℕ) (inodes : List Inode) → Type 0
 AreFirsts n [] = Unit {0}
 AreFirsts n (inode ∷ inodes) = (inode.first ≡ n) × AreFirsts (n + inode.pages) inodes
 
+-- inodes in range, not too many, with all pages numbered in order
 pub record AreInodes (contexts : ℕ) (inodes : List Inode) : Type 0 where
   pub each : All (IsInode contexts) inodes
   pub firsts : AreFirsts 0 inodes
   pub total : pages_in inodes ≤ MOST_PAGES
   pub few : length inodes ≤ MOST_INODES
 
+-- of so many CPUs
 abbrev pub IsTask : (cpus : ℕ) (task : TaskLine) → Type 0
 IsTask cpus task = task.cpu < cpus
 
+-- of so many devices and CPUs
 abbrev pub IsFlusher : (devices cpus : ℕ) (flusher : FlusherLine) → Type 0
 IsFlusher devices cpus flusher = (flusher.device < devices) × (flusher.cpu < cpus)
 
 -- from 1 to the most ticks or steps
 abbrev pub IsCount : (n : ℕ) → Type 0
 IsCount n = (1 ≤ n) × (n ≤ MOST_COUNT)
+
+-- a pace's pages and ticks are in range
+pub record IsPace (pace : Pace) : Type 0 where
+  pub pages : (1 ≤ pace.pages) × (pace.pages ≤ MOST_PAGES)
+  pub ticks : IsCount pace.ticks
+
+-- a task rests between its pages only as its line may say it
+abbrev pub HasPace : (task : TaskLine) → Type 0
+HasPace task = IfSome task.pace IsPace
 
 -- of so many tasks, and these inodes: a write is of pages that the inode has
 abbrev pub IsAction : (tasks : ℕ) (inodes : List Inode) (action : Action) → Type 0
@@ -113,6 +131,7 @@ writers_after writers inodes (Rest task ticks ∷ actions) = writers_after write
 abbrev pub writers_of : (inodes : List Inode) (actions : List Action) → List Writer
 writers_of inodes actions = writers_after [] inodes actions
 
+-- an order line names one of so many CPUs, or the timer, and its steps or ticks are in range
 abbrev pub IsOrder : (cpus : ℕ) (order : Order) → Type 0
 IsOrder cpus (Steps cpu steps) = (cpu < cpus) × IsCount steps
 IsOrder cpus (Timer steps) = IsCount steps
@@ -133,6 +152,7 @@ pub record IsWithin (trace : Trace) : Type 0 where
   pub inodes : AreInodes (length trace.contexts) trace.inodes
   pub tasks : All (IsTask trace.cpus) trace.tasks
   pub few_tasks : length trace.tasks ≤ MOST_TASKS
+  pub paces : All HasPace trace.tasks
   pub flushers : All (IsFlusher (length trace.devices) trace.cpus) trace.flushers
   pub few_flushers : length trace.flushers ≤ MOST_FLUSHERS
   pub actions : All (IsAction (length trace.tasks) trace.inodes) trace.actions
@@ -152,6 +172,7 @@ pub record IsWhole (trace : Trace) : Type 0 where
   pub avail : 1 ≤ length trace.avail
   pub flushers : (device : ℕ) → device < length trace.devices → IsTrue (has_flusher device trace.flushers)
 
+-- a trace that may be run: each thing is in range, and nothing is missing
 pub record IsLawful (trace : Trace) : Type 0 where
   pub within : IsWithin trace
   pub whole : IsWhole trace

@@ -10,6 +10,7 @@ use Rattle.wbt_trace.specs.declared.trace.FirstEstimate.{FirstEstimate}
 use Rattle.wbt_trace.specs.declared.trace.FlusherLine.{FlusherLine}
 use Rattle.wbt_trace.specs.declared.trace.Inode.{Inode}
 use Rattle.wbt_trace.specs.declared.trace.Order.{Order}
+use Rattle.wbt_trace.specs.declared.trace.Pace.{Pace}
 use Rattle.wbt_trace.specs.declared.trace.TaskLine.{TaskLine}
 use Rattle.wbt_trace.specs.declared.trace.Trace.{Trace}
 use Rattle.wbt_trace.specs.declared.writers.Writer.{Writer}
@@ -87,7 +88,7 @@ least_shares devices = sum_by (λ device. device.min) devices
 
 -- the device of the number; not a page a second where there is none
 abbrev pub device_at : (d : ℕ) (devices : List Device) → Device
-device_at d devices = slice_index_or devices d (record { rate = 0; min = 0; max = 0; strict = false; chunk = None })
+device_at d devices = slice_index_or devices d (record { rate = 0; min = 0; max = 0; strict = false; chunk = None; cyclic = false })
 
 -- the devices, of which that of the number is strict
 abbrev pub with_strict : (d : ℕ) (devices : List Device) → List Device
@@ -96,6 +97,18 @@ with_strict d devices = slice_set devices d (record (device_at d devices) { stri
 -- the devices, of which that of the number says with how many pages a scan ends at the latest
 abbrev pub with_chunk : (d pages : ℕ) (devices : List Device) → List Device
 with_chunk d pages devices = slice_set devices d (record (device_at d devices) { chunk = Some pages })
+
+-- the devices, of which that of the number says that its scans go round
+abbrev pub with_cyclic : (d : ℕ) (devices : List Device) → List Device
+with_cyclic d devices = slice_set devices d (record (device_at d devices) { cyclic = true })
+
+-- the task of the number; on the first CPU where there is none
+abbrev pub task_at : (t : ℕ) (tasks : List TaskLine) → TaskLine
+task_at t tasks = slice_index_or tasks t (record { cpu = 0; pace = None })
+
+-- the tasks, of which that of the number says when it rests between its pages
+abbrev pub with_pace : (t : ℕ) (pace : Pace) (tasks : List TaskLine) → List TaskLine
+with_pace t pace tasks = slice_set tasks t (record (task_at t tasks) { pace = Some pace })
 
 -- the context of the number; of the first device, in no cgroup, where there is none
 abbrev pub context_at : (w : ℕ) (contexts : List Context) → Context

@@ -36,6 +36,7 @@ fn disk() -> Device
         max: MOST_PERCENT as u32,
         strict: false,
         chunk: None,
+        cyclic: true,
     }
 }
 
@@ -121,10 +122,10 @@ fn whole(alloc: Global, n: u64) -> Result<Trace, AllocError>
         },
     ];
     let tasks = [
-        TaskLine { cpu: 0 },
-        TaskLine { cpu: 0 },
-        TaskLine { cpu: 1 },
-        TaskLine { cpu: 1 },
+        TaskLine { cpu: 0, pace: None },
+        TaskLine { cpu: 0, pace: None },
+        TaskLine { cpu: 1, pace: None },
+        TaskLine { cpu: 1, pace: None },
     ];
     let flushers = [
         FlusherLine { device: 0, cpu: 2 },

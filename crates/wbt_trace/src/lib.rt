@@ -23,7 +23,7 @@ pub use ranges::{
     MOST_EXPIRE, MOST_FIRST_RATE, MOST_PERCENT, MOST_SETTING_BYTES,
 };
 pub use trace::{
-    Action, Avail, Cgroup, Context, Device, FirstEstimate, FlusherLine, Inode, Order, TaskLine,
-    Trace,
+    Action, Avail, Cgroup, Context, Device, FirstEstimate, FlusherLine, Inode, Order, Pace,
+    TaskLine, Trace,
 };
 pub use writers::{Writer, Writers};

@@ -27,6 +27,8 @@ pub struct Device {
     pub strict: bool,
     /// With so many pages in its batch a scan for the device ends at the latest, 1 to 2^21; None where no line says it.
     pub chunk: Option<u32>,
+    /// Whether a scan for the device begins where the last one of the same flusher and inode ended, and goes round.
+    pub cyclic: bool,
 }
 
 /// A memory cgroup, which is a domain of its own.
@@ -78,6 +80,17 @@ pub struct Inode {
 pub struct TaskLine {
     /// The CPU that it runs on.
     pub cpu: u32,
+    /// When it rests between its pages; None where no line says it.
+    pub pace: Option<Pace>,
+}
+
+/// When a task rests between its pages.
+#[derive(Clone, Copy, Debug, PartialEq, Eq)]
+pub struct Pace {
+    /// After so many of its pages, 1 to 2^21, where a further one follows.
+    pub pages: u32,
+    /// For so many ticks, 1 to 10^12.
+    pub ticks: u64,
 }
 
 /// A flusher, which writes dirty pages back to its device.

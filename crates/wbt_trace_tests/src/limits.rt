@@ -10,7 +10,7 @@ static FRONT: &[u8] =
     b"cpus 64\navail 0 5\ndevice 0 1 60 100\ncgroup 1 0 0\ncontext 0 0 1\ninode 0 0 9\ntask 0 63\nflusher 0 0 63\n";
 
 // Lines at the ends of the ranges. A device that has no flusher yet is missing one, and its line is taken.
-static TAKEN: [&[u8]; 43] = [
+static TAKEN: [&[u8]; 46] = [
     b"cap 1\n",
     b"cap 1024\n",
     b"set dirty_ratio 0\n",
@@ -29,6 +29,7 @@ static TAKEN: [&[u8]; 43] = [
     b"strict 0\n",
     b"chunk 0 1\n",
     b"chunk 0 2097152\n",
+    b"cyclic 0\n",
     b"cgroup 2 0 0\n",
     b"cgroup 2 1099511627776 1099511627776\n",
     b"context 1 0 0\n",
@@ -41,6 +42,8 @@ static TAKEN: [&[u8]; 43] = [
     b"inode 1 0 2097143\n",
     b"task 1 0\n",
     b"task 1 63\n",
+    b"pace 0 1 1\n",
+    b"pace 0 2097152 1000000000000\n",
     b"flusher 1 0 0\n",
     b"write 0 0 0 9\n",
     b"write 0 0 8 1\n",
@@ -57,7 +60,7 @@ static TAKEN: [&[u8]; 43] = [
 ];
 
 // Lines with a number that is one past the end of its range.
-static PAST: [&[u8]; 49] = [
+static PAST: [&[u8]; 53] = [
     b"cap 0\n",
     b"cap 1025\n",
     b"set dirty_ratio 101\n",
@@ -92,6 +95,10 @@ static PAST: [&[u8]; 49] = [
     b"inode 2 0 1\n",
     b"task 1 64\n",
     b"task 2 0\n",
+    b"pace 0 0 1\n",
+    b"pace 0 2097153 1\n",
+    b"pace 0 1 0\n",
+    b"pace 0 1 1000000000001\n",
     b"flusher 1 0 64\n",
     b"flusher 2 0 0\n",
     b"write 0 0 0 0\n",
@@ -110,14 +117,16 @@ static PAST: [&[u8]; 49] = [
 ];
 
 // Lines that name a thing one past the last, and one that makes a page too many.
-static OTHERS: [(&[u8], TraceFault); 12] = [
+static OTHERS: [(&[u8], TraceFault); 14] = [
     (b"strict 1\n", TraceFault::UnknownName { line: 9 }),
     (b"chunk 1 1\n", TraceFault::UnknownName { line: 9 }),
+    (b"cyclic 1\n", TraceFault::UnknownName { line: 9 }),
     (b"context 1 1 0\n", TraceFault::UnknownName { line: 9 }),
     (b"context 1 0 2\n", TraceFault::UnknownName { line: 9 }),
     (b"expire 1 1\n", TraceFault::UnknownName { line: 9 }),
     (b"estimate 1 1 1 1\n", TraceFault::UnknownName { line: 9 }),
     (b"inode 1 1 1\n", TraceFault::UnknownName { line: 9 }),
+    (b"pace 1 1 1\n", TraceFault::UnknownName { line: 9 }),
     (b"flusher 1 1 0\n", TraceFault::UnknownName { line: 9 }),
     (b"write 1 0 0 1\n", TraceFault::UnknownName { line: 9 }),
     (b"write 0 1 0 1\n", TraceFault::UnknownName { line: 9 }),

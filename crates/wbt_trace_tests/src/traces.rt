@@ -2,15 +2,15 @@
 
 use std::alloc::{AllocError, Global};
 use std::test::Fail;
-use wbt_trace::{Action, Context, Device, FirstEstimate, Inode, Trace, generate};
+use wbt_trace::{Action, Inode, Trace, generate};
 use wbt_trace_text::{Missing, TraceFault, read_trace, write_trace};
 
 // A text with a line of each kind, in the order in which a trace is written, and one with the same lines in another.
 static EACH_KIND: &[u8] =
-    b"cpus 2\ncap 5\nset dirty_ratio 30\nset dirty_background_ratio 15\nset dirty_bytes 4096\nset dirty_background_bytes 8192\navail 0 100\navail 7 200\ndevice 0 128 0 100\nstrict 0\nchunk 0 6\ncgroup 1 1000 2000\ncontext 0 0 1\nexpire 0 50\nestimate 0 7 8 9\ninode 0 0 3\ninode 1 0 4\ntask 0 1\nflusher 0 0 0\nwrite 0 1 1 2\nrest 0 9\norder 0 3\norder timer 2\ntick 5\nhalt 11\n";
+    b"cpus 2\ncap 5\nset dirty_ratio 30\nset dirty_background_ratio 15\nset dirty_bytes 4096\nset dirty_background_bytes 8192\navail 0 100\navail 7 200\ndevice 0 128 0 100\nstrict 0\nchunk 0 6\ncyclic 0\ncgroup 1 1000 2000\ncontext 0 0 1\nexpire 0 50\nestimate 0 7 8 9\ninode 0 0 3\ninode 1 0 4\ntask 0 1\npace 0 3 8\nflusher 0 0 0\nwrite 0 1 1 2\nrest 0 9\norder 0 3\norder timer 2\ntick 5\nhalt 11\n";
 
 static ANOTHER_ORDER: &[u8] =
-    b"halt 11\ncgroup 1 1000 2000\ndevice 0 128 0 100\ncontext 0 0 1\nestimate 0 7 8 9\ncpus 2\norder 0 3\ninode 0 0 3\ninode 1 0 4\nset dirty_background_bytes 8192\norder timer 2\ntask 0 1\nwrite 0 1 1 2\navail 0 100\nflusher 0 0 0\ntick 5\nchunk 0 6\nstrict 0\nexpire 0 50\nrest 0 9\nset dirty_bytes 4096\navail 7 200\nset dirty_background_ratio 15\nset dirty_ratio 30\ncap 5\n";
+    b"halt 11\ncgroup 1 1000 2000\ndevice 0 128 0 100\ncontext 0 0 1\ncyclic 0\nestimate 0 7 8 9\ncpus 2\norder 0 3\ninode 0 0 3\ninode 1 0 4\nset dirty_background_bytes 8192\norder timer 2\ntask 0 1\nwrite 0 1 1 2\navail 0 100\nflusher 0 0 0\ntick 5\npace 0 3 8\nchunk 0 6\nstrict 0\nexpire 0 50\nrest 0 9\nset dirty_bytes 4096\navail 7 200\nset dirty_background_ratio 15\nset dirty_ratio 30\ncap 5\n";
 
 // A text with the lines that must stand, and what is written of it.
 static SHORT: &[u8] =
@@ -20,12 +20,12 @@ static SHORT_WRITTEN: &[u8] =
     b"cpus 1\ncap 1024\nset dirty_ratio 20\nset dirty_background_ratio 10\nset dirty_bytes 0\nset dirty_background_bytes 0\navail 0 100000\ndevice 0 25600 0 100\ncontext 0 0 0\ninode 0 0 2\ntask 0 0\nflusher 0 0 0\n";
 
 // The trace of a text.
-fn trace_of(alloc: Global, text: &[u8]) -> Result<Trace, Fail> {
+pub(super) fn trace_of(alloc: Global, text: &[u8]) -> Result<Trace, Fail> {
     Ok(read_trace(alloc, text)?)
 }
 
 // What is written of the trace of a text.
-fn written(alloc: Global, text: &[u8]) -> Result<Vec<u8>, Fail> {
+pub(super) fn written(alloc: Global, text: &[u8]) -> Result<Vec<u8>, Fail> {
     let trace = read_trace(alloc, text)?;
     Ok(write_trace(alloc, &trace)?)
 }
@@ -84,132 +84,7 @@ fn pages_run_through_the_inodes(rt: HostRuntime) -> Result<(), Fail> {
     Ok(())
 }
 
-// Two strict devices of three, each line as early as its device is known or later.
-static STRICT: &[u8] =
-    b"cpus 1\ndevice 0 7 0 100\ndevice 1 8 0 100\nstrict 1\ndevice 2 9 0 100\ncontext 0 0 0\nstrict 0\nflusher 0 0 0\nflusher 1 1 0\nflusher 2 2 0\navail 0 9\n";
-
-static STRICT_WRITTEN: &[u8] =
-    b"cpus 1\ncap 1024\nset dirty_ratio 20\nset dirty_background_ratio 10\nset dirty_bytes 0\nset dirty_background_bytes 0\navail 0 9\ndevice 0 7 0 100\ndevice 1 8 0 100\ndevice 2 9 0 100\nstrict 0\nstrict 1\ncontext 0 0 0\nflusher 0 0 0\nflusher 1 1 0\nflusher 2 2 0\n";
-
-fn device(rate: u64, strict: bool, chunk: Option<u32>) -> Device {
-    Device {
-        rate,
-        min: 0,
-        max: 100,
-        strict,
-        chunk,
-    }
-}
-
-#[test]
-fn a_device_is_strict_where_a_line_says_so(rt: HostRuntime) -> Result<(), Fail> {
-    let trace = trace_of(rt.alloc(), STRICT)?;
-    assert_eq!(rt;
-        trace.devices.as_slice(),
-        [
-            device(7, true, None),
-            device(8, true, None),
-            device(9, false, None)
-        ]
-        .as_slice()
-    );
-    let found = written(rt.alloc(), STRICT)?;
-    assert_eq!(rt; found.as_slice(), STRICT_WRITTEN);
-    Ok(())
-}
-
-// Two devices of three have a chunk, one of which is strict too, each line as early as its device is known or later.
-static CHUNKS: &[u8] =
-    b"cpus 1\ndevice 0 7 0 100\ndevice 1 8 0 100\nchunk 1 2097152\ndevice 2 9 0 100\ncontext 0 0 0\nchunk 0 1\nstrict 1\nflusher 0 0 0\nflusher 1 1 0\nflusher 2 2 0\navail 0 9\n";
-
-static CHUNKS_WRITTEN: &[u8] =
-    b"cpus 1\ncap 1024\nset dirty_ratio 20\nset dirty_background_ratio 10\nset dirty_bytes 0\nset dirty_background_bytes 0\navail 0 9\ndevice 0 7 0 100\ndevice 1 8 0 100\ndevice 2 9 0 100\nstrict 1\nchunk 0 1\nchunk 1 2097152\ncontext 0 0 0\nflusher 0 0 0\nflusher 1 1 0\nflusher 2 2 0\n";
-
-#[test]
-fn a_device_has_the_chunk_that_its_line_says(rt: HostRuntime) -> Result<(), Fail> {
-    let trace = trace_of(rt.alloc(), CHUNKS)?;
-    assert_eq!(rt;
-        trace.devices.as_slice(),
-        [
-            device(7, false, Some(1)),
-            device(8, true, Some(2097152)),
-            device(9, false, None)
-        ]
-        .as_slice()
-    );
-    let found = written(rt.alloc(), CHUNKS)?;
-    assert_eq!(rt; found.as_slice(), CHUNKS_WRITTEN);
-    Ok(())
-}
-
-// Two contexts of three say after how long their inodes are due, each as early as the context is known or later.
-static DUE: &[u8] =
-    b"cpus 1\ndevice 0 7 0 100\ncontext 0 0 0\ncontext 1 0 0\nexpire 1 100000\ncontext 2 0 0\nflusher 0 0 0\nexpire 0 1\navail 0 9\n";
-
-static DUE_WRITTEN: &[u8] =
-    b"cpus 1\ncap 1024\nset dirty_ratio 20\nset dirty_background_ratio 10\nset dirty_bytes 0\nset dirty_background_bytes 0\navail 0 9\ndevice 0 7 0 100\ncontext 0 0 0\ncontext 1 0 0\ncontext 2 0 0\nexpire 0 1\nexpire 1 100000\nflusher 0 0 0\n";
-
-fn context(expire: Option<u32>, estimate: Option<FirstEstimate>) -> Context {
-    Context {
-        device: 0,
-        domain: 0,
-        expire,
-        estimate,
-    }
-}
-
-#[test]
-fn inodes_of_a_context_are_due_after_what_its_line_says(rt: HostRuntime) -> Result<(), Fail> {
-    let trace = trace_of(rt.alloc(), DUE)?;
-    assert_eq!(rt;
-        trace.contexts.as_slice(),
-        [
-            context(Some(1), None),
-            context(Some(100000), None),
-            context(None, None)
-        ]
-        .as_slice()
-    );
-    let found = written(rt.alloc(), DUE)?;
-    assert_eq!(rt; found.as_slice(), DUE_WRITTEN);
-    Ok(())
-}
-
-// Two contexts of three say their first estimates, one of which says too when its inodes are due.
-static FIRSTS: &[u8] =
-    b"cpus 1\ndevice 0 7 0 100\ncontext 0 0 0\ncontext 1 0 0\nestimate 1 1099511627776 2 1\ncontext 2 0 0\nexpire 1 5\nflusher 0 0 0\nestimate 0 1 1 3\navail 0 9\n";
-
-static FIRSTS_WRITTEN: &[u8] =
-    b"cpus 1\ncap 1024\nset dirty_ratio 20\nset dirty_background_ratio 10\nset dirty_bytes 0\nset dirty_background_bytes 0\navail 0 9\ndevice 0 7 0 100\ncontext 0 0 0\ncontext 1 0 0\ncontext 2 0 0\nexpire 1 5\nestimate 0 1 1 3\nestimate 1 1099511627776 2 1\nflusher 0 0 0\n";
-
-#[test]
-fn a_context_has_the_first_estimate_that_its_line_says(rt: HostRuntime) -> Result<(), Fail> {
-    let trace = trace_of(rt.alloc(), FIRSTS)?;
-    let first = FirstEstimate {
-        bandwidth: 1,
-        average: 1,
-        ratelimit: 3,
-    };
-    let second = FirstEstimate {
-        bandwidth: 1099511627776,
-        average: 2,
-        ratelimit: 1,
-    };
-    assert_eq!(rt;
-        trace.contexts.as_slice(),
-        [
-            context(None, Some(first)),
-            context(Some(5), Some(second)),
-            context(None, None)
-        ]
-        .as_slice()
-    );
-    let found = written(rt.alloc(), FIRSTS)?;
-    assert_eq!(rt; found.as_slice(), FIRSTS_WRITTEN);
-    Ok(())
-}
-
-static REFUSED: [(&[u8], TraceFault); 51] = [
+static REFUSED: [(&[u8], TraceFault); 65] = [
     (
         b"",
         TraceFault::Missing {
@@ -367,6 +242,62 @@ static REFUSED: [(&[u8], TraceFault); 51] = [
         b"device 0 1 0 100\ncontext 0 0 0\nestimate 0 7 7 7 7\n",
         TraceFault::BadLine { line: 3 },
     ),
+    (
+        b"device 0 1 0 100\ncyclic 0\ncyclic 0\n",
+        TraceFault::Twice { line: 3 },
+    ),
+    (
+        b"device 0 1 0 100\ncyclic 0\ndevice 1 1 0 100\ncyclic 1\ncyclic 0\n",
+        TraceFault::Twice { line: 5 },
+    ),
+    (
+        b"device 0 1 0 100\ncyclic 1\n",
+        TraceFault::UnknownName { line: 2 },
+    ),
+    (
+        b"cyclic 0\ndevice 0 1 0 100\n",
+        TraceFault::UnknownName { line: 1 },
+    ),
+    (
+        b"device 0 1 0 100\ncyclic\n",
+        TraceFault::BadLine { line: 2 },
+    ),
+    (
+        b"device 0 1 0 100\ncyclic 0 0\n",
+        TraceFault::BadLine { line: 2 },
+    ),
+    (
+        b"cpus 1\ntask 0 0\npace 0 2 50\npace 0 2 50\n",
+        TraceFault::Twice { line: 4 },
+    ),
+    (
+        b"cpus 1\ntask 0 0\npace 0 2 50\ntask 1 0\npace 1 2 50\npace 0 0 0\n",
+        TraceFault::Twice { line: 6 },
+    ),
+    (
+        b"cpus 1\ntask 0 0\npace 1 0 0\n",
+        TraceFault::UnknownName { line: 3 },
+    ),
+    (
+        b"cpus 1\npace 0 2 50\ntask 0 0\n",
+        TraceFault::UnknownName { line: 2 },
+    ),
+    (
+        b"cpus 1\ntask 0 0\npace 0 2097153 50\n",
+        TraceFault::OutOfRange { line: 3 },
+    ),
+    (
+        b"cpus 1\ntask 0 0\npace 0 2 0\n",
+        TraceFault::OutOfRange { line: 3 },
+    ),
+    (
+        b"cpus 1\ntask 0 0\npace 0 2\n",
+        TraceFault::BadLine { line: 3 },
+    ),
+    (
+        b"cpus 1\ntask 0 0\npace 0 2 50 50\n",
+        TraceFault::BadLine { line: 3 },
+    ),
     (b"cpus 1\n\navail 0 9\n", TraceFault::BadLine { line: 2 }),
     (b"cpus  1\n", TraceFault::BadLine { line: 1 }),
     (b"cpus 1 \n", TraceFault::BadLine { line: 1 }),
@@ -449,7 +380,7 @@ fn six_pages(alloc: Global) -> Result<Vec<u8>, Fail> {
 fn six_pages_are_spread_over_four_inodes(rt: HostRuntime) -> Result<(), Fail> {
     let text = six_pages(rt.alloc())?;
     let wanted =
-        b"cpus 4\ncap 1024\nset dirty_ratio 20\nset dirty_background_ratio 10\nset dirty_bytes 0\nset dirty_background_bytes 0\navail 0 2000000\ndevice 0 1048576 0 100\ndevice 1 1048576 0 100\ncontext 0 0 0\ncontext 1 1 0\ninode 0 0 2\ninode 1 1 2\ninode 2 0 1\ninode 3 1 1\ntask 0 0\ntask 1 0\ntask 2 1\ntask 3 1\nflusher 0 0 2\nflusher 1 1 3\nwrite 0 0 0 2\nwrite 1 1 0 2\nwrite 2 2 0 1\nwrite 3 3 0 1\n";
+        b"cpus 4\ncap 1024\nset dirty_ratio 20\nset dirty_background_ratio 10\nset dirty_bytes 0\nset dirty_background_bytes 0\navail 0 2000000\ndevice 0 1048576 0 100\ndevice 1 1048576 0 100\ncyclic 0\ncyclic 1\ncontext 0 0 0\ncontext 1 1 0\ninode 0 0 2\ninode 1 1 2\ninode 2 0 1\ninode 3 1 1\ntask 0 0\ntask 1 0\ntask 2 1\ntask 3 1\nflusher 0 0 2\nflusher 1 1 3\nwrite 0 0 0 2\nwrite 1 1 0 2\nwrite 2 2 0 1\nwrite 3 3 0 1\n";
     assert_eq!(rt; text.as_slice(), wanted.as_slice());
     Ok(())
 }

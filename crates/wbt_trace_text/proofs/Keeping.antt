@@ -4,8 +4,8 @@ use Rattle.std.specs.List.{All, AllByRecursion}
 use Rattle.std.proofs.lemmas.List.Elements.{All-append, All-cons, All-nil, All-set, recursion_from_All}
 use Rattle.std.proofs.lemmas.List.Sums.{sum_by-append, sum_by-cons}
 use Rattle.wbt_trace_text.specs.Accept.{is_unknown, is_twice, is_out_of_range, is_over_limit, is_too_early, is_no_count, is_no_rate, after}
-use Rattle.wbt_trace.specs.Lawful.{AreSettings, IsNext, AreAvails, IsDevice, AreDevices, IsCgroup, IsContext, IsInode, AreFirsts, AreInodes, IsTask, IsFlusher, IsCount, IsAction, writers_after, writers_of, IsOrder, IsExpire, IsChunk, IsFirstRate, IsFirstEstimate}
-use Rattle.wbt_trace.specs.Sofar.{Sofar, trace_so_far, last_from, least_shares, device_at, context_at, pages_in, inode_at}
+use Rattle.wbt_trace.specs.Lawful.{AreSettings, IsNext, AreAvails, IsDevice, AreDevices, IsCgroup, IsContext, IsInode, AreFirsts, AreInodes, IsTask, IsPace, HasPace, IsFlusher, IsCount, IsAction, writers_after, writers_of, IsOrder, IsExpire, IsChunk, IsFirstRate, IsFirstEstimate}
+use Rattle.wbt_trace.specs.Sofar.{Sofar, trace_so_far, last_from, least_shares, device_at, task_at, context_at, pages_in, inode_at}
 use Rattle.wbt_trace.specs.WriterList.{with_writer}
 use Rattle.wbt_trace_text.specs.declared.line.Line.{Line}
 use Rattle.wbt_trace_text.specs.declared.line.Line.TheVariants as line
@@ -17,9 +17,11 @@ use Rattle.wbt_trace.specs.declared.trace.FirstEstimate.{FirstEstimate}
 use Rattle.wbt_trace.specs.declared.trace.Inode.{Inode}
 use Rattle.wbt_trace.specs.declared.trace.Order.{Order}
 use Rattle.wbt_trace.specs.declared.trace.Order.TheVariants as order
+use Rattle.wbt_trace.specs.declared.trace.Pace.{Pace}
 use Rattle.wbt_trace.specs.declared.writers.Writer.{Writer}
 use Rattle.wbt_trace_text.proofs.Contexts.{same_length as as_many, estimate_length}
-use Rattle.wbt_trace_text.proofs.Devices.{same_shares, same_length, chunk_shares, chunk_length}
+use Rattle.wbt_trace_text.proofs.Devices.{same_shares, same_length, chunk_shares, chunk_length, cyclic_shares, cyclic_length}
+use Rattle.wbt_trace_text.proofs.Tasks.{pace_length}
 use Rattle.wbt_trace_text.proofs.Tests.{left_off, right_off, not_below, not_to, not_none, not_given}
 
 -- The line has no fault.
@@ -125,25 +127,32 @@ chunk_of pages is = (not_none pages (left_off (pages == 0) (nat_lt 2097152 pages
 pub keeps_devices : (l : Line) (s : Sofar) → IsGood l s → AreDevices s.devices → AreDevices (after l s).devices
 keeps_devices (line.Device d rate min max) s good are =
     let g = good_device s d rate min max good.range in
-    let device : Device = record { rate = rate; min = min; max = max; strict = false; chunk = None } in
+    let device : Device = record { rate = rate; min = min; max = max; strict = false; chunk = None; cyclic = false } in
     record {
       each = push IsDevice s.devices device are.each (record { rate = (g.some, g.rate_most); shares = (g.shares, g.most); chunk = tt });
       shares = omega (arith, sum_by-append (λ (x : Device). x.min) s.devices (device ∷ []), g.together);
       few = one_more 16 s.devices device good.limit;
     }
 keeps_devices (line.Strict d) s good are =
-    let is = are.each d (record { rate = 0; min = 0; max = 0; strict = false; chunk = None }) (not_to (length s.devices) d good.known) in
+    let is = are.each d (record { rate = 0; min = 0; max = 0; strict = false; chunk = None; cyclic = false }) (not_to (length s.devices) d good.known) in
     record {
       each = All-set IsDevice s.devices d (record (device_at d s.devices) { strict = true }) (record { rate = is.rate; shares = is.shares; chunk = is.chunk }) are.each;
       shares = omega (arith, are.shares, same_shares d s.devices);
       few = omega (arith, are.few, same_length d s.devices);
     }
 keeps_devices (line.Chunk d pages) s good are =
-    let is = are.each d (record { rate = 0; min = 0; max = 0; strict = false; chunk = None }) (not_to (length s.devices) d good.known) in
+    let is = are.each d (record { rate = 0; min = 0; max = 0; strict = false; chunk = None; cyclic = false }) (not_to (length s.devices) d good.known) in
     record {
       each = All-set IsDevice s.devices d (record (device_at d s.devices) { chunk = Some pages }) (record { rate = is.rate; shares = is.shares; chunk = chunk_of pages good.range }) are.each;
       shares = omega (arith, are.shares, chunk_shares d pages s.devices);
       few = omega (arith, are.few, chunk_length d pages s.devices);
+    }
+keeps_devices (line.Cyclic d) s good are =
+    let is = are.each d (record { rate = 0; min = 0; max = 0; strict = false; chunk = None; cyclic = false }) (not_to (length s.devices) d good.known) in
+    record {
+      each = All-set IsDevice s.devices d (record (device_at d s.devices) { cyclic = true }) (record { rate = is.rate; shares = is.shares; chunk = is.chunk }) are.each;
+      shares = omega (arith, are.shares, cyclic_shares d s.devices);
+      few = omega (arith, are.few, cyclic_length d s.devices);
     }
 keeps_devices other s good are = are
 
@@ -176,9 +185,10 @@ estimate_of bandwidth average ratelimit is =
 
 pub keeps_contexts : (l : Line) (s : Sofar) → IsGood l s → All (IsContext (length s.devices) (length s.cgroups)) s.contexts → All (IsContext (length (after l s).devices) (length (after l s).cgroups)) (after l s).contexts
 keeps_contexts (line.Device d rate min max) s good all =
-    λ k x less. let is = all k x less in (omega (arith, is.0, length-append s.devices ((record { rate = rate; min = min; max = max; strict = false; chunk = None }) ∷ [])), is.1, is.2, is.3)
+    λ k x less. let is = all k x less in (omega (arith, is.0, length-append s.devices ((record { rate = rate; min = min; max = max; strict = false; chunk = None; cyclic = false }) ∷ [])), is.1, is.2, is.3)
 keeps_contexts (line.Strict d) s good all = λ k x less. let is = all k x less in (omega (arith, is.0, same_length d s.devices), is.1, is.2, is.3)
 keeps_contexts (line.Chunk d pages) s good all = λ k x less. let is = all k x less in (omega (arith, is.0, chunk_length d pages s.devices), is.1, is.2, is.3)
+keeps_contexts (line.Cyclic d) s good all = λ k x less. let is = all k x less in (omega (arith, is.0, cyclic_length d s.devices), is.1, is.2, is.3)
 keeps_contexts (line.Cgroup g filepages headroom) s good all =
     λ k x less. let is = all k x less in (is.0, omega (arith, is.1, length-append s.cgroups ((record { filepages = filepages; headroom = headroom }) ∷ [])), is.2, is.3)
 keeps_contexts (line.Context w device domain) s good all =
@@ -239,22 +249,43 @@ keeps_inodes (line.Inode i context pages) s good are =
     }
 keeps_inodes other s good are = are
 
+count_of : (n : ℕ) → is_no_count n ≡ false → IsCount n
+count_of n is = (not_none n (left_off (n == 0) (nat_lt (10 ^ 12) n) is), not_below (10 ^ 12) n (right_off (n == 0) (nat_lt (10 ^ 12) n) is))
+
+pub pace_of : (pages ticks : ℕ) → (pages == 0 || nat_lt 2097152 pages || is_no_count ticks) ≡ false → IsPace (record { pages = pages; ticks = ticks })
+pace_of pages ticks is =
+    let a = pages == 0 in
+    let b = nat_lt 2097152 pages in
+    record { pages = chunk_of pages (left_off (a || b) (is_no_count ticks) is); ticks = count_of ticks (right_off (a || b) (is_no_count ticks) is) }
+
+pub keeps_paces : (l : Line) (s : Sofar) → IsGood l s → All HasPace s.tasks → All HasPace (after l s).tasks
+keeps_paces (line.Task t cpu) s good all = push HasPace s.tasks (record { cpu = cpu; pace = None }) all tt
+keeps_paces (line.Pace t pages ticks) s good all =
+    let pace : Pace = record { pages = pages; ticks = ticks } in
+    All-set HasPace s.tasks t (record (task_at t s.tasks) { pace = Some pace }) (pace_of pages ticks good.range) all
+keeps_paces other s good all = all
+
 pub keeps_tasks : (l : Line) (s : Sofar) → IsGood l s → All (IsTask (unwrap_or s.cpus 0)) s.tasks → All (IsTask (unwrap_or (after l s).cpus 0)) (after l s).tasks
 keeps_tasks (line.Cpus cpus) s good all = λ k x less. omega (arith, all k x less, not_given s.cpus good.once)
 keeps_tasks (line.Task t cpu) s good all =
-    push (IsTask (unwrap_or s.cpus 0)) s.tasks (record { cpu = cpu }) all (not_to (unwrap_or s.cpus 0) cpu (right_off (nat_lt (length s.tasks) t) (nat_le (unwrap_or s.cpus 0) cpu) good.range))
+    push (IsTask (unwrap_or s.cpus 0)) s.tasks (record { cpu = cpu; pace = None }) all (not_to (unwrap_or s.cpus 0) cpu (right_off (nat_lt (length s.tasks) t) (nat_le (unwrap_or s.cpus 0) cpu) good.range))
+keeps_tasks (line.Pace t pages ticks) s good all =
+    let is = all t (record { cpu = 0; pace = None }) (not_to (length s.tasks) t good.known) in
+    All-set (IsTask (unwrap_or s.cpus 0)) s.tasks t (record (task_at t s.tasks) { pace = Some (record { pages = pages; ticks = ticks }) }) is all
 keeps_tasks other s good all = all
 
 pub keeps_few_tasks : (l : Line) (s : Sofar) → IsGood l s → length s.tasks ≤ 256 → length (after l s).tasks ≤ 256
-keeps_few_tasks (line.Task t cpu) s good few = one_more 256 s.tasks (record { cpu = cpu }) good.limit
+keeps_few_tasks (line.Task t cpu) s good few = one_more 256 s.tasks (record { cpu = cpu; pace = None }) good.limit
+keeps_few_tasks (line.Pace t pages ticks) s good few = omega (arith, few, pace_length t (record { pages = pages; ticks = ticks }) s.tasks)
 keeps_few_tasks other s good few = few
 
 pub keeps_flushers : (l : Line) (s : Sofar) → IsGood l s → All (IsFlusher (length s.devices) (unwrap_or s.cpus 0)) s.flushers → All (IsFlusher (length (after l s).devices) (unwrap_or (after l s).cpus 0)) (after l s).flushers
 keeps_flushers (line.Cpus cpus) s good all = λ k x less. let is = all k x less in (is.0, omega (arith, is.1, not_given s.cpus good.once))
 keeps_flushers (line.Device d rate min max) s good all =
-    λ k x less. let is = all k x less in (omega (arith, is.0, length-append s.devices ((record { rate = rate; min = min; max = max; strict = false; chunk = None }) ∷ [])), is.1)
+    λ k x less. let is = all k x less in (omega (arith, is.0, length-append s.devices ((record { rate = rate; min = min; max = max; strict = false; chunk = None; cyclic = false }) ∷ [])), is.1)
 keeps_flushers (line.Strict d) s good all = λ k x less. let is = all k x less in (omega (arith, is.0, same_length d s.devices), is.1)
 keeps_flushers (line.Chunk d pages) s good all = λ k x less. let is = all k x less in (omega (arith, is.0, chunk_length d pages s.devices), is.1)
+keeps_flushers (line.Cyclic d) s good all = λ k x less. let is = all k x less in (omega (arith, is.0, cyclic_length d s.devices), is.1)
 keeps_flushers (line.Flusher f device cpu) s good all =
     push (IsFlusher (length s.devices) (unwrap_or s.cpus 0)) s.flushers (record { device = device; cpu = cpu }) all
     (not_to (length s.devices) device (right_off (is_none s.cpus) (nat_le (length s.devices) device) good.known), not_to (unwrap_or s.cpus 0) cpu (right_off (nat_lt (length s.flushers) f) (nat_le (unwrap_or s.cpus 0) cpu) good.range))
@@ -283,12 +314,11 @@ one_more_inode n inodes x (action.Write task inode from pages) is = (
 )
 one_more_inode n inodes x (action.Rest task ticks) is = is
 
-count_of : (n : ℕ) → is_no_count n ≡ false → IsCount n
-count_of n is = (not_none n (left_off (n == 0) (nat_lt (10 ^ 12) n) is), not_below (10 ^ 12) n (right_off (n == 0) (nat_lt (10 ^ 12) n) is))
-
 pub keeps_actions : (l : Line) (s : Sofar) → IsGood l s → All (IsAction (length s.tasks) s.inodes) s.actions → All (IsAction (length (after l s).tasks) (after l s).inodes) (after l s).actions
 keeps_actions (line.Task t cpu) s good all =
-    λ k x less. subst (λ (n : ℕ). IsAction n s.inodes (get_or s.actions k x)) (sym (length-append s.tasks ((record { cpu = cpu }) ∷ []))) (one_more_task (length s.tasks) s.inodes (get_or s.actions k x) (all k x less))
+    λ k x less. subst (λ (n : ℕ). IsAction n s.inodes (get_or s.actions k x)) (sym (length-append s.tasks ((record { cpu = cpu; pace = None }) ∷ []))) (one_more_task (length s.tasks) s.inodes (get_or s.actions k x) (all k x less))
+keeps_actions (line.Pace t pages ticks) s good all =
+    subst (λ (n : ℕ). All (IsAction n s.inodes) s.actions) (sym (pace_length t (record { pages = pages; ticks = ticks }) s.tasks)) all
 keeps_actions (line.Inode i context pages) s good all =
     λ k x less. one_more_inode (length s.tasks) s.inodes (record { context = context; first = pages_in s.inodes; pages = pages }) (get_or s.actions k x) (all k x less)
 keeps_actions (line.Write task inode from pages) s good all =

@@ -5,7 +5,7 @@ use Rattle.std.proofs.lemmas.List.Elements.{All-nil}
 use Rattle.std.specs.List.{All}
 use Rattle.wbt_text.specs.Reading.{Lead, Ends}
 use Rattle.wbt_trace_text.specs.Accept.{is_unknown, is_twice, is_out_of_range, is_over_limit, after, unless, accept}
-use Rattle.wbt_trace.specs.Lawful.{AreSettings, AreAvails, AreDevices, IsCgroup, IsContext, AreInodes, IsTask, IsFlusher, IsAction, writers_of, IsOrder, IsWithin, IsWhole, IsLawful, IsDevice, IsInode}
+use Rattle.wbt_trace.specs.Lawful.{AreSettings, AreAvails, AreDevices, IsCgroup, IsContext, AreInodes, IsTask, HasPace, IsFlusher, IsAction, writers_of, IsOrder, IsWithin, IsWhole, IsLawful, IsDevice, IsInode}
 use Rattle.wbt_trace.specs.Lawful.{has_flusher}
 use Rattle.wbt_trace_text.specs.Reading.{have_flushers, missing_in, whole_or, end_of, traces, IsAnswer}
 use Rattle.wbt_trace.specs.Sofar.{Sofar, start, trace_so_far}
@@ -15,7 +15,7 @@ use Rattle.wbt_trace_text.specs.declared.fault.Refusal.TheVariants.{UnknownName,
 use Rattle.wbt_trace_text.specs.declared.line.Line.{Line}
 use Rattle.wbt_trace.specs.declared.trace.FlusherLine.{FlusherLine}
 use Rattle.wbt_trace.specs.declared.trace.Trace.{Trace}
-use Rattle.wbt_trace_text.proofs.Keeping.{IsGood, IsCpus, IsCap, IsHalt, keeps_cpus, keeps_cap, keeps_settings, keeps_avail, keeps_few_avail, keeps_devices, keeps_cgroups, keeps_few_cgroups, keeps_contexts, keeps_few_contexts, keeps_inodes, keeps_tasks, keeps_few_tasks, keeps_flushers, keeps_few_flushers, keeps_actions, keeps_few_actions, keeps_writers, keeps_few_writers, keeps_order, keeps_few_orders, keeps_halt}
+use Rattle.wbt_trace_text.proofs.Keeping.{IsGood, IsCpus, IsCap, IsHalt, keeps_cpus, keeps_cap, keeps_settings, keeps_avail, keeps_few_avail, keeps_devices, keeps_cgroups, keeps_few_cgroups, keeps_contexts, keeps_few_contexts, keeps_inodes, keeps_tasks, keeps_few_tasks, keeps_paces, keeps_flushers, keeps_few_flushers, keeps_actions, keeps_few_actions, keeps_writers, keeps_few_writers, keeps_order, keeps_few_orders, keeps_halt}
 use Rattle.wbt_trace_text.proofs.Tests.{holds, not_none}
 
 -- what each line that is taken keeps
@@ -33,6 +33,7 @@ pub record IsKept (s : Sofar) : Type 0 where
   pub inodes : AreInodes (length s.contexts) s.inodes
   pub tasks : All (IsTask (unwrap_or s.cpus 0)) s.tasks
   pub few_tasks : length s.tasks ≤ 256
+  pub paces : All HasPace s.tasks
   pub flushers : All (IsFlusher (length s.devices) (unwrap_or s.cpus 0)) s.flushers
   pub few_flushers : length s.flushers ≤ 64
   pub actions : All (IsAction (length s.tasks) s.inodes) s.actions
@@ -58,6 +59,7 @@ start_kept = record {
   inodes = record { each = All-nil (IsInode 0); firsts = tt; total = omega arith; few = omega arith };
   tasks = All-nil (IsTask 0);
   few_tasks = omega arith;
+  paces = All-nil HasPace;
   flushers = All-nil (IsFlusher 0 0);
   few_flushers = omega arith;
   actions = All-nil (IsAction 0 []);
@@ -84,6 +86,7 @@ after_kept l s good kept = record {
   inodes = keeps_inodes l s good kept.inodes;
   tasks = keeps_tasks l s good kept.tasks;
   few_tasks = keeps_few_tasks l s good kept.few_tasks;
+  paces = keeps_paces l s good kept.paces;
   flushers = keeps_flushers l s good kept.flushers;
   few_flushers = keeps_few_flushers l s good kept.few_flushers;
   actions = keeps_actions l s good kept.actions;
@@ -145,6 +148,7 @@ within s kept = record {
   inodes = kept.inodes;
   tasks = kept.tasks;
   few_tasks = kept.few_tasks;
+  paces = kept.paces;
   flushers = kept.flushers;
   few_flushers = kept.few_flushers;
   actions = kept.actions;

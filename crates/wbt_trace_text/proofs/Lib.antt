@@ -10,5 +10,6 @@ mod LineLaws
 mod Rereading
 mod RoundTrips
 mod Small
+mod Tasks
 pub mod Tests
 mod Texts

@@ -6,12 +6,12 @@ use Rattle.std.specs.List.{AllByRecursion}
 use Rattle.wbt_text.specs.Numbers.{AllShort, AreNumbers, numbers_text}
 use Rattle.wbt_text.specs.Reading.{Lead}
 use Rattle.wbt_trace_text.specs.Accept.{accept, after, is_unknown, is_twice, is_out_of_range, is_over_limit, unless, is_too_early, is_no_count, is_no_rate}
-use Rattle.wbt_trace.specs.Lawful.{IsNext, AreAvails, IsDevice, IsCgroup, IsContext, IsInode, AreFirsts, IsTask, IsFlusher, IsCount, IsAction, writers_after, IsOrder, IsExpire, IsChunk, IsFirstRate, IsFirstEstimate}
+use Rattle.wbt_trace.specs.Lawful.{IsNext, AreAvails, IsDevice, IsCgroup, IsContext, IsInode, AreFirsts, IsTask, IsPace, HasPace, IsFlusher, IsCount, IsAction, writers_after, IsOrder, IsExpire, IsChunk, IsFirstRate, IsFirstEstimate}
 use Rattle.wbt_trace_text.specs.Lines.{numbers_of, IsLine}
 use Rattle.wbt_trace_text.specs.Reading.{traces}
-use Rattle.wbt_trace.specs.Sofar.{Sofar, last_from, least_shares, device_at, with_strict, with_chunk, context_at, with_expire, with_estimate, pages_in, inode_at}
+use Rattle.wbt_trace.specs.Sofar.{Sofar, last_from, least_shares, device_at, with_strict, with_chunk, with_cyclic, task_at, with_pace, context_at, with_expire, with_estimate, pages_in, inode_at}
 use Rattle.wbt_trace.specs.WriterList.{is_writer, with_writer}
-use Rattle.wbt_trace_text.specs.Writing.{line_text, lines_text, numbered, avail_line, device_line, strict_lines, chunk_line, chunk_lines, cgroup_line, context_line, expire_line, expire_lines, estimate_line, estimate_lines, inode_line, task_line, flusher_line, action_line, order_line}
+use Rattle.wbt_trace_text.specs.Writing.{line_text, lines_text, numbered, avail_line, device_line, strict_lines, chunk_line, chunk_lines, cyclic_lines, cgroup_line, context_line, expire_line, expire_lines, estimate_line, estimate_lines, inode_line, task_line, pace_line, pace_lines, flusher_line, action_line, order_line}
 use Rattle.wbt_trace_text.specs.declared.fault.Refusal.TheVariants.{UnknownName, Twice, OutOfRange, Limit}
 use Rattle.wbt_trace_text.specs.declared.line.Line.{Line}
 use Rattle.wbt_trace_text.specs.declared.line.Line.TheVariants as line
@@ -26,14 +26,16 @@ use Rattle.wbt_trace.specs.declared.trace.FlusherLine.{FlusherLine}
 use Rattle.wbt_trace.specs.declared.trace.Inode.{Inode}
 use Rattle.wbt_trace.specs.declared.trace.Order.{Order}
 use Rattle.wbt_trace.specs.declared.trace.Order.TheVariants as order
+use Rattle.wbt_trace.specs.declared.trace.Pace.{Pace}
 use Rattle.wbt_trace.specs.declared.trace.TaskLine.{TaskLine}
 use Rattle.wbt_trace.specs.declared.writers.Writer.{Writer}
 use Rattle.wbt_trace_text.proofs.Avails.{last_from_push}
 use Rattle.wbt_trace_text.proofs.Contexts.{plain as undue, plain_is as undue_is, unestimated, unestimated_is, at_front as context_at_front, made_due, made_estimate}
-use Rattle.wbt_trace_text.proofs.Devices.{plain, plain_is, unchunked, unchunked_is, at_front, made_strict, made_chunk}
+use Rattle.wbt_trace_text.proofs.Devices.{plain, plain_is, unchunked, unchunked_is, straight, straight_is, at_front, made_strict, made_chunk, made_cyclic}
 use Rattle.wbt_trace_text.proofs.Keeping.{IsGood}
 use Rattle.wbt_trace_text.proofs.Kept.{IsKept, taken, accept_kept}
 use Rattle.wbt_trace_text.proofs.Small.{small}
+use Rattle.wbt_trace_text.proofs.Tasks.{unpaced, unpaced_is, at_front as task_at_front, made_paced}
 use Rattle.wbt_trace_text.proofs.Tests.{below_off, to_off, none_off, both_off}
 
 -- The lines are taken one by one, and lead from one state to another.
@@ -71,12 +73,14 @@ line_is l short = (numbers_text (numbers_of l), refl, spelled l short)
     spelled (line.Device a b c d) is = (is, refl)
     spelled (line.Strict a) is = (is, refl)
     spelled (line.Chunk a b) is = (is, refl)
+    spelled (line.Cyclic a) is = (is, refl)
     spelled (line.Cgroup a b c) is = (is, refl)
     spelled (line.Context a b c) is = (is, refl)
     spelled (line.Expire a b) is = (is, refl)
     spelled (line.Estimate a b c d) is = (is, refl)
     spelled (line.Inode a b c) is = (is, refl)
     spelled (line.Task a b) is = (is, refl)
+    spelled (line.Pace a b c) is = (is, refl)
     spelled (line.Flusher a b c) is = (is, refl)
     spelled (line.Write a b c d) is = (is, refl)
     spelled (line.Rest a b) is = (is, refl)
@@ -163,13 +167,13 @@ stricts n front (x ∷ xs) s at are =
     by_line false is more = rejoin s (more s (are ∙ ap (λ (d : Device). front ++ d ∷ map plain xs) (plain_is x is)))
 
 -- and then each gets its chunk
-pub chunks : (n : ℕ) (front xs : List Device) (s : Sofar) → n ≡ length front → s.devices ≡ front ++ map unchunked xs → AllByRecursion IsDevice xs → Accepts (chunk_lines n xs) s (record s { devices = front ++ xs })
+pub chunks : (n : ℕ) (front xs : List Device) (s : Sofar) → n ≡ length front → s.devices ≡ front ++ map unchunked xs → AllByRecursion IsDevice xs → Accepts (chunk_lines n xs) s (record s { devices = front ++ map straight xs })
 chunks n front [] s at are all = λ i. record s { devices = are i }
 chunks n front (x ∷ xs) s at are all =
-    by_line x.chunk refl (λ t devices. chunks (n + 1) (front ++ x ∷ []) xs t (omega (arith, at, length-append front (x ∷ []))) (devices ∙ sym (append_assoc front (x ∷ []) (map unchunked xs))) all.1)
+    by_line x.chunk refl (λ t devices. chunks (n + 1) (front ++ straight x ∷ []) xs t (omega (arith, at, length-append front (straight x ∷ []))) (devices ∙ sym (append_assoc front (straight x ∷ []) (map unchunked xs))) all.1)
   where
-    rejoin : (t : Sofar) → Accepts (chunk_lines (n + 1) xs) t (record t { devices = (front ++ x ∷ []) ++ xs }) → Accepts (chunk_lines (n + 1) xs) t (record t { devices = front ++ x ∷ xs })
-    rejoin t rest = subst (λ (ys : List Device). Accepts (chunk_lines (n + 1) xs) t (record t { devices = ys })) (append_assoc front (x ∷ []) xs) rest
+    rejoin : (t : Sofar) → Accepts (chunk_lines (n + 1) xs) t (record t { devices = (front ++ straight x ∷ []) ++ map straight xs }) → Accepts (chunk_lines (n + 1) xs) t (record t { devices = front ++ straight x ∷ map straight xs })
+    rejoin t rest = subst (λ (ys : List Device). Accepts (chunk_lines (n + 1) xs) t (record t { devices = ys })) (append_assoc front (straight x ∷ []) (map straight xs)) rest
 
     in_range : (pages : ℕ) → x.chunk ≡ Some pages → IsChunk pages
     in_range pages is = subst (λ (o : Option ℕ). IfSome o IsChunk) is all.0.chunk
@@ -182,14 +186,41 @@ chunks n front (x ∷ xs) s at are all =
       limit = refl;
     }
 
-    by_line : (o : Option ℕ) → x.chunk ≡ o → ((t : Sofar) → t.devices ≡ front ++ x ∷ map unchunked xs → Accepts (chunk_lines (n + 1) xs) t (record t { devices = (front ++ x ∷ []) ++ xs }))
-        → Accepts (chunk_line n o ++ chunk_lines (n + 1) xs) s (record s { devices = front ++ x ∷ xs })
+    by_line : (o : Option ℕ) → x.chunk ≡ o → ((t : Sofar) → t.devices ≡ front ++ straight x ∷ map unchunked xs → Accepts (chunk_lines (n + 1) xs) t (record t { devices = (front ++ straight x ∷ []) ++ map straight xs }))
+        → Accepts (chunk_line n o ++ chunk_lines (n + 1) xs) s (record s { devices = front ++ straight x ∷ map straight xs })
     by_line (Some pages) is more =
-        let u : Sofar = record s { devices = front ++ x ∷ map unchunked xs } in
+        let u : Sofar = record s { devices = front ++ straight x ∷ map unchunked xs } in
         let taken : accept (line.Chunk n pages) s ≡ Ok u =
         passes (line.Chunk n pages) s (good pages (in_range pages is)) ∙ ap (λ (ds : List Device). Ok (record s { devices = ds })) ((λ i. with_chunk (at i) pages (are i)) ∙ made_chunk front x (map unchunked xs) pages is) in
         (u, taken, rejoin u (more u refl))
     by_line None is more = rejoin s (more s (are ∙ ap (λ (d : Device). front ++ d ∷ map unchunked xs) (unchunked_is x is)))
+
+-- and last each gets its cyclic line
+pub cyclics : (n : ℕ) (front xs : List Device) (s : Sofar) → n ≡ length front → s.devices ≡ front ++ map straight xs → Accepts (cyclic_lines n xs) s (record s { devices = front ++ xs })
+cyclics n front [] s at are = λ i. record s { devices = are i }
+cyclics n front (x ∷ xs) s at are =
+    by_line x.cyclic refl (λ t devices. cyclics (n + 1) (front ++ x ∷ []) xs t (omega (arith, at, length-append front (x ∷ []))) (devices ∙ sym (append_assoc front (x ∷ []) (map straight xs))))
+  where
+    rejoin : (t : Sofar) → Accepts (cyclic_lines (n + 1) xs) t (record t { devices = (front ++ x ∷ []) ++ xs }) → Accepts (cyclic_lines (n + 1) xs) t (record t { devices = front ++ x ∷ xs })
+    rejoin t rest = subst (λ (ys : List Device). Accepts (cyclic_lines (n + 1) xs) t (record t { devices = ys })) (append_assoc front (x ∷ []) xs) rest
+
+    good : IsGood (line.Cyclic n) s
+    good = record {
+      known = to_off (length s.devices) n (omega (arith, at, ap (λ (ds : List Device). length ds) are, length-append front (straight x ∷ map straight xs)));
+      once = ap (λ (k : ℕ). (device_at k s.devices).cyclic) at ∙ ap (λ (ds : List Device). (device_at (length front) ds).cyclic) are ∙ ap (λ (d : Device). d.cyclic) (at_front front (straight x) (map straight xs));
+      range = refl;
+      limit = refl;
+    }
+
+    by_line : (b : Bool) → x.cyclic ≡ b
+        → ((t : Sofar) → t.devices ≡ front ++ x ∷ map straight xs → Accepts (cyclic_lines (n + 1) xs) t (record t { devices = (front ++ x ∷ []) ++ xs }))
+        → Accepts ((if b then line.Cyclic n ∷ [] else []) ++ cyclic_lines (n + 1) xs) s (record s { devices = front ++ x ∷ xs })
+    by_line true is more =
+        let u : Sofar = record s { devices = front ++ x ∷ map straight xs } in
+        let taken : accept (line.Cyclic n) s ≡ Ok u =
+        passes (line.Cyclic n) s good ∙ ap (λ (ds : List Device). Ok (record s { devices = ds })) ((λ i. with_cyclic (at i) (are i)) ∙ made_cyclic front x (map straight xs) is) in
+        (u, taken, rejoin u (more u refl))
+    by_line false is more = rejoin s (more s (are ∙ ap (λ (d : Device). front ++ d ∷ map straight xs) (straight_is x is)))
 
 pub cgroups : (n : ℕ) (xs : List Cgroup) (s : Sofar) → n ≡ length s.cgroups + 1 → AllByRecursion IsCgroup xs → length s.cgroups + length xs ≤ 8 → Accepts (numbered cgroup_line n xs) s (record s { cgroups = s.cgroups ++ xs })
 cgroups n [] s at all few = λ i. record s { cgroups = sym (append-nil s.cgroups) i }
@@ -307,7 +338,7 @@ inodes n (x ∷ xs) s at all firsts total few =
     let rest = inodes (n + 1) xs u (omega (arith, at, length-append s.inodes (x ∷ []))) all.1 next (omega (arith, total, cons, same)) (omega (arith, length-append s.inodes (x ∷ []))) in
     (u, taken, subst (λ (ys : List Inode). Accepts (numbered inode_line (n + 1) xs) u (record s { inodes = ys })) (append_assoc s.inodes (x ∷ []) xs) rest)
 
-pub tasks : (n : ℕ) (xs : List TaskLine) (s : Sofar) → n ≡ length s.tasks → is_none s.cpus ≡ false → AllByRecursion (IsTask (unwrap_or s.cpus 0)) xs → length s.tasks + length xs ≤ 256 → Accepts (numbered task_line n xs) s (record s { tasks = s.tasks ++ xs })
+pub tasks : (n : ℕ) (xs : List TaskLine) (s : Sofar) → n ≡ length s.tasks → is_none s.cpus ≡ false → AllByRecursion (IsTask (unwrap_or s.cpus 0)) xs → length s.tasks + length xs ≤ 256 → Accepts (numbered task_line n xs) s (record s { tasks = s.tasks ++ map unpaced xs })
 tasks n [] s at given all few = λ i. record s { tasks = sym (append-nil s.tasks) i }
 tasks n (x ∷ xs) s at given all few =
     let good : IsGood (task_line n x) s = record {
@@ -316,9 +347,43 @@ tasks n (x ∷ xs) s at given all few =
       range = both_off (nat_lt (length s.tasks) n) (nat_le (unwrap_or s.cpus 0) x.cpu) (below_off (length s.tasks) n (omega (arith, at))) (to_off (unwrap_or s.cpus 0) x.cpu all.0);
       limit = to_off 256 (length s.tasks) (omega arith);
     } in
-    let u : Sofar = record s { tasks = s.tasks ++ x ∷ [] } in
-    let rest = tasks (n + 1) xs u (omega (arith, at, length-append s.tasks (x ∷ []))) given all.1 (omega (arith, length-append s.tasks (x ∷ []))) in
-    (u, passes (task_line n x) s good, subst (λ (ys : List TaskLine). Accepts (numbered task_line (n + 1) xs) u (record s { tasks = ys })) (append_assoc s.tasks (x ∷ []) xs) rest)
+    let u : Sofar = record s { tasks = s.tasks ++ unpaced x ∷ [] } in
+    let rest = tasks (n + 1) xs u (omega (arith, at, length-append s.tasks (unpaced x ∷ []))) given all.1 (omega (arith, length-append s.tasks (unpaced x ∷ []))) in
+    (u, passes (task_line n x) s good, subst (λ (ys : List TaskLine). Accepts (numbered task_line (n + 1) xs) u (record s { tasks = ys })) (append_assoc s.tasks (unpaced x ∷ []) (map unpaced xs)) rest)
+
+no_count_off : (n : ℕ) → IsCount n → is_no_count n ≡ false
+no_count_off n is = both_off (n == 0) (nat_lt (10 ^ 12) n) (none_off n is.0) (below_off (10 ^ 12) n is.1)
+
+-- it is said when they rest after all tasks have been declared
+pub paces : (n : ℕ) (front xs : List TaskLine) (s : Sofar) → n ≡ length front → s.tasks ≡ front ++ map unpaced xs → AllByRecursion HasPace xs → Accepts (pace_lines n xs) s (record s { tasks = front ++ xs })
+paces n front [] s at are all = λ i. record s { tasks = are i }
+paces n front (x ∷ xs) s at are all =
+    by_line x.pace refl (λ t tasks. paces (n + 1) (front ++ x ∷ []) xs t (omega (arith, at, length-append front (x ∷ []))) (tasks ∙ sym (append_assoc front (x ∷ []) (map unpaced xs))) all.1)
+  where
+    rejoin : (t : Sofar) → Accepts (pace_lines (n + 1) xs) t (record t { tasks = (front ++ x ∷ []) ++ xs }) → Accepts (pace_lines (n + 1) xs) t (record t { tasks = front ++ x ∷ xs })
+    rejoin t rest = subst (λ (ys : List TaskLine). Accepts (pace_lines (n + 1) xs) t (record t { tasks = ys })) (append_assoc front (x ∷ []) xs) rest
+
+    in_range : (pace : Pace) → x.pace ≡ Some pace → IsPace pace
+    in_range pace is = subst (λ (o : Option Pace). IfSome o IsPace) is all.0
+
+    good : (pace : Pace) → IsPace pace → IsGood (line.Pace n pace.pages pace.ticks) s
+    good pace is = record {
+      known = to_off (length s.tasks) n (omega (arith, at, ap (λ (ts : List TaskLine). length ts) are, length-append front (unpaced x ∷ map unpaced xs)));
+      once = ap (λ (k : ℕ). is_some (task_at k s.tasks).pace) at ∙ ap (λ (ts : List TaskLine). is_some (task_at (length front) ts).pace) are ∙ ap (λ (t : TaskLine). is_some t.pace) (task_at_front front (unpaced x) (map unpaced xs));
+      range = both_off (pace.pages == 0 || nat_lt 2097152 pace.pages) (is_no_count pace.ticks)
+          (both_off (pace.pages == 0) (nat_lt 2097152 pace.pages) (none_off pace.pages is.pages.0) (below_off 2097152 pace.pages is.pages.1)) (no_count_off pace.ticks is.ticks);
+      limit = refl;
+    }
+
+    by_line : (o : Option Pace) → x.pace ≡ o → ((t : Sofar) → t.tasks ≡ front ++ x ∷ map unpaced xs → Accepts (pace_lines (n + 1) xs) t (record t { tasks = (front ++ x ∷ []) ++ xs }))
+        → Accepts (pace_line n o ++ pace_lines (n + 1) xs) s (record s { tasks = front ++ x ∷ xs })
+    by_line (Some pace) is more =
+        let u : Sofar = record s { tasks = front ++ x ∷ map unpaced xs } in
+        let l : Line = line.Pace n pace.pages pace.ticks in
+        let taken : accept l s ≡ Ok u =
+        passes l s (good pace (in_range pace is)) ∙ ap (λ (ts : List TaskLine). Ok (record s { tasks = ts })) ((λ i. with_pace (at i) pace (are i)) ∙ made_paced front x (map unpaced xs) pace is) in
+        (u, taken, rejoin u (more u refl))
+    by_line None is more = rejoin s (more s (are ∙ ap (λ (t : TaskLine). front ++ t ∷ map unpaced xs) (unpaced_is x is)))
 
 pub flushers : (n : ℕ) (xs : List FlusherLine) (s : Sofar) → n ≡ length s.flushers → is_none s.cpus ≡ false → AllByRecursion (IsFlusher (length s.devices) (unwrap_or s.cpus 0)) xs → length s.flushers + length xs ≤ 64
     → Accepts (numbered flusher_line n xs) s (record s { flushers = s.flushers ++ xs })
@@ -347,9 +412,6 @@ writers_grow ws inodes [] = omega arith
 writers_grow ws inodes (action.Write task inode from pages ∷ more) =
     omega (arith, more_writers task (inode_at inode inodes).context ws, writers_grow (with_writer task (inode_at inode inodes).context ws) inodes more)
 writers_grow ws inodes (action.Rest task ticks ∷ more) = writers_grow ws inodes more
-
-no_count_off : (n : ℕ) → IsCount n → is_no_count n ≡ false
-no_count_off n is = both_off (n == 0) (nat_lt (10 ^ 12) n) (none_off n is.0) (below_off (10 ^ 12) n is.1)
 
 pub actions : (n : ℕ) (xs : List Action) (s : Sofar) → AllByRecursion (IsAction (length s.tasks) s.inodes) xs → length s.actions + length xs ≤ 65536 → length (writers_after s.writers s.inodes xs) ≤ 1024
     → Accepts (numbered action_line n xs) s (record s { actions = s.actions ++ xs; writers = writers_after s.writers s.inodes xs })

@@ -8,7 +8,7 @@ use Rattle.wbt_trace.specs.Sofar.{Sofar, last_from, pages_in, inode_at}
 use Rattle.wbt_trace_text.specs.declared.line.Line.{Line}
 use Rattle.wbt_trace_text.specs.declared.line.Line.TheVariants as line
 use Rattle.wbt_trace.specs.declared.trace.Inode.{Inode}
-use Rattle.wbt_trace_text.proofs.Keeping.{IsGood, good_device, chunk_of, expire_of, estimate_of}
+use Rattle.wbt_trace_text.proofs.Keeping.{IsGood, good_device, chunk_of, expire_of, estimate_of, pace_of}
 use Rattle.wbt_trace_text.proofs.Kept.{IsKept, cpus_most}
 use Rattle.wbt_trace_text.proofs.Tests.{left_off, right_off, not_below, not_to}
 
@@ -37,6 +37,7 @@ small (line.Device d rate min max) s kept good =
     (omega (arith, g.number, kept.devices.few), (omega (arith, g.rate_most), (omega (arith, g.shares, g.most), (omega (arith, g.most), tt))))
 small (line.Strict d) s kept good = (omega (arith, not_to (length s.devices) d good.known, kept.devices.few), tt)
 small (line.Chunk d pages) s kept good = (omega (arith, not_to (length s.devices) d good.known, kept.devices.few), (omega (arith, (chunk_of pages good.range).1), tt))
+small (line.Cyclic d) s kept good = (omega (arith, not_to (length s.devices) d good.known, kept.devices.few), tt)
 small (line.Cgroup g filepages headroom) s kept good =
     let a = nat_lt (length s.cgroups + 1) g in
     let b = nat_lt (2 ^ 40) filepages in
@@ -56,6 +57,9 @@ small (line.Inode i context pages) s kept good =
 small (line.Task t cpu) s kept good =
     let a = nat_lt (length s.tasks) t in
     let b = nat_le (unwrap_or s.cpus 0) cpu in (omega (arith, not_below (length s.tasks) t (left_off a b good.range), kept.few_tasks), (omega (arith, not_to (unwrap_or s.cpus 0) cpu (right_off a b good.range), cpus_most s.cpus kept.cpus), tt))
+small (line.Pace t pages ticks) s kept good =
+    let pace = pace_of pages ticks good.range in
+    (omega (arith, not_to (length s.tasks) t good.known, kept.few_tasks), (omega (arith, pace.pages.1), (omega (arith, pace.ticks.1), tt)))
 small (line.Flusher f device cpu) s kept good =
     let a = nat_lt (length s.flushers) f in
     let b = nat_le (unwrap_or s.cpus 0) cpu in (omega (arith, not_below (length s.flushers) f (left_off a b good.range), kept.few_flushers), (omega (arith, not_to (length s.devices) device (right_off (is_none s.cpus) (nat_le (length s.devices) device) good.known), kept.devices.few), (omega (arith, not_to (unwrap_or s.cpus 0) cpu (right_off a b good.range), cpus_most s.cpus kept.cpus), tt)))

@@ -1,9 +1,10 @@
 -- Texts of lines, part after part.
 use Rattle.std.proofs.Common.{◌≡◌, ℕ, List, [], ◌∷◌, ◌++◌, refl, sym, ◌∙◌, ap, append_assoc}
-use Rattle.wbt_trace_text.specs.Writing.{line_text, lines_text, numbered, strict_lines, chunk_lines, expire_lines, estimate_lines}
+use Rattle.wbt_trace_text.specs.Writing.{line_text, lines_text, numbered, strict_lines, chunk_lines, cyclic_lines, expire_lines, estimate_lines, pace_lines}
 use Rattle.wbt_trace_text.specs.declared.line.Line.{Line}
 use Rattle.wbt_trace.specs.declared.trace.Context.{Context}
 use Rattle.wbt_trace.specs.declared.trace.Device.{Device}
+use Rattle.wbt_trace.specs.declared.trace.TaskLine.{TaskLine}
 
 pub lines_text_append : (ks ls : List Line) → lines_text (ks ++ ls) ≡ lines_text ks ++ lines_text ls
 lines_text_append [] ls = refl
@@ -36,6 +37,14 @@ join_expires xs ys old t u before same is put = join old t u before (expire_line
 pub join_chunks : (xs ys : List Device) (old t u : List ℕ) (before : List Line) → xs ≡ ys → Has old t before → u ≡ t ++ lines_text (chunk_lines 0 xs) → Has old u (before ++ chunk_lines 0 ys)
 join_chunks xs ys old t u before same is put = join old t u before (chunk_lines 0 ys) is (put ∙ ap (λ (zs : List Device). t ++ lines_text (chunk_lines 0 zs)) same)
 
+-- the lines of those devices whose scans go round more
+pub join_cyclics : (xs ys : List Device) (old t u : List ℕ) (before : List Line) → xs ≡ ys → Has old t before → u ≡ t ++ lines_text (cyclic_lines 0 xs) → Has old u (before ++ cyclic_lines 0 ys)
+join_cyclics xs ys old t u before same is put = join old t u before (cyclic_lines 0 ys) is (put ∙ ap (λ (zs : List Device). t ++ lines_text (cyclic_lines 0 zs)) same)
+
 -- the lines of contexts' first estimates more
 pub join_estimates : (xs ys : List Context) (old t u : List ℕ) (before : List Line) → xs ≡ ys → Has old t before → u ≡ t ++ lines_text (estimate_lines 0 xs) → Has old u (before ++ estimate_lines 0 ys)
 join_estimates xs ys old t u before same is put = join old t u before (estimate_lines 0 ys) is (put ∙ ap (λ (zs : List Context). t ++ lines_text (estimate_lines 0 zs)) same)
+
+-- the lines of when tasks rest between their pages more
+pub join_paces : (xs ys : List TaskLine) (old t u : List ℕ) (before : List Line) → xs ≡ ys → Has old t before → u ≡ t ++ lines_text (pace_lines 0 xs) → Has old u (before ++ pace_lines 0 ys)
+join_paces xs ys old t u before same is put = join old t u before (pace_lines 0 ys) is (put ∙ ap (λ (zs : List TaskLine). t ++ lines_text (pace_lines 0 zs)) same)

@@ -18,12 +18,14 @@ kind_text kind.Avail = codes "avail"
 kind_text kind.Device = codes "device"
 kind_text kind.Strict = codes "strict"
 kind_text kind.Chunk = codes "chunk"
+kind_text kind.Cyclic = codes "cyclic"
 kind_text kind.Cgroup = codes "cgroup"
 kind_text kind.Context = codes "context"
 kind_text kind.Expire = codes "expire"
 kind_text kind.Estimate = codes "estimate"
 kind_text kind.Inode = codes "inode"
 kind_text kind.Task = codes "task"
+kind_text kind.Pace = codes "pace"
 kind_text kind.Flusher = codes "flusher"
 kind_text kind.Write = codes "write"
 kind_text kind.Rest = codes "rest"
@@ -44,12 +46,14 @@ kind_of (line.Avail a b) = kind.Avail
 kind_of (line.Device a b c d) = kind.Device
 kind_of (line.Strict a) = kind.Strict
 kind_of (line.Chunk a b) = kind.Chunk
+kind_of (line.Cyclic a) = kind.Cyclic
 kind_of (line.Cgroup a b c) = kind.Cgroup
 kind_of (line.Context a b c) = kind.Context
 kind_of (line.Expire a b) = kind.Expire
 kind_of (line.Estimate a b c d) = kind.Estimate
 kind_of (line.Inode a b c) = kind.Inode
 kind_of (line.Task a b) = kind.Task
+kind_of (line.Pace a b c) = kind.Pace
 kind_of (line.Flusher a b c) = kind.Flusher
 kind_of (line.Write a b c d) = kind.Write
 kind_of (line.Rest a b) = kind.Rest
@@ -70,12 +74,14 @@ numbers_of (line.Avail a b) = a ∷ b ∷ []
 numbers_of (line.Device a b c d) = a ∷ b ∷ c ∷ d ∷ []
 numbers_of (line.Strict a) = a ∷ []
 numbers_of (line.Chunk a b) = a ∷ b ∷ []
+numbers_of (line.Cyclic a) = a ∷ []
 numbers_of (line.Cgroup a b c) = a ∷ b ∷ c ∷ []
 numbers_of (line.Context a b c) = a ∷ b ∷ c ∷ []
 numbers_of (line.Expire a b) = a ∷ b ∷ []
 numbers_of (line.Estimate a b c d) = a ∷ b ∷ c ∷ d ∷ []
 numbers_of (line.Inode a b c) = a ∷ b ∷ c ∷ []
 numbers_of (line.Task a b) = a ∷ b ∷ []
+numbers_of (line.Pace a b c) = a ∷ b ∷ c ∷ []
 numbers_of (line.Flusher a b c) = a ∷ b ∷ c ∷ []
 numbers_of (line.Write a b c d) = a ∷ b ∷ c ∷ d ∷ []
 numbers_of (line.Rest a b) = a ∷ b ∷ []
@@ -93,11 +99,13 @@ of_one kind.BackgroundRatio a = Some (line.BackgroundRatio a)
 of_one kind.DirtyBytes a = Some (line.DirtyBytes a)
 of_one kind.BackgroundBytes a = Some (line.BackgroundBytes a)
 of_one kind.Strict a = Some (line.Strict a)
+of_one kind.Cyclic a = Some (line.Cyclic a)
 of_one kind.OrderTimer a = Some (line.OrderTimer a)
 of_one kind.Tick a = Some (line.Tick a)
 of_one kind.Halt a = Some (line.Halt a)
 of_one other a = None
 
+-- the line of a kind that has two numbers
 abbrev pub of_two : (k : Kind) (a b : ℕ) → Option Line
 of_two kind.Avail a b = Some (line.Avail a b)
 of_two kind.Chunk a b = Some (line.Chunk a b)
@@ -107,13 +115,16 @@ of_two kind.Rest a b = Some (line.Rest a b)
 of_two kind.Order a b = Some (line.Order a b)
 of_two other a b = None
 
+-- the line of a kind that has three numbers
 abbrev pub of_three : (k : Kind) (a b c : ℕ) → Option Line
 of_three kind.Cgroup a b c = Some (line.Cgroup a b c)
 of_three kind.Context a b c = Some (line.Context a b c)
 of_three kind.Inode a b c = Some (line.Inode a b c)
+of_three kind.Pace a b c = Some (line.Pace a b c)
 of_three kind.Flusher a b c = Some (line.Flusher a b c)
 of_three other a b c = None
 
+-- the line of a kind that has four numbers
 abbrev pub of_four : (k : Kind) (a b c d : ℕ) → Option Line
 of_four kind.Device a b c d = Some (line.Device a b c d)
 of_four kind.Estimate a b c d = Some (line.Estimate a b c d)

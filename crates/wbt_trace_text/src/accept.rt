@@ -75,6 +75,7 @@ impl Builder {
             } => self.device(*device, *rate, *min, *max),
             Line::Strict { device } => self.strict(*device),
             Line::Chunk { device, pages } => self.chunk(*device, *pages),
+            Line::Cyclic { device } => self.cyclic(*device),
             Line::Cgroup {
                 cgroup,
                 filepages,
@@ -98,6 +99,7 @@ impl Builder {
                 pages,
             } => self.inode(*inode, *context, *pages),
             Line::Task { task, cpu } => self.task(*task, *cpu),
+            Line::Pace { task, pages, ticks } => self.pace(*task, *pages, *ticks),
             Line::Flusher {
                 flusher,
                 device,

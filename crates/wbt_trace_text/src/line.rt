@@ -48,6 +48,9 @@ pub enum Line {
         device: u64,
         pages: u64,
     },
+    Cyclic {
+        device: u64,
+    },
     Cgroup {
         cgroup: u64,
         filepages: u64,
@@ -76,6 +79,11 @@ pub enum Line {
     Task {
         task: u64,
         cpu: u64,
+    },
+    Pace {
+        task: u64,
+        pages: u64,
+        ticks: u64,
     },
     Flusher {
         flusher: u64,
@@ -130,6 +138,7 @@ impl fmt::Display for Line {
             } => write!(f, "device {device} {rate} {min} {max}"),
             Line::Strict { device } => write!(f, "strict {device}"),
             Line::Chunk { device, pages } => write!(f, "chunk {device} {pages}"),
+            Line::Cyclic { device } => write!(f, "cyclic {device}"),
             Line::Cgroup {
                 cgroup,
                 filepages,
@@ -153,6 +162,7 @@ impl fmt::Display for Line {
                 pages,
             } => write!(f, "inode {inode} {context} {pages}"),
             Line::Task { task, cpu } => write!(f, "task {task} {cpu}"),
+            Line::Pace { task, pages, ticks } => write!(f, "pace {task} {pages} {ticks}"),
             Line::Flusher {
                 flusher,
                 device,
@@ -184,6 +194,7 @@ fn of_one(kind: Kind, a: u64) -> Option<Line>
         Kind::DirtyBytes => Some(Line::DirtyBytes { bytes: a }),
         Kind::BackgroundBytes => Some(Line::BackgroundBytes { bytes: a }),
         Kind::Strict => Some(Line::Strict { device: a }),
+        Kind::Cyclic => Some(Line::Cyclic { device: a }),
         Kind::OrderTimer => Some(Line::OrderTimer { steps: a }),
         Kind::Tick => Some(Line::Tick { ticks: a }),
         Kind::Halt => Some(Line::Halt { steps: a }),
@@ -229,6 +240,11 @@ fn of_three(kind: Kind, a: u64, b: u64, c: u64) -> Option<Line>
             inode: a,
             context: b,
             pages: c,
+        }),
+        Kind::Pace => Some(Line::Pace {
+            task: a,
+            pages: b,
+            ticks: c,
         }),
         Kind::Flusher => Some(Line::Flusher {
             flusher: a,

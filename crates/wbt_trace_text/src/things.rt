@@ -1,5 +1,5 @@
-//! Lines that declare things: available pages, devices, which of them are strict and which have a chunk, cgroups, contexts, after how
-//! long their inodes are due and what their first estimates are, inodes, tasks and flushers.
+//! Lines that declare things: available pages, devices, which of them are strict, which have a chunk and which are cyclic, cgroups,
+//! contexts, after how long their inodes are due and what their first estimates are, inodes, tasks, their paces, and flushers.
 
 ghost use Rattle.std.specs.Prelude.{◌≡◌};
 ghost use Rattle.wbt_trace_text.specs.Accept as spec;
@@ -15,7 +15,7 @@ use wbt_num::{
 };
 use wbt_trace::{
     Avail, Cgroup, Context, Device, FirstEstimate, FlusherLine, Inode, MOST_AVAIL_PAGES,
-    MOST_COUNT, MOST_DEVICE_RATE, MOST_EXPIRE, MOST_FIRST_RATE, MOST_PERCENT, TaskLine,
+    MOST_COUNT, MOST_DEVICE_RATE, MOST_EXPIRE, MOST_FIRST_RATE, MOST_PERCENT, Pace, TaskLine,
 };
 
 // Whether the tick of a line of available pages is not above the one before, or not 0 on the first.
@@ -76,6 +76,7 @@ impl Builder {
             max: max as u32,
             strict: false,
             chunk: None,
+            cyclic: false,
         })?;
         self.least += min;
         Ok(())
@@ -109,6 +110,20 @@ impl Builder {
             return refused(Refusal::OutOfRange);
         }
         self.devices[device as usize].chunk = Some(pages as u32);
+        Ok(())
+    }
+
+    #[tactic(auto, using(crate::proofs::Devices::cyclic_shares, crate::proofs::Devices::cyclic_length))]
+    pub fn cyclic(&mut self, device: u64) -> Result<(), AcceptError>
+        ensures { Gives result (seen self.new) (spec.accept (Line.Cyclic device) (seen self.old)) }
+    {
+        if device >= self.devices.len() as u64 {
+            return refused(Refusal::UnknownName);
+        }
+        if self.devices[device as usize].cyclic {
+            return refused(Refusal::Twice);
+        }
+        self.devices[device as usize].cyclic = true;
         Ok(())
     }
 
@@ -242,7 +257,30 @@ impl Builder {
         if count >= MOST_TASKS as u64 {
             return refused(Refusal::Limit);
         }
-        self.tasks.push(TaskLine { cpu: cpu as u32 })?;
+        self.tasks.push(TaskLine {
+            cpu: cpu as u32,
+            pace: None,
+        })?;
+        Ok(())
+    }
+
+    #[tactic(auto, using(crate::proofs::Tasks::pace_length))]
+    pub fn pace(&mut self, task: u64, pages: u64, ticks: u64) -> Result<(), AcceptError>
+        ensures { Gives result (seen self.new) (spec.accept (Line.Pace task pages ticks) (seen self.old)) }
+    {
+        if task >= self.tasks.len() as u64 {
+            return refused(Refusal::UnknownName);
+        }
+        if self.tasks[task as usize].pace.is_some() {
+            return refused(Refusal::Twice);
+        }
+        if pages == 0 || pages > MOST_PAGES as u64 || ticks == 0 || ticks > MOST_COUNT {
+            return refused(Refusal::OutOfRange);
+        }
+        self.tasks[task as usize].pace = Some(Pace {
+            pages: pages as u32,
+            ticks,
+        });
         Ok(())
     }
 

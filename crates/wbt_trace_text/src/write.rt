@@ -227,6 +227,62 @@ fn put_chunks(text: &mut String, devices: &[Device]) -> Result<(), AllocError>
     Ok(())
 }
 
+// Writes the line that says that scans for the device go round, where they do.
+fn put_cyclic(text: &mut String, number: u64, device: &Device) -> Result<(), AllocError>
+    ensures { OnOk result (string_bytes text.new ≡ string_bytes text.old ++ spec.lines_text (spec.cyclic_line number device.now)) }
+{
+    if device.cyclic {
+        put_line(text, &Line::Cyclic { device: number })
+    } else {
+        Ok(())
+    }
+}
+
+// Writes for which devices scans go round.
+#[tactic(auto, using(crate::proofs::Texts::lines_text_append))]
+fn put_cyclics(text: &mut String, devices: &[Device]) -> Result<(), AllocError>
+    requires { length devices.now < 2 ^ 64 }
+    ensures { OnOk result (string_bytes text.new ≡ string_bytes text.old ++ spec.lines_text (spec.cyclic_lines 0 devices.now)) }
+{
+    let mut number = 0;
+    for device in devices {
+        put_cyclic(text, number, device)?;
+        number += 1;
+    }
+    Ok(())
+}
+
+// Writes the line of the task's pace, where it has one.
+fn put_pace(text: &mut String, number: u64, task: &TaskLine) -> Result<(), AllocError>
+    ensures { OnOk result (string_bytes text.new ≡ string_bytes text.old ++ spec.lines_text (spec.pace_line number task.now.pace)) }
+{
+    match task.pace {
+        None => Ok(()),
+        Some(pace) => put_line(
+            text,
+            &Line::Pace {
+                task: number,
+                pages: pace.pages as u64,
+                ticks: pace.ticks,
+            },
+        ),
+    }
+}
+
+// Writes the paces of tasks.
+#[tactic(auto, using(crate::proofs::Texts::lines_text_append))]
+fn put_paces(text: &mut String, tasks: &[TaskLine]) -> Result<(), AllocError>
+    requires { length tasks.now < 2 ^ 64 }
+    ensures { OnOk result (string_bytes text.new ≡ string_bytes text.old ++ spec.lines_text (spec.pace_lines 0 tasks.now)) }
+{
+    let mut number = 0;
+    for task in tasks {
+        put_pace(text, number, task)?;
+        number += 1;
+    }
+    Ok(())
+}
+
 // Writes the line of when the context's inodes are due, where it says it.
 fn put_expire(text: &mut String, number: u64, context: &Context) -> Result<(), AllocError>
     ensures { OnOk result (string_bytes text.new ≡ string_bytes text.old ++ spec.lines_text (spec.expire_line number context.now.expire)) }
@@ -352,12 +408,14 @@ fn text_of(alloc: Global, trace: &Trace) -> Result<String, AllocError>
     put_things(&mut text, 0, trace.devices.as_slice())?;
     put_stricts(&mut text, trace.devices.as_slice())?;
     put_chunks(&mut text, trace.devices.as_slice())?;
+    put_cyclics(&mut text, trace.devices.as_slice())?;
     put_things(&mut text, 1, trace.cgroups.as_slice())?;
     put_things(&mut text, 0, trace.contexts.as_slice())?;
     put_expires(&mut text, trace.contexts.as_slice())?;
     put_estimates(&mut text, trace.contexts.as_slice())?;
     put_things(&mut text, 0, trace.inodes.as_slice())?;
     put_things(&mut text, 0, trace.tasks.as_slice())?;
+    put_paces(&mut text, trace.tasks.as_slice())?;
     put_things(&mut text, 0, trace.flushers.as_slice())?;
     put_things(&mut text, 0, trace.actions.as_slice())?;
     put_things(&mut text, 0, trace.order.as_slice())?;
@@ -366,8 +424,8 @@ fn text_of(alloc: Global, trace: &Trace) -> Result<String, AllocError>
 }
 
 /// The text of a trace: each line that stands once, also where it says the default, and then each thing in order; which devices are
-/// strict is said after all of them, and then their chunks; and after all contexts, after how long their inodes are due, and then what
-/// their first estimates are.
+/// strict is said after all of them, then their chunks, and then which are cyclic; after all contexts, after how long their inodes are
+/// due, and then what their first estimates are; and after all tasks, the paces of those that have one.
 pub fn write_trace(alloc: Global, trace: &Trace) -> Result<Vec<u8>, NoMemory>
     requires { IsLawful trace.now }
     ensures text { IfOk result (λ text. text.items ≡ spec.trace_text trace.now) }

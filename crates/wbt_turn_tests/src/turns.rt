@@ -11,6 +11,10 @@ use wbt_kit::Turn;
 const A_REST: &[u8] =
     b"cpus 1\navail 0 100000\navail 150 50000\ndevice 0 25600 0 100\ncontext 0 0 0\ninode 0 0 2\ntask 0 0\nflusher 0 0 0\nrest 0 300\nwrite 0 0 0 1\n";
 
+// A task that rests after each two of its pages, before a further one.
+const A_PACE: &[u8] =
+    b"cpus 1\navail 0 100000\ndevice 0 25600 0 100\ncontext 0 0 0\ninode 0 0 4\ntask 0 0\npace 0 2 300\nflusher 0 0 0\nwrite 0 0 0 4\n";
+
 #[test]
 fn two_pages_are_written_taken_and_cleaned(rt: HostRuntime) -> Result<(), Fail> {
     let mut rack = ModelRack::make();
@@ -70,6 +74,44 @@ fn a_gate_cuts_a_write_off_behind_its_page(rt: HostRuntime) -> Result<(), Fail> 
         Some(&Entry::Write {
             task: 0,
             page: 0,
+            fresh: true
+        })
+    );
+    Ok(())
+}
+
+#[test]
+fn a_task_rests_between_its_pages_for_its_pace(rt: HostRuntime) -> Result<(), Fail> {
+    let mut rack = ModelRack::make();
+    let writes_later = Move {
+        rest: 300,
+        by: By::Writers,
+    };
+    let moves = [WRITES, WRITES, WRITES, WRITES, writes_later, WRITES, WRITES];
+    let taken = take(
+        &rt,
+        rt.alloc(),
+        A_PACE,
+        &HandClock::make(1),
+        &FreeGate,
+        &mut rack,
+        &moves,
+    )?;
+    let turns = [
+        Turn::Stepped,
+        Turn::Stepped,
+        Turn::Stepped,
+        Turn::Resting { now: 1, until: 301 },
+        Turn::Stepped,
+        Turn::Stepped,
+        Turn::Done,
+    ];
+    assert_eq!(rt; taken.turns.as_slice(), turns.as_slice());
+    assert_eq!(rt;
+        taken.log.entries.as_slice().last(),
+        Some(&Entry::Write {
+            task: 0,
+            page: 3,
             fresh: true
         })
     );

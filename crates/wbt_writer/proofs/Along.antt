@@ -1,19 +1,24 @@
 -- A task passes pages and rests: what it still writes goes on.
-use Rattle.std.proofs.Common.{◌≡◌, ◌≢◌, ℕ, zero, suc, ◌+◌, ◌-◌, ◌<◌, ◌≤◌, Bool, true, false, eqb, Some, List, [], ◌∷◌, ◌++◌, length, flat_map, drop, get_or, slice_get, refl, sym, ap, ◌∙◌, subst, arith, eq-eqb, ne_eqb}
+use Rattle.std.proofs.Common.{◌≡◌, ◌≢◌, ℕ, zero, suc, ◌+◌, ◌-◌, ◌<◌, ◌≤◌, Bool, true, false, cond, eqb, leb, Option, Some, None, IfSome, List, [], ◌∷◌, ◌++◌, length, flat_map, drop, get_or, slice_get, refl, sym, ap, ◌∙◌, subst, arith, eq-eqb, ne_eqb}
 use Rattle.std.proofs.lemmas.Bool.{cond-true, cond-false}
+use Rattle.std.proofs.lemmas.Bool.Decides.{nat_tests}
+use Rattle.std.proofs.lemmas.List.Elements.{All-get_or}
 use Rattle.std.proofs.lemmas.List.{drop_more, drop_all, drop-drop, drop-append-le}
 use Rattle.std.proofs.lemmas.Option.{slice_get_within, get_or_from_slice_get, slice_get-get_or}
 use Rattle.wbt_journal.specs.Machine.{numbers, pages_of_action, pages_of_task, rests_after}
-use Rattle.wbt_trace.specs.Lawful.{IsLawful, IsAction}
+use Rattle.wbt_rules.specs.Pace.{pace_of, pause_of, since_after}
+use Rattle.wbt_trace.specs.Lawful.{HasPace, IsAction, IsLawful, IsPace}
 use Rattle.wbt_trace.specs.declared.trace.Action.{Action}
 use Rattle.wbt_trace.specs.declared.trace.Action.TheVariants.{Write, Rest}
 use Rattle.wbt_trace.specs.declared.trace.Inode.{Inode}
+use Rattle.wbt_trace.specs.declared.trace.Pace.{Pace}
 use Rattle.wbt_trace.specs.declared.trace.Trace.{Trace}
 use Rattle.wbt_writer.specs.declared.task.TaskPlace.{TaskPlace}
-use Rattle.wbt_writer.specs.Ahead.{by_of, pages_in, pages_from, ahead, Skips, IsUnderWay, IsAlong, ComesNext, first_page}
+use Rattle.wbt_writer.specs.Ahead.{by_of, pages_in, pages_from, ahead, Skips, IsUnderWay, IsAlong, ComesNext, HasPage, first_page}
 use Rattle.wbt_writer.specs.declared.task.Next.TheVariants as next
 use Rattle.std.proofs.lemmas.List.Sums.{get_or-le-sum_by}
 use Rattle.wbt_num.specs.declared.most.TheConstants.{MOST_PAGES}
+use Rattle.wbt_trace.specs.declared.ranges.TheConstants.{MOST_COUNT}
 
 -- ---- lists
 
@@ -106,6 +111,32 @@ rests_from trace task from to a last skips own is b less =
     let e = drop_found trace.actions to action there in
     ap (rests_after task b) e ∙ own_rests task b a action (drop (to + 1) trace.actions) (own action there) ∙ sym (ap (rests_after task a) e) ∙ sym (skips.rests a) ∙ is
 
+-- ---- the task's pace
+
+is_pace : (trace : Trace) → IsLawful trace → (task : ℕ) → task < length trace.tasks → IfSome (pace_of trace task) IsPace
+is_pace trace lawful task there = All-get_or HasPace trace.tasks task (record { cpu = 0; pace = None }) there lawful.within.paces
+
+-- after a page more, before which it doesn't rest
+since_fits : (pace : Option Pace) (since : ℕ) → IfSome pace IsPace → pause_of pace since ≡ None → since_after pace since ≤ MOST_PAGES
+since_fits None since is none = omega arith
+since_fits (Some pace) since is none = cut (leb pace.pages since) none (λ e. grind (arith, nat_tests))
+  where
+    cut : (b : Bool) → cond b (Some pace.ticks) None ≡ None → (b ≡ false → since < pace.pages) → since + 1 ≤ MOST_PAGES
+    cut true e f = cc e
+    cut false e f = let less = f refl in let most = is.pages.1 in omega (arith, less, most)
+
+-- for which it rests no longer than a trace may say
+pause_fits : (pace : Option Pace) (since ticks : ℕ) → IfSome pace IsPace → pause_of pace since ≡ Some ticks → ticks ≤ MOST_COUNT
+pause_fits None since ticks is rests = cc rests
+pause_fits (Some pace) since ticks is rests = cut (leb pace.pages since) rests
+  where
+    same : (a b : ℕ) → Some a ≡ Some b → a ≡ b
+    same a b e = cc e
+
+    cut : (b : Bool) → cond b (Some pace.ticks) None ≡ Some ticks → ticks ≤ MOST_COUNT
+    cut true e = let ticks_are = same pace.ticks ticks e in let most = is.ticks.1 in omega (arith, ticks_are, most)
+    cut false e = cc e
+
 -- ---- what passing makes of it
 
 module _ (trace : Trace) (task : ℕ) (t : TaskPlace) (along : IsAlong trace task t) where
@@ -143,9 +174,13 @@ module _ (trace : Trace) (task : ℕ) (t : TaskPlace) (along : IsAlong trace tas
   pub some_left : (p : ℕ) (tail : List ℕ) → ahead trace task t ≡ p ∷ tail → t.todo ≡ length tail + 1
   some_left p tail is = let e : t.todo ≡ suc (length tail) = along.todo ∙ ap length is in omega arith
 
-  pub within : (inode from pages : ℕ) → slice_get actions t.at ≡ Some (Write task inode from pages) → t.done + 1 < pages
-      → IsAlong trace task (record t { done = t.done + 1; written = t.written + 1; todo = t.todo - 1 })
-  within inode from pages is less =
+  is_counted : IsLawful trace → (inode from pages : ℕ) → slice_get actions t.at ≡ Some (Write task inode from pages) → pause_of (pace_of trace task) t.since ≡ None
+      → since_after (pace_of trace task) t.since ≤ MOST_PAGES
+  is_counted lawful inode from pages is none = since_fits (pace_of trace task) t.since (is_pace trace lawful task (is_action trace lawful t.at (Write task inode from pages) is).0) none
+
+  pub within : IsLawful trace → (inode from pages since : ℕ) → slice_get actions t.at ≡ Some (Write task inode from pages) → pause_of (pace_of trace task) t.since ≡ None
+      → since ≡ since_after (pace_of trace task) t.since → t.done + 1 < pages → IsAlong trace task (record t { done = t.done + 1; written = t.written + 1; todo = t.todo - 1; since = since })
+  within lawful inode from pages since is no_pause since_is less =
       let a = ahead_write inode from pages is in
       let tail = drop (t.done + 1) (numbers (first_page trace inode + from) pages) ++ pages_from trace task (t.at + 1) in
       let now : drop (t.done + 1) (pages_from trace task t.at) ≡ tail = drop_next t.done (pages_from trace task t.at) tail _ a in
@@ -158,15 +193,17 @@ module _ (trace : Trace) (task : ℕ) (t : TaskPlace) (along : IsAlong trace tas
         under_way = λ action there. same_action action there;
         rests = along.rests;
         last_is = along.last_is;
+        since = let few = is_counted lawful inode from pages is no_pause in omega arith;
       }
     where
       same_action : (action : Action) → slice_get actions t.at ≡ Some action → IsUnderWay task (t.done + 1) action
       same_action action there = subst (IsUnderWay task (t.done + 1)) (sym (get_or_from_slice_get actions t.at (Write task inode from pages) action is) ∙ get_or_from_slice_get actions t.at action action there) (refl, less)
 
-  pub over : IsLawful trace → (inode from pages to : ℕ) → slice_get actions t.at ≡ Some (Write task inode from pages) → pages ≤ t.done + 1
+  pub over : IsLawful trace → (inode from pages to since : ℕ) → slice_get actions t.at ≡ Some (Write task inode from pages) → pause_of (pace_of trace task) t.since ≡ None
+      → since ≡ since_after (pace_of trace task) t.since → pages ≤ t.done + 1
       → to ≤ length actions → ((action : Action) → slice_get actions to ≡ Some action → by_of action ≡ task) → Skips task (t.at + 1) to actions
-      → IsAlong trace task (record t { at = to; done = 0; written = t.written + 1; todo = t.todo - 1 })
-  over lawful inode from pages to is last in_range own skips =
+      → IsAlong trace task (record t { at = to; done = 0; written = t.written + 1; todo = t.todo - 1; since = since })
+  over lawful inode from pages to since is no_pause since_is last in_range own skips =
       let a = ahead_write inode from pages is in
       let first = first_page trace inode + from in
       let tail = drop (t.done + 1) (numbers first pages) ++ pages_from trace task (t.at + 1) in
@@ -184,6 +221,7 @@ module _ (trace : Trace) (task : ℕ) (t : TaskPlace) (along : IsAlong trace tas
             (sym (ap (λ c. rests_after task c (drop (t.at + 1) actions)) (cond-true (eqb task task) false true (eq-eqb task task refl)))
             ∙ sym (ap (rests_after task true) (drop_found actions t.at (Write task inode from pages) is)) ∙ along.rests true (slice_get_within actions t.at _ is));
         last_is = along.last_is;
+        since = let few = is_counted lawful inode from pages is no_pause in omega arith;
       }
 
   pub no_rest_behind : (inode from pages to : ℕ) → slice_get actions t.at ≡ Some (Write task inode from pages) → Skips task (t.at + 1) to actions
@@ -220,6 +258,7 @@ module _ (trace : Trace) (task : ℕ) (t : TaskPlace) (along : IsAlong trace tas
     under_way = λ action there. subst (λ (d : ℕ). IsUnderWay task d action) (sym (not_begun ticks is)) (begins trace lawful task to action there (own action there));
     rests = rests_from trace task (t.at + 1) to true t.rests_last skips own (rests_behind ticks is);
     last_is = along.last_is;
+    since = along.since;
   }
 
   pub rests_at_last : (ticks to : ℕ) → slice_get actions t.at ≡ Some (Rest task ticks) → Skips task (t.at + 1) to actions → length actions ≤ to → t.rests_last ≡ true
@@ -235,14 +274,34 @@ pub found_own : (trace : Trace) (task : ℕ) (t : TaskPlace) (along : IsAlong tr
 found_own trace task t along (Write by inode from pages) is = (along.under_way (Write by inode from pages) is).0
 found_own trace task t along (Rest by ticks) is = (along.under_way (Rest by ticks) is).0
 
-pub next_write : (trace : Trace) (task : ℕ) (t : TaskPlace) → IsAlong trace task t → IsLawful trace → (by inode from pages : ℕ)
-    → slice_get trace.actions t.at ≡ Some (Write by inode from pages) → ComesNext trace task t (next.Write inode (from + t.done))
-next_write trace task t along lawful by inode from pages is =
+page_next : (trace : Trace) (task : ℕ) (t : TaskPlace) → IsAlong trace task t → IsLawful trace → (by inode from pages : ℕ)
+    → slice_get trace.actions t.at ≡ Some (Write by inode from pages) → HasPage trace inode (from + t.done)
+page_next trace task t along lawful by inode from pages is =
     let own = found_own trace task t along (Write by inode from pages) is in
     let there = subst (λ (b : ℕ). slice_get trace.actions t.at ≡ Some (Write b inode from pages)) own is in
     let action = is_action trace lawful t.at (Write by inode from pages) is in
     let less = not_over trace task t along inode from pages there in
-    ((record { inode_is = action.1; page_is = let fits = action.3 in omega arith }, _, ahead_write trace task t along inode from pages there), (from, pages, there))
+    record { inode_is = action.1; page_is = let fits = action.3 in omega arith }
+
+-- there is a task that writes
+pub is_there : (trace : Trace) → IsLawful trace → (task : ℕ) (t : TaskPlace) → IsAlong trace task t → (by inode from pages : ℕ)
+    → slice_get trace.actions t.at ≡ Some (Write by inode from pages) → task < length trace.tasks
+is_there trace lawful task t along by inode from pages is =
+    subst (λ (b : ℕ). b < length trace.tasks) (found_own trace task t along (Write by inode from pages) is) (is_action trace lawful t.at (Write by inode from pages) is).0
+
+pub next_write : (trace : Trace) (task : ℕ) (t : TaskPlace) → IsAlong trace task t → IsLawful trace → (by inode from pages : ℕ)
+    → slice_get trace.actions t.at ≡ Some (Write by inode from pages) → pause_of (pace_of trace task) t.since ≡ None → ComesNext trace task t (next.Write inode (from + t.done))
+next_write trace task t along lawful by inode from pages is none =
+    let there = subst (λ (b : ℕ). slice_get trace.actions t.at ≡ Some (Write b inode from pages)) (found_own trace task t along (Write by inode from pages) is) is in
+    ((page_next trace task t along lawful by inode from pages is, _, ahead_write trace task t along inode from pages there), (from, pages, there), none)
+
+pub next_pause : (trace : Trace) (task : ℕ) (t : TaskPlace) → IsAlong trace task t → (by inode from pages ticks : ℕ)
+    → slice_get trace.actions t.at ≡ Some (Write by inode from pages) → pause_of (pace_of trace task) t.since ≡ Some ticks → ComesNext trace task t (next.Pause ticks)
+next_pause trace task t along by inode from pages ticks is pause =
+    (pause, (inode, from, pages, subst (λ (b : ℕ). slice_get trace.actions t.at ≡ Some (Write b inode from pages)) (found_own trace task t along (Write by inode from pages) is) is))
+
+pub pause_is_short : (trace : Trace) → IsLawful trace → (task : ℕ) (t : TaskPlace) (ticks : ℕ) → task < length trace.tasks → ComesNext trace task t (next.Pause ticks) → ticks ≤ MOST_COUNT
+pause_is_short trace lawful task t ticks there comes = pause_fits (pace_of trace task) t.since ticks (is_pace trace lawful task there) comes.0
 
 pub next_rest : (trace : Trace) (task : ℕ) (t : TaskPlace) → IsAlong trace task t → (by ticks : ℕ)
     → slice_get trace.actions t.at ≡ Some (Rest by ticks) → ComesNext trace task t (next.Rest ticks)
@@ -252,6 +311,6 @@ next_rest trace task t along by ticks is =
 pub page_fits : (trace : Trace) → IsLawful trace → (task : ℕ) (t : TaskPlace) → IsAlong trace task t → (by inode from pages : ℕ)
     → slice_get trace.actions t.at ≡ Some (Write by inode from pages) → from + t.done < MOST_PAGES
 page_fits trace lawful task t along by inode from pages is =
-    let page = (next_write trace task t along lawful by inode from pages is).0.0 in
+    let page = page_next trace task t along lawful by inode from pages is in
     let at_most = get_or-le-sum_by (λ (i : Inode). i.pages) trace.inodes inode (record { context = 0; first = 0; pages = 0 }) page.inode_is in
     let all = lawful.within.inodes.total in let less = page.page_is in omega arith

@@ -2,6 +2,7 @@
 use Rattle.std.proofs.Common.{◌≡◌, ℕ, ◌+◌, ◌<◌, ◌≤◌, ◌⊎◌, inl, inr, Bool, true, false, List, [], ◌∷◌, length, map, refl, sym, ap, ◌∙◌, subst, arith, nat_lt, true≢false}
 use Rattle.std.proofs.lemmas.Bool.{cases_eq, cases_Bool, ltb-true, ltb-false}
 use Rattle.std.proofs.lemmas.List.{append-nil, length-map}
+use Rattle.std.proofs.lemmas.Option.{slice_get_within}
 use Rattle.wbt_journal.specs.Checks.{MayEnd}
 use Rattle.wbt_journal.specs.Counts.{reads_of}
 use Rattle.wbt_journal.specs.Each.{Each}
@@ -26,7 +27,7 @@ use Rattle.wbt_run_laws.proofs.Logging.{logged_nothing}
 use Rattle.wbt_writer.specs.Ahead.{first_page}
 use Rattle.wbt_writer.specs.Answers.{AreHeld, Goes, Turned, WorkMayGoOn}
 use Rattle.wbt_writer.specs.Checks.{Checks, LoadsAlone}
-use Rattle.wbt_writer.specs.Counted.{AreTasksOf, IsJob, KeepsFixed, OthersStay, cpu_of, side_of, state_of, task_at, written_of}
+use Rattle.wbt_writer.specs.Counted.{AreTasksOf, IsJob, KeepsFixed, OthersStay, RestsFor, cpu_of, side_of, state_of, task_at, written_of}
 use Rattle.wbt_writer.specs.Over.{AreOver, IsOver, own_of}
 use Rattle.wbt_writer.proofs.Over.{end_over, no_due_of, own_over}
 use Rattle.wbt_writer.proofs.Standing.{at_tasks}
@@ -208,7 +209,7 @@ module _ (told : ℕ → Type 0) (said : ℕ → ℕ → Bool → Type 0) (trace
 
   -- ---- a rest
 
-  module _ (ticks : ℕ) (going : IsGoing trace work.tasks task) (long : length work.tasks.tasks.items ≡ length trace.tasks) (its : IsJob trace mid task (job.Rest ticks)) (is : Tasks)
+  module _ (ticks : ℕ) (going : IsGoing trace work.tasks task) (long : length work.tasks.tasks.items ≡ length trace.tasks) (its : RestsFor trace mid task ticks) (is : Tasks)
       (rest_is : (task_at is task).rest ≡ now + ticks)
       (goes_on : (task_at is task).at < length trace.actions → side_of is ≡ side_of mid)
       (its_end : length trace.actions ≤ (task_at is task).at → side_of is ≡ end_task trace kit.published.moment task (side_of mid))
@@ -296,7 +297,7 @@ module _ (told : ℕ → Type 0) (said : ℕ → ℕ → Bool → Type 0) (trace
         goes,
         rests (record {
           ticks = ticks;
-          its_job = subst (λ (s : Tasks). IsJob trace s task (job.Rest ticks)) only its;
+          its_job = subst (λ (s : Tasks). RestsFor trace s task ticks) only its;
           none_told = refl;
           cpu = refl;
           share = refl;
@@ -345,3 +346,24 @@ module _ (told : ℕ → Type 0) (said : ℕ → ℕ → Bool → Type 0) (trace
     pub at_rested : AreAt trace cpu kit work seats → AreTasksOf trace mid → (task_at is task).own ≡ (task_at mid task).own → AreTasksOf trace is → KeepsFixed mid is → AreAt trace cpu kit (with_tasks work is) seats
     at_rested at before own tasks fixed =
         at_tasks trace cpu kit (with_tasks work mid) (with_tasks work is) seats seats (at_begun at before) tasks fixed (λ n low. own_is own n) (rest_over own at.is_work.over) refl refl at.fits
+
+  -- ---- a rest before the task's next page
+
+  module _ (ticks : ℕ) (going : IsGoing trace work.tasks task) (long : length work.tasks.tasks.items ≡ length trace.tasks) (its : IsJob trace mid task (job.Pause ticks)) (is : Tasks)
+      (side : side_of is ≡ side_of mid) (own : task_at is task ≡ record (task_at mid task) { since = 0; rest = now + ticks }) (others : OthersStay task mid is) where
+    not_past : length trace.actions ≤ (task_at is task).at → ⊥
+    not_past past =
+        let less = slice_get_within trace.actions (task_at mid task).at _ its.1.1.3 in
+        let same = ap (λ (x : TaskPlace). x.at) own in omega arith
+
+    pub turned_by_pause : Turned told said trace cpu kit Stepped (sight work seats log) (sight (with_tasks work is) seats log)
+    turned_by_pause = turned_by_rest ticks going long (inr its) is (ap (λ (x : TaskPlace). x.rest) own) (λ less. side) (λ past. absurd (not_past past)) (λ past. absurd (not_past past))
+        (ap (λ (x : TaskPlace). x.written) own) others
+
+    pub goes_on_by_pause : OwesNothing cpu seats → HaveLefts trace cpu kit work.tasks seats → HaveRead trace work seats → WorkMayGoOn Stepped trace cpu kit (with_tasks work is) seats seats
+    goes_on_by_pause = goes_on_by_rest ticks going long (inr its) is (ap (λ (x : TaskPlace). x.rest) own) (λ less. side) (λ past. absurd (not_past past)) (λ past. absurd (not_past past))
+        (ap (λ (x : TaskPlace). x.written) own) others
+
+    pub at_paused : AreAt trace cpu kit work seats → AreTasksOf trace mid → AreTasksOf trace is → KeepsFixed mid is → AreAt trace cpu kit (with_tasks work is) seats
+    at_paused at before = at_rested ticks going long (inr its) is (ap (λ (x : TaskPlace). x.rest) own) (λ less. side) (λ past. absurd (not_past past)) (λ past. absurd (not_past past))
+        (ap (λ (x : TaskPlace). x.written) own) others at before (ap (λ (x : TaskPlace). x.own) own)

@@ -1,5 +1,5 @@
 -- One task changes, and one event is counted: what holds of all tasks after that.
-use Rattle.std.proofs.Common.{◌≡◌, ◌≢◌, ℕ, ◌+◌, ◌-◌, ◌^◌, ◌<◌, ◌≤◌, inl, inr, Bool, true, false, ◌&&◌, nat_lt, List, length, map, get_or, set, refl, sym, ap, ◌∙◌, subst, arith}
+use Rattle.std.proofs.Common.{◌≡◌, ◌≢◌, ℕ, ◌+◌, ◌-◌, ◌^◌, ◌<◌, ◌≤◌, inl, inr, Bool, true, false, ◌&&◌, nat_lt, Option, List, length, map, get_or, set, refl, sym, ap, ◌∙◌, subst, arith}
 use Rattle.std.proofs.lemmas.Bool.{cases_eq, ltb-true, lt-ltb}
 use Rattle.std.proofs.lemmas.List.{get_or-map, get_or-set_same, get_or-set_other, length-set, map-set, set-get_or}
 use Rattle.std.proofs.lemmas.Bool.Decides.{nat_tests}
@@ -8,6 +8,7 @@ use Rattle.wbt_journal.specs.Checks.{is_due}
 use Rattle.wbt_journal.specs.Machine.{ratelimit_pages}
 use Rattle.wbt_journal.specs.Side.{TaskState, all_writers, check_by, number_of, task_of, with_page, write_fresh}
 use Rattle.wbt_pause.specs.declared.decision.Decision.{Decision}
+use Rattle.wbt_rules.specs.Pace.{since_after}
 use Rattle.wbt_task.specs.Allowance.{page_after}
 use Rattle.wbt_task.specs.Counts.{AllHavePagesLeft, LeavesPages, Settles, counted, is_write}
 use Rattle.wbt_task.specs.History.{Cpu, cpu_step, writer_in, writer_of, wrote_page}
@@ -17,6 +18,7 @@ use Rattle.wbt_task.specs.declared.history.Event.{Event}
 use Rattle.wbt_task.specs.declared.history.Event.TheVariants.{Checked, Wrote}
 use Rattle.wbt_task.specs.declared.history.Writer.{Writer}
 use Rattle.wbt_task.proofs.Keeping.{same_writers, others_stay, event_keeps, written_is, checked_is}
+use Rattle.wbt_trace.specs.declared.trace.Pace.{Pace}
 use Rattle.wbt_trace.specs.declared.trace.Trace.{Trace}
 use Rattle.wbt_trace.specs.declared.writers.Writer.{Writer as Name}
 use Rattle.wbt_writer.specs.Ahead.{IsAlong}
@@ -64,7 +66,7 @@ module _ (trace : Trace) (task : ℕ) (s : Tasks) (there : task < length trace.t
 
   -- ---- a page was passed
 
-  pub passed_is : (n : TaskPlace) → IsAlong trace task n → n ≡ record t { at = n.at; done = n.done; written = n.written; todo = n.todo }
+  pub passed_is : (n : TaskPlace) → IsAlong trace task n → n ≡ record t { at = n.at; done = n.done; written = n.written; todo = n.todo; since = n.since }
       → (length trace.actions ≤ n.at → n.rests_last ≡ false) → IsTaskOf trace (cpu_of s) task n
   passed_is n along same past = record {
     along = along;
@@ -75,7 +77,7 @@ module _ (trace : Trace) (task : ℕ) (s : Tasks) (there : task < length trace.t
 
   -- what was already dirty counts nowhere
   pub already : (m : Tasks) (n : TaskPlace) → KeepsFixed s m → cpu_of m ≡ cpu_of s → m.tasks.items ≡ set s.tasks.items task n → IsAlong trace task n
-      → n ≡ record t { at = n.at; done = n.done; written = n.written; todo = n.todo } → (length trace.actions ≤ n.at → n.rests_last ≡ false) → n.todo + 1 ≡ t.todo → AreCounted trace m
+      → n ≡ record t { at = n.at; done = n.done; written = n.written; todo = n.todo; since = n.since } → (length trace.actions ≤ n.at → n.rests_last ≡ false) → n.todo + 1 ≡ t.todo → AreCounted trace m
   already m n fixed cpu tasks along same past one =
       let less = todo_put m n tasks in
       put_counted m n fixed tasks (ap (λ (x : Cpu). length x.writers) cpu)
@@ -180,7 +182,7 @@ module _ (trace : Trace) (task : ℕ) (s : Tasks) (there : task < length trace.t
 
     fresh_is : (p : TaskPlace) → IsAlong trace task p → (length trace.actions ≤ p.at → p.rests_last ≡ false) → IsTaskOf trace wrote task (record p { writer = writer; context = context })
     fresh_is p along past = record {
-      along = record { still = along.still; todo = along.todo; few = along.few; place = along.place; under_way = along.under_way; rests = along.rests; last_is = along.last_is };
+      along = record { still = along.still; todo = along.todo; few = along.few; place = along.place; under_way = along.under_way; rests = along.rests; last_is = along.last_is; since = along.since };
       last = record {
         number = λ below. sym number;
         its_own = λ below. named;
@@ -251,7 +253,7 @@ module _ (trace : Trace) (task : ℕ) (s : Tasks) (there : task < length trace.t
 
     check_is : (rest : ℕ) → IsTaskOf trace decided task (record t { rest = rest })
     check_is rest = let is = c.counted.each task there in let along = is.along in let last = is.last in record {
-      along = record { still = along.still; todo = along.todo; few = along.few; place = along.place; under_way = along.under_way; rests = along.rests; last_is = along.last_is };
+      along = record { still = along.still; todo = along.todo; few = along.few; place = along.place; under_way = along.under_way; rests = along.rests; last_is = along.last_is; since = along.since };
       last = record {
         number = λ below. last.number (subst (λ k. t.writer < k) (long (Checked t.writer decision) own_check) below);
         its_own = λ below. last.its_own (subst (λ k. t.writer < k) (long (Checked t.writer decision) own_check) below);
@@ -317,11 +319,11 @@ passes_is t n x y is ended written todo own rest =
       rest = ap (λ (z : TaskPlace). z.rest) e ∙ rest;
     }
 
-pub passed_same : (x t n : TaskPlace) → x ≡ t → n ≡ record x { at = n.at; done = n.done; written = n.written; todo = n.todo } → n ≡ record t { at = n.at; done = n.done; written = n.written; todo = n.todo }
-passed_same x t n same is = is ∙ ap (λ (y : TaskPlace). record y { at = n.at; done = n.done; written = n.written; todo = n.todo }) same
+pub passed_same : (x t n : TaskPlace) → x ≡ t → n ≡ record x { at = n.at; done = n.done; written = n.written; todo = n.todo; since = n.since } → n ≡ record t { at = n.at; done = n.done; written = n.written; todo = n.todo; since = n.since }
+passed_same x t n same is = is ∙ ap (λ (y : TaskPlace). record y { at = n.at; done = n.done; written = n.written; todo = n.todo; since = n.since }) same
 
-moves_at : (t y : TaskPlace) (a d w o : ℕ) (e : Bool) → y ≡ record t { at = a; done = d; written = w; todo = o; ended = e } → MovesAlong t y
-moves_at t y a d w o e is = subst (λ (z : TaskPlace). MovesAlong t z) (sym is) refl
+moves_at : (t y : TaskPlace) (a d w o k : ℕ) (e : Bool) → y ≡ record t { at = a; done = d; written = w; todo = o; since = k; ended = e } → MovesAlong t y
+moves_at t y a d w o k e is = subst (λ (z : TaskPlace). MovesAlong t z) (sym is) refl
 
 -- a place that has gone on so far
 pub stands_at : (trace : Trace) (task : ℕ) (t a b : TaskPlace) → b.at ≡ a.at → b.done ≡ a.done → StandsBehind trace task t a → StandsBehind trace task t b
@@ -330,17 +332,20 @@ stands_at trace task t a b at done (was_last action there last first none) =
     was_last action there last (subst (λ (n : ℕ). IsFirstFrom trace task (t.at + 1) n) (sym at) first) (done ∙ none)
 
 -- the task's place was passed, put, and settled; `counted` is what was put of it
-module _ (p t n m y : TaskPlace) (same : p ≡ t) (moved : n ≡ record p { at = n.at; done = n.done; written = n.written; todo = n.todo }) (settled : y ≡ record m { ended = y.ended }) where
+module _ (p t n m y : TaskPlace) (same : p ≡ t) (moved : n ≡ record p { at = n.at; done = n.done; written = n.written; todo = n.todo; since = n.since }) (settled : y ≡ record m { ended = y.ended }) where
   pub stands_is : (trace : Trace) (task : ℕ) → m.at ≡ n.at → m.done ≡ n.done → StandsBehind trace task p n → StandsBehind trace task t y
   stands_is trace task at done stands = stands_at trace task t n y (ap (λ (z : TaskPlace). z.at) settled ∙ at) (ap (λ (z : TaskPlace). z.done) settled ∙ done)
       (subst (λ (z : TaskPlace). StandsBehind trace task z n) same stands)
 
+  pub since_is : (pace : Option Pace) → m.since ≡ n.since → n.since ≡ since_after pace p.since → y.since ≡ since_after pace t.since
+  since_is pace put more = ap (λ (z : TaskPlace). z.since) settled ∙ put ∙ more ∙ ap (λ (z : TaskPlace). since_after pace z.since) same
+
   pub moves_is : (w k : ℕ) → m ≡ record n { writer = w; context = k } → MovesAlong (record t { writer = w; context = k }) y
-  moves_is w k put = moves_at (record t { writer = w; context = k }) y n.at n.done n.written n.todo y.ended
+  moves_is w k put = moves_at (record t { writer = w; context = k }) y n.at n.done n.written n.todo n.since y.ended
       (settled ∙ ap (λ (z : TaskPlace). record z { ended = y.ended }) (put ∙ ap (λ (z : TaskPlace). record z { writer = w; context = k }) (passed_same p t n same moved)))
 
   pub moves_only : m ≡ n → MovesAlong t y
-  moves_only put = moves_at t y n.at n.done n.written n.todo y.ended (settled ∙ ap (λ (z : TaskPlace). record z { ended = y.ended }) (put ∙ passed_same p t n same moved))
+  moves_only put = moves_at t y n.at n.done n.written n.todo n.since y.ended (settled ∙ ap (λ (z : TaskPlace). record z { ended = y.ended }) (put ∙ passed_same p t n same moved))
 
 pub stay_both : (task : ℕ) (a b d : Tasks) → OthersStay task a b → OthersStay task b d → OthersStay task a d
 stay_both task a b d p q = λ other differs. q other differs ∙ p other differs

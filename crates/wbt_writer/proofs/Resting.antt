@@ -60,7 +60,7 @@ module _ (trace : Trace) (task : ℕ) (s : Tasks) (there : task < length trace.t
   module _ (a until : ℕ) (along : IsAlong trace task (record t { at = a })) where
     rest_is : (a < length trace.actions) → IsTaskOf trace (cpu_of s) task (record t { at = a; rest = until })
     rest_is less = let last = (c.counted.each task there).last in record {
-      along = record { still = along.still; todo = along.todo; few = along.few; place = along.place; under_way = along.under_way; rests = along.rests; last_is = along.last_is };
+      along = record { still = along.still; todo = along.todo; few = along.few; place = along.place; under_way = along.under_way; rests = along.rests; last_is = along.last_is; since = along.since };
       last = record { number = last.number; its_own = last.its_own; others = last.others };
       past = λ going behind. absurd (omega arith);
     }
@@ -95,7 +95,7 @@ module _ (trace : Trace) (task : ℕ) (s : Tasks) (there : task < length trace.t
 
     ended_is : (e : Tasks) (d : AreTasksOf trace e) → e.tasks.items ≡ set s.tasks.items task (record t { ended = true }) → IsTaskOf trace (cpu_of e) task (record t { at = a; rest = until; ended = true })
     ended_is e d tasks = let last = subst (IsLast trace (cpu_of e) task) (here trace task s there c e (record t { ended = true }) tasks) (d.counted.each task there).last in record {
-      along = record { still = along.still; todo = along.todo; few = along.few; place = along.place; under_way = along.under_way; rests = along.rests; last_is = along.last_is };
+      along = record { still = along.still; todo = along.todo; few = along.few; place = along.place; under_way = along.under_way; rests = along.rests; last_is = along.last_is; since = along.since };
       last = record { number = last.number; its_own = last.its_own; others = last.others };
       past = λ going. absurd (true≢false going);
     }
@@ -135,6 +135,45 @@ module _ (trace : Trace) (task : ℕ) (s : Tasks) (there : task < length trace.t
         ∙ ap (λ k. set (map state_of s.tasks.items) task (record { todo = k; has_ended = true })) (sym (ap (λ (x : TaskState). x.todo) state_is)) in
         ap (λ (x : Cpu). record { cpu = x; tasks = map state_of m.tasks.items }) ends
         ∙ ap (λ (states : List TaskState). record { cpu = cpu_after (ratelimit_pages trace opened) trace.cap (cpu_of s) (map Ended (numbers_from task 0 (all_writers trace))); tasks = states }) states
+
+-- ---- it rests before its next page
+
+pub pause_side : (s m : Tasks) (task until : ℕ) → task < length s.tasks.items → cpu_of m ≡ cpu_of s → m.tasks.items ≡ set s.tasks.items task (record (task_at s task) { since = 0; rest = until })
+    → side_of m ≡ side_of s
+pause_side s m task until there cpu tasks =
+    ap (λ (x : Cpu). record { cpu = x; tasks = map state_of m.tasks.items }) cpu
+    ∙ ap (λ (states : List TaskState). record { cpu = cpu_of s; tasks = states }) (ap (map state_of) tasks ∙ map-set state_of s.tasks.items task (record (task_at s task) { since = 0; rest = until })
+    ∙ sym (map-set state_of s.tasks.items task (task_at s task)) ∙ ap (map state_of) (set-get_or s.tasks.items task no_task))
+
+pub pause_keeps : (trace : Trace) (s m : Tasks) (task until : ℕ) → task < length s.tasks.items → KeepsFixed s m → cpu_of m ≡ cpu_of s
+    → m.tasks.items ≡ set s.tasks.items task (record (task_at s task) { since = 0; rest = until }) → AreTasksOf trace s → AreTasksOf trace m
+pause_keeps trace s m task until inside fixed cpu tasks c =
+    let there : task < length trace.tasks = let long = c.counted.tasks in omega arith in
+    let t : TaskPlace = task_at s task in
+    let n : TaskPlace = record t { since = 0; rest = until } in
+    let put = todo_put trace task s there c m n tasks in
+    let was = c.counted.each task there in
+    let along = was.along in
+    let last = was.last in
+    record {
+      counted = put_counted trace task s there c m n fixed tasks (ap (λ (x : Cpu). length x.writers) cpu)
+          (subst (λ (x : Cpu). IsTaskOf trace x task n) (sym cpu) (record {
+            along = record { still = along.still; todo = along.todo; few = along.few; place = along.place; under_way = along.under_way; rests = along.rests; last_is = along.last_is; since = omega arith };
+            last = record { number = last.number; its_own = last.its_own; others = last.others };
+            past = was.past;
+          }))
+          (λ other below differs. subst (λ (x : Cpu). IsTaskOf trace x other (task_at s other)) (sym cpu) (c.counted.each other below))
+          (subst (λ (x : Cpu). AreFew x m.tasks.items) (sym cpu) (record {
+            pages = let few = c.counted.few.pages in omega arith;
+            since = let few = c.counted.few.since in omega arith;
+            allowances = c.counted.few.allowances;
+          }))
+          (subst (AllHavePagesLeft trace.cap) (sym cpu) c.counted.left);
+      go_on = λ other below. subst (λ (x : Cpu). GoesOn trace x (task_at m other)) (sym cpu) (elim (cases_eq other task) [
+        | inl same ↦ subst (λ k. GoesOn trace (cpu_of s) (task_at m k)) (sym same) (subst (GoesOn trace (cpu_of s)) (sym (here trace task s there c m n tasks)) (c.go_on task there))
+        | inr differs ↦ subst (GoesOn trace (cpu_of s)) (sym (apart trace task s there c m n tasks other differs)) (c.go_on other below)
+      ]);
+    }
 
 pub rest_passed : (x t p : TaskPlace) → x ≡ t → p ≡ record x { at = p.at } → p ≡ record t { at = p.at }
 rest_passed x t p same is = is ∙ ap (λ (y : TaskPlace). record y { at = p.at }) same

@@ -140,6 +140,7 @@ module _ (trace : Trace) (own : Bool) (task : ℕ) where
       under_way = λ action is. begins trace lawful task x.at action is (own_at action is);
       rests = rests_from trace task 0 x.at false x.rests_last skips own_at (sym last_is);
       last_is = last_is;
+      since = omega arith;
     }
 
     past_whole : whole.ended ≡ false → n ≤ x.at → x.rests_last ≡ false

@@ -209,7 +209,7 @@ module _ (trace : Trace) (task : ℕ) (s : Tasks) (there : task < length trace.t
 
       ended_task : IsTaskOf trace (cpu_of s) task t → IsTaskOf trace (cpu_of n) task (record t { ended = true })
       ended_task is = let last = kept_last task t is.last in record {
-        along = record { still = is.along.still; todo = is.along.todo; few = is.along.few; place = is.along.place; under_way = is.along.under_way; rests = is.along.rests; last_is = is.along.last_is };
+        along = record { still = is.along.still; todo = is.along.todo; few = is.along.few; place = is.along.place; under_way = is.along.under_way; rests = is.along.rests; last_is = is.along.last_is; since = is.along.since };
         last = record { number = last.number; its_own = last.its_own; others = last.others };
         past = λ going. absurd (true≢false going);
       }

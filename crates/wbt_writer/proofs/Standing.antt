@@ -104,7 +104,7 @@ module _ (trace : Trace) (cpu : ℕ) (kit : Kit) (work : WriterWork) (seats : Se
 -- the CPU of a task
 own_cpu : (trace : Trace) (cpu task : ℕ) → task < length trace.tasks → is_own_task trace cpu task ≡ true → cpu_of_task trace task ≡ cpu
 own_cpu trace cpu task low own =
-    let none : TaskLine = record { cpu = 0 } in
+    let none : TaskLine = record { cpu = 0; pace = None } in
     let is = ap (λ (w : Option TaskLine). is_on cpu (cpu_in w)) (slice_get-get_or trace.tasks task none low) in
     eqb-true (get_or trace.tasks task none).cpu cpu (sym is ∙ own)
 

@@ -1,6 +1,8 @@
 -- Where a task stands among its actions: what it wrote of its pages, and what it still writes.
-use Rattle.std.specs.Prelude.{◌≡◌, ℕ, ◌+◌, ◌^◌, ◌<◌, ◌≤◌, Bool, Some, List, ◌∷◌, length, flat_map, drop, slice_get}
+use Rattle.std.specs.Prelude.{◌≡◌, ℕ, ◌+◌, ◌^◌, ◌<◌, ◌≤◌, Bool, Some, None, List, ◌∷◌, length, flat_map, drop, slice_get}
 use Rattle.wbt_journal.specs.Machine.{pages_of_action, pages_of_task, rests_after, rests_last}
+use Rattle.wbt_num.specs.declared.most.TheConstants.{MOST_PAGES}
+use Rattle.wbt_rules.specs.Pace.{pace_of, pause_of}
 use Rattle.wbt_trace.specs.Sofar.{inode_at}
 use Rattle.wbt_trace.specs.declared.trace.Action.{Action}
 use Rattle.wbt_trace.specs.declared.trace.Action.TheVariants.{Write, Rest}
@@ -47,6 +49,7 @@ pub record IsAlong (trace : Trace) (task : ℕ) (t : TaskPlace) : Type 0 where
   pub under_way : (action : Action) → slice_get trace.actions t.at ≡ Some action → IsUnderWay task t.done action
   pub rests : (so_far : Bool) → t.at < length trace.actions → rests_after task so_far (drop t.at trace.actions) ≡ t.rests_last
   pub last_is : t.rests_last ≡ rests_last trace task
+  pub since : t.since ≤ MOST_PAGES
 
 -- the first page of an inode
 abbrev pub first_page : (trace : Trace) (inode : ℕ) → ℕ
@@ -57,10 +60,12 @@ pub record HasPage (trace : Trace) (inode page : ℕ) : Type 0 where
   pub inode_is : inode < length trace.inodes
   pub page_is : page < (inode_at inode trace.inodes).pages
 
--- what comes next: the first of the pages ahead, a rest, or nothing
+-- what comes next: the first of the pages ahead, a rest, a rest before that page as the task's pace says, or nothing
 abbrev pub ComesNext : (trace : Trace) (task : ℕ) (t : TaskPlace) (next : Next) → Type 0
 ComesNext trace task t (next.Write inode page) =
     (HasPage trace inode page × (more : List ℕ) × (ahead trace task t ≡ (first_page trace inode + page) ∷ more))
-    × ((from pages : ℕ) × (slice_get trace.actions t.at ≡ Some (Write task inode from pages)))
+    × ((from pages : ℕ) × (slice_get trace.actions t.at ≡ Some (Write task inode from pages))) × (pause_of (pace_of trace task) t.since ≡ None)
 ComesNext trace task t (next.Rest ticks) = slice_get trace.actions t.at ≡ Some (Rest task ticks)
+ComesNext trace task t (next.Pause ticks) =
+    (pause_of (pace_of trace task) t.since ≡ Some ticks) × ((inode from pages : ℕ) × (slice_get trace.actions t.at ≡ Some (Write task inode from pages)))
 ComesNext trace task t next.Nothing = length trace.actions ≤ t.at

@@ -35,10 +35,12 @@ pub record IsUsable (line : DomainLine) : Type 0 where
   pub lawful : IsLawful line.limits
   pub proper : IsProper line.share
 
+-- both lines of a check are usable
 pub record AreUsable (lines : Lines) : Type 0 where
   pub global : IsUsable lines.global
   pub cgroup : IfSome lines.cgroup IsUsable
 
+-- all that a check of a context reads, by its lines and its context's count
 abbrev pub reads_for : (trace : Trace) (context : ℕ) (lines : Lines) (count : Count) → Reads
 reads_for trace context lines count = record {
   global = domain_read trace context lines.global;
@@ -82,6 +84,7 @@ pub record Asked (trace : Trace) (kit : Kit) (task context now : ℕ) (numbers :
 
 -- ---- what the writer gets
 
+-- the CPU's record with pages granted to the writer, unless its decision is to wait
 abbrev pub given_by : (kind : Kind) (writer left : ℕ) (r : CpuRecord) → CpuRecord
 given_by Wait writer left r = r
 given_by other writer left r = granted writer left r

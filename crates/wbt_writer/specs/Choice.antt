@@ -12,6 +12,7 @@ use Rattle.wbt_writer.specs.declared.tasks.Tasks.{Tasks}
 abbrev pub is_open : (t : TaskPlace) → Bool
 is_open t = t.own && not t.ended
 
+-- the task is of this CPU and hasn't ended
 abbrev pub IsOpen : (t : TaskPlace) → Type 0
 IsOpen t = is_open t ≡ true
 
@@ -43,10 +44,12 @@ abbrev pub HasLeast : (s : Tasks) (from to : ℕ) (least : Option ℕ) → Type 
 HasLeast s from to None = AllEnded s from to
 HasLeast s from to (Some until) = IsLeast s from to until
 
+-- what a search among these tasks finds: the first that may begin, or the least end of their rests
 abbrev pub IsSought : (s : Tasks) (now from to : ℕ) (found : Sought) → Type 0
 IsSought s now from to (sought.Task task) = IsFirst s now from to task
 IsSought s now from to (sought.Nobody least) = AllRest s now from to × HasLeast s from to least
 
+-- what is chosen among all tasks: one that may begin, the moment at which the next may, or that all have ended
 abbrev pub IsChosen : (s : Tasks) (now : ℕ) (chosen : Chosen) → Type 0
 IsChosen s now (chosen.Task task) =
     IsFirst s now s.next (length s.tasks.items) task ⊎ (AllRest s now s.next (length s.tasks.items) × IsFirst s now 0 s.next task)
@@ -59,5 +62,6 @@ sooner_of None other = other
 sooner_of (Some a) None = Some a
 sooner_of (Some a) (Some b) = Some (min a b)
 
+-- the end of a task's rest; none where it has ended or is another CPU's
 abbrev pub end_of : (t : TaskPlace) → Option ℕ
 end_of t = cond (is_open t) (Some t.rest) None

@@ -27,26 +27,32 @@ no_task = record {
   written = 0;
   todo = 0;
   rests_last = false;
+  since = 0;
   ended = true;
   rest = 0;
   writer = 0;
   context = 0;
 }
 
+-- what stands for a writer that isn't there
 abbrev pub no_name : Name
 no_name = record { task = 0; context = 0 }
 
+-- a task by its number
 abbrev pub task_at : (s : Tasks) (task : ℕ) → TaskPlace
 task_at s task = get_or s.tasks.items task no_task
 
 -- ---- the side of a journal
 
+-- a task as a journal's side has it
 abbrev pub state_of : (t : TaskPlace) → TaskState
 state_of t = record { todo = t.todo; has_ended = t.ended }
 
+-- what the CPU counts, with all writers
 abbrev pub cpu_of : (s : Tasks) → Cpu
 cpu_of s = record { local = s.local; writers = s.writers.items }
 
+-- the side of a journal that these tasks show
 abbrev pub side_of : (s : Tasks) → Side
 side_of s = record { cpu = cpu_of s; tasks = map state_of s.tasks.items }
 
@@ -66,6 +72,7 @@ pub record IsLast (trace : Trace) (cpu : Cpu) (task : ℕ) (t : TaskPlace) : Typ
   pub its_own : t.writer < length cpu.writers → get_or (all_writers trace) t.writer no_name ≡ record { task = task; context = t.context }
   pub others : (n : ℕ) → n < length cpu.writers → (get_or (all_writers trace) n no_name).task ≡ task → n ≢ t.writer → (writer_of cpu n).due ≡ due.No
 
+-- a task stands in its actions as it should, and only its last writer's check may be due
 pub record IsTaskOf (trace : Trace) (cpu : Cpu) (task : ℕ) (t : TaskPlace) : Type 0 where
   pub along : IsAlong trace task t
   pub last : IsLast trace cpu task t
@@ -76,6 +83,7 @@ pub record IsTaskOf (trace : Trace) (cpu : Cpu) (task : ℕ) (t : TaskPlace) : T
 abbrev pub GoesOn : (trace : Trace) (cpu : Cpu) (t : TaskPlace) → Type 0
 GoesOn trace cpu t = t.own ≡ true → t.ended ≡ false → (is_due_at cpu t.writer ≡ true) ⊎ (t.at < length trace.actions)
 
+-- how many pages all tasks still write
 abbrev pub all_todo : (tasks : List TaskPlace) → ℕ
 all_todo tasks = sum_by (λ (t : TaskPlace). t.todo) tasks
 
@@ -95,6 +103,7 @@ pub record AreCounted (trace : Trace) (s : Tasks) : Type 0 where
   pub few : AreFew (cpu_of s) s.tasks.items
   pub left : AllHavePagesLeft trace.cap (cpu_of s)
 
+-- the tasks and writers are the trace's, and each that hasn't ended has something to do
 pub record AreTasksOf (trace : Trace) (s : Tasks) : Type 0 where
   pub counted : AreCounted trace s
   pub go_on : (task : ℕ) → task < length trace.tasks → GoesOn trace (cpu_of s) (task_at s task)
@@ -146,5 +155,11 @@ IsJob trace s task (job.Check writer context) =
     (is_due_at (cpu_of s) (task_at s task).writer ≡ true) × (writer ≡ (task_at s task).writer) × (context ≡ (task_at s task).context)
 IsJob trace s task (job.Rest ticks) =
     (is_due_at (cpu_of s) (task_at s task).writer ≡ false) × ComesNext trace task (task_at s task) (next.Rest ticks)
+IsJob trace s task (job.Pause ticks) =
+    (is_due_at (cpu_of s) (task_at s task).writer ≡ false) × ComesNext trace task (task_at s task) (next.Pause ticks)
 IsJob trace s task (job.Write inode page) =
     (is_due_at (cpu_of s) (task_at s task).writer ≡ false) × ComesNext trace task (task_at s task) (next.Write inode page)
+
+-- it rests for so many ticks: its next action is a rest, or it rests before its next page
+abbrev pub RestsFor : (trace : Trace) (s : Tasks) (task ticks : ℕ) → Type 0
+RestsFor trace s task ticks = IsJob trace s task (job.Rest ticks) ⊎ IsJob trace s task (job.Pause ticks)

@@ -40,9 +40,11 @@ pub record Desk : Type 0 where
 
 -- ---- fractions that are kept
 
+-- the fractions before the first read
 abbrev pub no_fractions : Fractions
 no_fractions = record { global = no_fraction; group = no_fraction }
 
+-- the fractions that are kept for a context
 abbrev pub fractions_of : (context : ℕ) (work : WriterWork) → Fractions
 fractions_of context work = get_or work.fractions.items context no_fractions
 
@@ -51,6 +53,7 @@ abbrev pub fraction_in : (trace : Trace) (domain context : ℕ) (kept : Fraction
 fraction_in trace domain context kept =
     if domain == 0 then kept.global else if domain == context_domain trace context then kept.group else no_fraction
 
+-- the fraction that is kept of a domain for a context
 abbrev pub kept_in : (trace : Trace) (work : WriterWork) (domain context : ℕ) → Fraction
 kept_in trace work domain context = fraction_in trace domain context (fractions_of context work)
 
@@ -58,11 +61,13 @@ kept_in trace work domain context = fraction_in trace domain context (fractions_
 abbrev pub IsProper : (fraction : Fraction) → Type 0
 IsProper fraction = (1 ≤ fraction.den) × (fraction.num ≤ fraction.den) × (fraction.den < 2 ^ 40)
 
+-- both fractions are parts of a whole
 abbrev pub AreProper : (kept : Fractions) → Type 0
 AreProper kept = IsProper kept.global × IsProper kept.group
 
 -- ---- what holds between two turns
 
+-- what a CPU's writers keep fits the trace
 pub record IsWork (trace : Trace) (work : WriterWork) : Type 0 where
   pub lawful : IsLawful trace
   pub tasks : AreTasksOf trace work.tasks
@@ -99,6 +104,7 @@ pub record Fits (cpu : ℕ) (kit : Kit) (seats : Seats) : Type 0 where
   pub seats_are : AreSeatsOf kit seats
   pub held : (r : CpuRecord) × Has seats.cpu.cpus cpu r
 
+-- the record of the CPU, as the seats hold it
 abbrev pub record_in : (cpu : ℕ) (seats : Seats) → CpuRecord
 record_in cpu seats = record_of cpu seats.cpu.cpus
 
@@ -115,11 +121,13 @@ pub record HaveLefts (trace : Trace) (cpu : ℕ) (kit : Kit) (tasks : Tasks) (se
 
 -- ---- what is seen
 
+-- what the writers keep, their seats and their log, at one moment
 pub record Sight : Type 0 where
   pub work : WriterWork
   pub seats : Seats
   pub log : CpuJournal
 
+-- a sight of its parts
 abbrev pub sight : (work : WriterWork) (seats : Seats) (log : CpuJournal) → Sight
 sight work seats log = record { work = work; seats = seats; log = log }
 
@@ -133,6 +141,7 @@ shown_of cpu flushers s = record {
   flushers = flushers;
 }
 
+-- what the writers note: of shares and estimates by their seats, and the fractions that they keep
 abbrev pub notes_by : (trace : Trace) (work : WriterWork) (share : fraction.Seats) (pass : est.Seats) → Notes
 notes_by trace work share pass = record {
   shares = λ domain. (slice_index_or share.domains domain fraction.no_seat).notes;
@@ -140,6 +149,7 @@ notes_by trace work share pass = record {
   estimates = λ context. known_of context pass;
 }
 
+-- what the writers note at a sight
 abbrev pub notes_of : (trace : Trace) (s : Sight) → Notes
 notes_of trace s = notes_by trace s.work s.seats.share s.seats.est
 

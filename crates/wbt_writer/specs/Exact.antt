@@ -11,6 +11,7 @@ use Rattle.wbt_kit.specs.declared.kit.Seats.{Seats}
 use Rattle.wbt_kit.specs.declared.turn.Turn.{Turn}
 use Rattle.wbt_kit.specs.declared.turn.Turn.TheVariants.{Stepped, Resting, Done, Halted, Faulted, Spent, NoMemory}
 use Rattle.wbt_queue.specs.Passes as queue
+use Rattle.wbt_rules.specs.Pace.{pace_of, since_after}
 use Rattle.wbt_rules.specs.Things.{device_of}
 use Rattle.wbt_run_laws.specs.Log.{with_check, with_entry}
 use Rattle.wbt_run_steps.specs.Inodes.{PutsWhere}
@@ -97,7 +98,7 @@ counted_by Already writer context t = t
 
 -- nothing else of its place changed, but whether it ended
 abbrev pub MovesAlong : (was is : TaskPlace) → Type 0
-MovesAlong was is = is ≡ record was { at = is.at; done = is.done; written = is.written; todo = is.todo; ended = is.ended }
+MovesAlong was is = is ≡ record was { at = is.at; done = is.done; written = is.written; todo = is.todo; since = is.since; ended = is.ended }
 
 -- ---- a check
 
@@ -144,9 +145,23 @@ pub record RestsTask (trace : Trace) (now task : ℕ) (old new : Sight) : Type 0
   pub seats : new.seats ≡ old.seats
   pub told : new.log ≡ old.log
 
+-- ---- a rest before the task's next page
+
+-- from a moment on, and its pages are counted anew for its pace; nothing else was done
+pub record PausesTask (trace : Trace) (now task : ℕ) (old new : Sight) : Type 0 where
+  pub ticks : ℕ
+  pub its_job : IsJob trace old.work.tasks task (job.Pause ticks)
+  pub place : task_at new.work.tasks task ≡ record (task_at old.work.tasks task) { since = 0; rest = now + ticks }
+  pub only : OnlyTask task old.work.tasks new.work.tasks
+  pub fractions : new.work.fractions ≡ old.work.fractions
+  pub waiting : new.work.waiting ≡ old.work.waiting
+  pub seats : new.seats ≡ old.seats
+  pub told : new.log ≡ old.log
+
 -- ---- a write
 
--- The page was dirtied for the task's writer of its context, found clean or dirty, and told. The task stands behind it, and rests as it did.
+-- The page was dirtied for the task's writer of its context, found clean or dirty, and told. The task stands behind it, it is counted for the
+-- task's pace, and the task rests as it did.
 pub record DirtiesPage (trace : Trace) (kit : Kit) (task inode page : ℕ) (answer : Dirtied) (old new : Sight) : Type 0 where
   pub dirties : table.Dirties (setting kit.throttle.layout) (number_of trace task (inode_at inode trace.inodes).context) (first_page trace inode + page) answer
       old.seats.cpu new.seats.cpu
@@ -154,6 +169,7 @@ pub record DirtiesPage (trace : Trace) (kit : Kit) (task inode page : ℕ) (answ
   pub told : new.log ≡ with_entry (entry.Write task (first_page trace inode + page) (is_fresh answer)) old.log
   pub passes : Passes (task_at old.work.tasks task) (task_at new.work.tasks task)
   pub stands : StandsBehind trace task (task_at old.work.tasks task) (task_at new.work.tasks task)
+  pub since : (task_at new.work.tasks task).since ≡ since_after (pace_of trace task) (task_at old.work.tasks task).since
   pub place : MovesAlong (counted_by answer (number_of trace task (inode_at inode trace.inodes).context) (inode_at inode trace.inodes).context (task_at old.work.tasks task))
       (task_at new.work.tasks task)
   pub only : OnlyTask task old.work.tasks new.work.tasks
@@ -201,6 +217,7 @@ pub data WritesSome (trace : Trace) (kit : Kit) (cpu task inode page : ℕ) (sai
   after_its_page : (dirtied : Sight) → DirtiesPage trace kit task inode page Fresh old dirtied → PaysSome kit cpu said dirtied new
       → WritesSome trace kit cpu task inode page said old new
 
+-- what a write did, by its answer
 abbrev pub WriteTook : (trace : Trace) (kit : Kit) (cpu task inode page : ℕ) (said : ℕ → ℕ → Bool → Type 0) (answer : Wrote) (old new : Sight) → Type 0
 WriteTook trace kit cpu task inode page said wrote_it.Already old new = WritesPage trace kit cpu task inode page said old new
 WriteTook trace kit cpu task inode page said wrote_it.Fresh old new = WritesPage trace kit cpu task inode page said old new
@@ -209,9 +226,11 @@ WriteTook trace kit cpu task inode page said wrote_it.Spent old new = new ≡ ol
 
 -- ---- a task's turn
 
+-- a task's turn: a check, a rest, a rest for its pace, or a write
 pub data TakesTurn (trace : Trace) (kit : Kit) (now cpu task : ℕ) (said : ℕ → ℕ → Bool → Type 0) (old new : Sight) : Type 0 where
   checks : ChecksTask trace kit cpu task old new → TakesTurn trace kit now cpu task said old new
   rests : RestsTask trace now task old new → TakesTurn trace kit now cpu task said old new
+  pauses : PausesTask trace now task old new → TakesTurn trace kit now cpu task said old new
   writes : (inode page : ℕ) → IsJob trace old.work.tasks task (job.Write inode page) → WritesPage trace kit cpu task inode page said old new
       → TakesTurn trace kit now cpu task said old new
 

@@ -12,17 +12,20 @@ use Rattle.wbt_writer.specs.declared.work.Fractions.{Fractions}
 
 -- ---- the lines, by what was loaded
 
+-- a line tells the limits and the count that were loaded of its domain
 pub record HasLine (load : DomainLoad) (line : DomainLine) : Type 0 where
   pub domain : line.domain ≡ load.domain
   pub version : line.triple ≡ load.version
   pub limits : line.limits ≡ load.limits
   pub count : line.count ≡ load.count
 
+-- there is a line of the cgroup exactly where it was loaded, and it tells the load
 abbrev pub HasGroupLine : (load : Option DomainLoad) (line : Option DomainLine) → Type 0
 HasGroupLine None None = Unit {0}
 HasGroupLine (Some load) (Some line) = HasLine load line
 HasGroupLine load line = ⊥
 
+-- the lines of a check tell what it loaded
 pub record HasLines (loads : Loads) (lines : Lines) : Type 0 where
   pub domain : lines.global.domain ≡ 0
   pub version : lines.global.triple ≡ loads.global.version
@@ -41,6 +44,7 @@ pub record ReadsShare (domain context : ℕ) (fraction kept : Fraction) (old new
   pub rooms : KeepsRooms old.domains new.domains
   pub totals : new.totals ≡ old.totals
 
+-- the fraction in the cgroup's domain was read, where the context has one
 abbrev pub ReadsGroup : (context : ℕ) (line : Option DomainLine) (kept : Fraction) (old new : ShareSeats) → Type 0
 ReadsGroup context None kept old new = new ≡ old
 ReadsGroup context (Some line) kept old new = ReadsShare line.domain context line.share kept old new
@@ -56,5 +60,6 @@ abbrev pub share_after : (line : Option DomainLine) (kept : Fraction) → Fracti
 share_after None kept = kept
 share_after (Some line) kept = line.share
 
+-- the fractions that are kept after a check
 abbrev pub fractions_after : (lines : Lines) (kept : Fractions) → Fractions
 fractions_after lines kept = record { global = lines.global.share; group = share_after lines.cgroup kept.group }

@@ -29,17 +29,21 @@ use Rattle.wbt_writer.specs.declared.loads.Loads.{Loads}
 
 -- ---- what was loaded, in the order of the steps
 
+-- the count of the cgroup, where there is one
 abbrev pub group_loads : (group : Option DomainLoad) → List Load
 group_loads None = []
 group_loads (Some load) = load_of load ∷ []
 
+-- the limits of the cgroup, where there is one
 abbrev pub group_triples : (group : Option DomainLoad) → List DomainLimits
 group_triples None = []
 group_triples (Some load) = triple_of load ∷ []
 
+-- the counts that a check loads, in the order of its lines
 abbrev pub loads_in : (context : ℕ) (loads : Loads) → List Load
 loads_in context loads = (load_of loads.global ∷ group_loads loads.group) ++ record { counter = Context context; count = loads.count } ∷ []
 
+-- the limits that a check loads, in the order of its lines
 abbrev pub triples_in : (loads : Loads) → List DomainLimits
 triples_in loads = triple_of loads.global ∷ group_triples loads.group
 
@@ -52,6 +56,7 @@ IsGroup group (Some load) = (group ≢ 0) × (load.domain ≡ group)
 abbrev pub group_steps : (cpu writer group : ℕ) → List Step
 group_steps cpu writer group = cond (group == 0) [] (domain_steps cpu (Writer writer) group)
 
+-- all steps of a check, in their order
 abbrev pub check_steps : (cpu writer context group : ℕ) → List Step
 check_steps cpu writer context group = domain_steps cpu (Writer writer) 0 ++ (group_steps cpu writer group ++ count (Writer writer) (Context context) ∷ [])
 
@@ -82,15 +87,18 @@ pub record OnTable (cpu : ℕ) (old new : Seats) : Type 0 where
   pub est : new.est ≡ old.est
   pub queue : new.queue ≡ old.queue
 
+-- on the table seat of the CPU these counts were loaded and these limits held, and nothing else changed
 pub record Loaded (set : Setting) (cpu : ℕ) (loads : List Load) (triples : List DomainLimits) (old new : Seats) : Type 0 where
   pub on : OnTable cpu old new
   pub gets : Gets set loads triples (record_in cpu old) (record_in cpu new)
 
 -- ---- what the writer keeps for a grant
 
+-- what the CPU's record keeps of a writer
 abbrev pub kept_by : (set : Setting) (cpu writer : ℕ) (seats : Seats) → WriterRecord
 kept_by set cpu writer seats = writer_in set writer (record_in cpu seats).writers
 
+-- what a writer keeps of a domain that it loaded
 abbrev pub kept_for : (load : DomainLoad) → Kept
 kept_for load = record { domain = load.domain; limits = Some load.limits; reading = Some (at_least_zero load.count.value) }
 
@@ -98,6 +106,7 @@ kept_for load = record { domain = load.domain; limits = Some load.limits; readin
 abbrev pub HasKept : (set : Setting) (cpu writer : ℕ) (load : DomainLoad) (seats : Seats) → Type 0
 HasKept set cpu writer load seats = kept_of load.domain (kept_by set cpu writer seats).kept ≡ kept_for load
 
+-- the writer keeps the loads of the cgroup, where there is one
 abbrev pub HasKeptGroup : (set : Setting) (cpu writer : ℕ) (group : Option DomainLoad) (seats : Seats) → Type 0
 HasKeptGroup set cpu writer None seats = Unit {0}
 HasKeptGroup set cpu writer (Some load) seats = HasKept set cpu writer load seats
@@ -164,6 +173,7 @@ pub record IsInRange (load : DomainLoad) : Type 0 where
   pub lawful : IsLawful load.limits
   pub few : unsigned_abs load.count.value ≤ 2 ^ 31
 
+-- all loads of a check are in range; its context's count is at most 2 ^ 31 from 0
 pub record AreInRange (loads : Loads) : Type 0 where
   pub global : IsInRange loads.global
   pub group : IfSome loads.group IsInRange

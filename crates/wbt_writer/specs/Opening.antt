@@ -17,6 +17,7 @@ new_task own actions = record {
   written = 0;
   todo = 0;
   rests_last = false;
+  since = 0;
   ended = false;
   rest = 0;
   writer = MOST_WRITERS;

@@ -14,13 +14,16 @@ use Rattle.wbt_writer.specs.declared.tasks.Tasks.{Tasks}
 abbrev pub HasNoDue : (trace : Trace) (s : Side) (task : ℕ) → Type 0
 HasNoDue trace s task = (n : ℕ) → n < length (all_writers trace) → (get_or (all_writers trace) n no_name).task ≡ task → (writer_of s.cpu n).due ≡ due.No
 
+-- a task that has ended has nothing left to do, and no check is due of it or of another CPU's task
 pub record IsOver (trace : Trace) (own : ℕ → Bool) (s : Side) : Type 0 where
   pub ended : (task : ℕ) → task < length s.tasks → (task_of s task).has_ended ≡ true → ((task_of s task).todo ≡ 0) × HasNoDue trace s task
   pub elsewhere : (task : ℕ) → own task ≡ false → HasNoDue trace s task
 
+-- whether a task is this CPU's
 abbrev pub own_of : (s : Tasks) (task : ℕ) → Bool
 own_of s task = (task_at s task).own
 
+-- so it is of the tasks of a CPU
 abbrev pub AreOver : (trace : Trace) (s : Tasks) → Type 0
 AreOver trace s = IsOver trace (own_of s) (side_of s)
 

@@ -20,7 +20,7 @@ use Rattle.wbt_run_laws.specs.Held.{IsHeld, limits_of}
 use Rattle.wbt_writer.specs.Ahead.{first_page}
 use Rattle.wbt_run_steps.specs.Loads.{one}
 use Rattle.wbt_run_steps.specs.Reads.{ReadsEstimate}
-use Rattle.wbt_writer.specs.Counted.{IsJob, cpu_of, is_due_at, rest_after, side_of, task_at}
+use Rattle.wbt_writer.specs.Counted.{IsJob, RestsFor, cpu_of, is_due_at, rest_after, side_of, task_at}
 use Rattle.wbt_writer.specs.Desk.{Sight, fractions_of, record_in}
 use Rattle.wbt_writer.specs.Lines.{LinesRead}
 use Rattle.wbt_writer.specs.Loads.{HoldsEach}
@@ -52,9 +52,10 @@ pub record IsCheck (trace : Trace) (kit : Kit) (cpu task : ℕ) (added : List To
 
 -- ---- a rest, from a moment on
 
+-- the task rests for so many ticks, and nothing is told
 pub record IsRest (trace : Trace) (now task : ℕ) (added : List Told) (old new : Sight) : Type 0 where
   pub ticks : ℕ
-  pub its_job : IsJob trace old.work.tasks task (job.Rest ticks)
+  pub its_job : RestsFor trace old.work.tasks task ticks
   pub none_told : added ≡ []
   pub cpu : new.seats.cpu ≡ old.seats.cpu
   pub share : new.seats.share ≡ old.seats.share
@@ -94,6 +95,7 @@ pub record IsWriteFresh (trace : Trace) (kit : Kit) (cpu task : ℕ) (added : Li
 
 -- ---- any of these
 
+-- what a task's turn was, by the entries that it told
 pub data Took (trace : Trace) (kit : Kit) (now cpu task : ℕ) (added : List Told) (old new : Sight) : Type 0 where
   checks : IsCheck trace kit cpu task added old new → Took trace kit now cpu task added old new
   rests : IsRest trace now task added old new → Took trace kit now cpu task added old new

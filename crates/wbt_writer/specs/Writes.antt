@@ -33,10 +33,12 @@ abbrev pub Leaves : (kit : Kit) (cpu inode : ℕ) (answer : Dirtied) (old new : 
 Leaves kit cpu inode Fresh old new = AreOwed cpu kit new × OwesMark cpu inode old new
 Leaves kit cpu inode Already old new = OwesNothing cpu new × OwesNoMore cpu old new
 
+-- whether the page was clean
 abbrev pub is_fresh : (answer : Dirtied) → Bool
 is_fresh Fresh = true
 is_fresh Already = false
 
+-- the page was dirtied and told, and its events and its inode's mark are owed where it was clean
 pub record Dirties (trace : Trace) (kit : Kit) (cpu task inode page : ℕ) (answer : Dirtied) (old new : Sight) : Type 0 where
   pub does : Does trace kit.published.moment cpu (wrote task (first_page trace inode + page) (is_fresh answer) ∷ []) old new
   pub leaves : Leaves kit cpu inode answer old.seats new.seats
@@ -80,6 +82,7 @@ pub record CutOff (trace : Trace) (cpu opened : ℕ) (said : ℕ → ℕ → Boo
   pub does : Does trace opened cpu added old new
   pub stopped : IsStopped cpu said new.seats
 
+-- what follows a write of a clean page, by its answer
 abbrev pub Finishes : (trace : Trace) (kit : Kit) (cpu inode : ℕ) (said : ℕ → ℕ → Bool → Type 0) (answer : Wrote) (old new : Sight) → Type 0
 Finishes trace kit cpu inode said wrote_it.Fresh old new = Finished trace kit cpu inode old new
 Finishes trace kit cpu inode said wrote_it.Stopped old new = CutOff trace cpu kit.published.moment said old new
@@ -102,6 +105,7 @@ pub record WrittenFresh (trace : Trace) (kit : Kit) (cpu task inode page : ℕ) 
   pub before_mark : Seats
   pub marks : Marks trace kit cpu inode before_mark new.seats new.work
 
+-- a write of a page, by its answer
 abbrev pub Writes : (trace : Trace) (kit : Kit) (cpu task inode page : ℕ) (said : ℕ → ℕ → Bool → Type 0) (answer : Wrote) (old new : Sight) → Type 0
 Writes trace kit cpu task inode page said wrote_it.Already old new =
     Written trace kit cpu (wrote task (first_page trace inode + page) false ∷ []) old new

@@ -14,7 +14,7 @@
 //! check        the limits and counts of the writer's domains and context are loaded, then its fractions and its estimate are
 //!              read; it decides by these alone, in a context of a strict device by the strict rule, its entry names them, and
 //!              the writer gets the pages that it may dirty
-//! rest         the task rests from the moment that its turn began
+//! rest         the task rests from the moment that its turn began, as its action says, or before its next page as its pace says
 //! write        the task's next page is dirtied; was it clean, then its counters are settled, each fold is told, and at last its
 //!              inode is marked, and put into its device's queue where it had no mark
 //! ```

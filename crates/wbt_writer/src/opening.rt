@@ -141,6 +141,7 @@ fn new_task(own: bool, actions: usize) -> TaskPlace
         written: 0,
         todo: 0,
         rests_last: false,
+        since: 0,
         ended: false,
         rest: 0,
         writer: MOST_WRITERS as u32,

@@ -1,12 +1,14 @@
 //! A task: where it is among its actions.
 
-ghost use Rattle.std.specs.Prelude.{◌≡◌, ◌+◌, ◌≤◌, length, slice_get, Some, true, false};
+ghost use Rattle.std.specs.Prelude.{◌≡◌, ◌+◌, ◌<◌, ◌≤◌, length, slice_get, Some, None, true, false};
+ghost use Rattle.wbt_rules.specs.Pace as spec;
 ghost use Rattle.wbt_trace.specs.Lawful.{IsLawful};
 ghost use Rattle.wbt_trace.specs.declared.trace.Action.TheVariants.{Write, Rest};
 ghost use Rattle.wbt_writer.specs.Ahead.{by_of, pages_in, ComesNext, IsAlong, Skips};
 ghost use Rattle.wbt_writer.specs.Exact.{IsFirstFrom, StandsBehind};
 
-use wbt_trace::{Action, Trace};
+use wbt_rules::{pause_of, since_after};
+use wbt_trace::{Action, Pace, Trace};
 
 /// A task of the trace.
 #[derive(Clone, Copy)]
@@ -22,6 +24,8 @@ pub struct TaskPlace {
     pub todo: u64,
     /// Whether its last action is a rest.
     pub rests_last: bool,
+    /// How many pages it has written since it began or rested for its pace; 0 where it has none.
+    pub since: u32,
     pub ended: bool,
     /// The moment at which its rest ends.
     pub rest: u64,
@@ -38,12 +42,14 @@ pub enum Next {
     Write { inode: u32, page: u32 },
     /// It rests for so many ticks.
     Rest { ticks: u64 },
+    /// It rests for so many ticks before its next page.
+    Pause { ticks: u64 },
     /// It has done all.
     Nothing,
 }
 
 impl TaskPlace {
-    /// What it does next. `task`, its number, serves the contract alone.
+    /// What it does next. `task` is its number.
     pub fn next(&self, task: u32, trace: &Trace) -> Next
         requires lawful { IsLawful trace.now }
         requires along { IsAlong trace.now task self.now }
@@ -54,10 +60,15 @@ impl TaskPlace {
             return Next::Nothing;
         }
         match actions[self.at] {
-            Action::Write { inode, from, .. } => Next::Write {
-                inode,
-                page: from + self.done,
-            },
+            Action::Write { inode, from, .. } => {
+                match pause_of(pace_of(trace, task), self.since) {
+                    None => Next::Write {
+                        inode,
+                        page: from + self.done,
+                    },
+                    Some(ticks) => Next::Pause { ticks },
+                }
+            }
             Action::Rest { ticks, .. } => Next::Rest { ticks },
         }
     }
@@ -67,16 +78,19 @@ impl TaskPlace {
         requires lawful { IsLawful trace.now }
         requires along { IsAlong trace.now task self.old }
         requires next { (inode : _) × (from : _) × (pages : _) × (slice_get trace.now.actions self.old.at ≡ Some (Write task inode from pages)) }
+        requires no_pause { spec.pause_of (spec.pace_of trace.now task) self.old.since ≡ None }
         ensures along { IsAlong trace.now task self.new }
         ensures written { self.new.written ≡ self.old.written + 1 }
         ensures todo { self.new.todo + 1 ≡ self.old.todo }
         ensures past { length trace.now.actions ≤ self.new.at → self.new.rests_last ≡ false }
         ensures stands { StandsBehind trace.now task self.old self.new }
-        ensures others { self.new ≡ record self.old { at = self.new.at; done = self.new.done; written = self.new.written; todo = self.new.todo } }
+        ensures since { self.new.since ≡ spec.since_after (spec.pace_of trace.now task) self.old.since }
+        ensures others { self.new ≡ record self.old { at = self.new.at; done = self.new.done; written = self.new.written; todo = self.new.todo; since = self.new.since } }
     {
         let actions = trace.actions.as_slice();
         let pages = pages_of(&actions[self.at]);
         self.written += 1;
+        self.since = since_after(pace_of(trace, task), self.since);
         self.todo -= 1;
         if self.done + 1 < pages {
             self.done += 1;
@@ -99,6 +113,14 @@ impl TaskPlace {
     {
         self.at = action_from(task, self.at + 1, trace);
     }
+}
+
+// When the task rests between its pages.
+fn pace_of(trace: &Trace, task: u32) -> Option<Pace>
+    requires { task < length trace.now.tasks }
+    ensures { result ≡ spec.pace_of trace.now task }
+{
+    trace.tasks.as_slice()[task as usize].pace
 }
 
 /// The place of the task's first action from one on, which is past the last where it has none.

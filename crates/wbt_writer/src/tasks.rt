@@ -1,10 +1,11 @@
 //! The tasks of a CPU, and what the CPU counts for their writers.
 
-ghost use Rattle.std.specs.Prelude.{◌≡◌, ◌≢◌, ◌+◌, ◌^◌, ◌<◌, ◌≤◌, ◌==◌, ◌&&◌, not, true, false, cond, nat_lt, get_or, map, length, set, slice_get, Some};
+ghost use Rattle.std.specs.Prelude.{◌≡◌, ◌≢◌, ◌+◌, ◌^◌, ◌<◌, ◌≤◌, ◌==◌, ◌&&◌, not, true, false, cond, nat_lt, get_or, map, length, set, slice_get, Some, None};
 ghost use Rattle.wbt_journal.specs.Machine.{ratelimit_pages};
 ghost use Rattle.wbt_journal.specs.Checks.{MayEnd};
 ghost use Rattle.wbt_journal.specs.Side as side;
 ghost use Rattle.wbt_journal.specs.Side.{all_writers, check_by, number_from, number_of, numbers_from, write_fresh, with_page};
+ghost use Rattle.wbt_rules.specs.Pace.{pace_of, pause_of, since_after};
 ghost use Rattle.wbt_task.specs.Counts.{LeavesPages, Settles, counted, AllHavePagesLeft};
 ghost use Rattle.wbt_task.specs.History.{HasRoom, IsOfWriter, cpu_after, cpu_step, writer_of};
 ghost use Rattle.wbt_task.specs.declared.history.Event.TheVariants as history;
@@ -38,6 +39,8 @@ pub enum TaskJob {
     Check { writer: u32, context: u32 },
     /// A rest of so many ticks.
     Rest { ticks: u64 },
+    /// A rest of so many ticks before its next page.
+    Pause { ticks: u64 },
     /// A write of a page, which is counted from the inode's first.
     Write { inode: u32, page: u32 },
 }
@@ -49,11 +52,13 @@ impl Tasks {
         requires there { task < length trace.now.tasks }
         requires tasks { AreTasksOf trace.now self.old }
         requires next { (inode : _) × (from : _) × (pages : _) × (slice_get trace.now.actions (task_at self.old task).at ≡ Some (action.Write task inode from pages)) }
+        requires no_pause { pause_of (pace_of trace.now task) (task_at self.old task).since ≡ None }
         requires going { (task_at self.old task).ended ≡ false }
         ensures tasks { AreTasksOf trace.now self.new }
         ensures side { (opened : _) → self.old.ratelimit_pages ≡ ratelimit_pages trace.now opened → side_of self.new ≡ side.settle trace.now opened task (with_page task (side_of self.old)) }
         ensures passes { Passes (task_at self.old task) (task_at self.new task) }
         ensures stands { StandsBehind trace.now task (task_at self.old task) (task_at self.new task) }
+        ensures since { (task_at self.new task).since ≡ since_after (pace_of trace.now task) (task_at self.old task).since }
         ensures place { MovesAlong (task_at self.old task) (task_at self.new task) }
         ensures others { OthersStay task self.old self.new }
         ensures fixed { KeepsFixed self.old self.new }
@@ -70,6 +75,7 @@ impl Tasks {
         requires there { task < length trace.now.tasks }
         requires tasks { AreTasksOf trace.now self.old }
         requires next { (inode : _) × (from : _) × (pages : _) × (slice_get trace.now.actions (task_at self.old task).at ≡ Some (action.Write task inode from pages)) }
+        requires no_pause { pause_of (pace_of trace.now task) (task_at self.old task).since ≡ None }
         requires going { (task_at self.old task).ended ≡ false }
         requires quiet { is_due_at (cpu_of self.old) (task_at self.old task).writer ≡ false }
         requires writer { (writer ≡ number_of trace.now task context) × (writer < length self.old.writers.items) }
@@ -78,6 +84,7 @@ impl Tasks {
         ensures side { (opened : _) → self.old.ratelimit_pages ≡ ratelimit_pages trace.now opened → side_of self.new ≡ side.settle trace.now opened task (with_page task (write_fresh trace.now opened task context (side_of self.old))) }
         ensures passes { Passes (task_at self.old task) (task_at self.new task) }
         ensures stands { StandsBehind trace.now task (task_at self.old task) (task_at self.new task) }
+        ensures since { (task_at self.new task).since ≡ since_after (pace_of trace.now task) (task_at self.old task).since }
         ensures place { MovesAlong (record (task_at self.old task) { writer = writer; context = context }) (task_at self.new task) }
         ensures others { OthersStay task self.old self.new }
         ensures fixed { KeepsFixed self.old self.new }
@@ -141,6 +148,19 @@ impl Tasks {
         self.put(task, ended_at(at, until));
     }
 
+    /// The task rests until a moment before its next page.
+    pub fn paused(&mut self, task: u32, until: u64)
+        requires { task < length self.old.tasks.items }
+        ensures tasks { (trace : _) → AreTasksOf trace self.old → AreTasksOf trace self.new }
+        ensures side { side_of self.new ≡ side_of self.old }
+        ensures own { task_at self.new task ≡ record (task_at self.old task) { since = 0; rest = until } }
+        ensures others { OthersStay task self.old self.new }
+        ensures fixed { KeepsFixed self.old self.new }
+    {
+        let at = self.task(task);
+        self.put(task, paused_at(at, until));
+    }
+
     /// What the task's next turn is.
     pub fn job(&self, trace: &Trace, task: u32) -> TaskJob
         requires lawful { IsLawful trace.now }
@@ -159,6 +179,7 @@ impl Tasks {
         match at.next(task, trace) {
             Next::Write { inode, page } => TaskJob::Write { inode, page },
             Next::Rest { ticks } => TaskJob::Rest { ticks },
+            Next::Pause { ticks } => TaskJob::Pause { ticks },
             Next::Nothing => unreachable!(),
         }
     }
@@ -341,6 +362,17 @@ fn ended_at(task: TaskPlace, rest: u64) -> TaskPlace
     TaskPlace {
         rest,
         ended: true,
+        ..task
+    }
+}
+
+// The task with its rest until a moment, before its next page: its pages are counted anew for its pace.
+fn paused_at(task: TaskPlace, rest: u64) -> TaskPlace
+    ensures { result ≡ record task { since = 0; rest = rest } }
+{
+    TaskPlace {
+        since: 0,
+        rest,
         ..task
     }
 }

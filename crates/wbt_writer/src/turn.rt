@@ -86,6 +86,10 @@ impl WriterWork {
                 self.tasks.rested(place.trace, task, now + ticks);
                 Turn::Stepped
             }
+            TaskJob::Pause { ticks } => {
+                self.tasks.paused(task, now + ticks);
+                Turn::Stepped
+            }
             TaskJob::Write { inode, page } => {
                 match self.write(hands, place, task, inode, page, seats, pen) {
                     Wrote::Already => Turn::Stepped,

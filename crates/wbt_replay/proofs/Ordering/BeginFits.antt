@@ -1,18 +1,23 @@
 -- What a sound state gives a search for a turn, and a turn that begins.
-use Rattle.std.proofs.Common.{◌≡◌, ℕ, ◌^◌, ◌<◌, ◌≤◌, Bool, true, false, cond, not, List, [], ◌∷◌, length, get_or, All, refl, sym, ◌∙◌, ap, subst, arith}
+use Rattle.std.proofs.Common.{◌≡◌, ℕ, ◌^◌, ◌<◌, ◌≤◌, Bool, true, false, cond, not, List, [], ◌∷◌, length, get_or, All, refl, sym, ◌∙◌, ap, subst, arith, leb, Option, None, Some, IfSome}
 use Rattle.std.proofs.Math.ListN.{set}
 use Rattle.std.specs.List.{count_by}
 use Rattle.std.proofs.lemmas.List.{get_or-set_same}
 use Rattle.std.proofs.lemmas.List.Elements.{All-head, All-weaker}
+use Rattle.wbt_trace.specs.Lawful.{IsPace}
+use Rattle.wbt_trace.specs.declared.trace.Pace.{Pace}
 use Rattle.wbt_trace.specs.declared.trace.Trace.{Trace}
+use Rattle.wbt_rules.specs.Pace.{pause_of}
 use Rattle.wbt_replay_moves.specs.Definition.State.{State, cpu_of, with_cpu, task_of, flusher_of, no_cpu}
-use Rattle.wbt_replay_moves.specs.Kept.Fit.{CanBegin, TaskBegins, RestFits, PhaseBegins}
+use Rattle.wbt_replay_moves.specs.Definition.Writer.{pause_in}
+use Rattle.wbt_replay_moves.specs.Kept.Fit.{CanBegin, TaskBegins, PauseFits, RestFits, PhaseBegins}
 use Rattle.wbt_replay_moves.specs.declared.state.Actor.TheVariants as who
 use Rattle.wbt_replay_moves.specs.declared.state.Cpu.{Cpu}
 use Rattle.wbt_replay_moves.specs.declared.state.ReplayJob.{ReplayJob}
 use Rattle.wbt_replay_moves.specs.declared.state.ReplayJob.TheVariants as job
 use Rattle.wbt_replay_moves.specs.declared.state.ReplayPhase.{ReplayPhase}
 use Rattle.wbt_replay_moves.specs.declared.state.ReplayPhase.TheVariants as phase
+use Rattle.wbt_replay_moves.specs.declared.state.ReplayTask.{ReplayTask}
 use Rattle.wbt_replay_moves.specs.declared.state.Whose.TheVariants as whose
 use Rattle.wbt_replay_moves.specs.declared.state.ReplayWork.{ReplayWork}
 use Rattle.wbt_replay_moves.specs.declared.state.ReplayWork.TheVariants as work
@@ -22,6 +27,7 @@ use Rattle.wbt_replay_order.specs.Kept.Facts.{Facts, IsJobOn, IsTaskOn}
 use Rattle.wbt_replay_order.specs.Kept.Seeks.{CanSeek, CanSeekAll, HasJob, HasTask, JobBegins}
 use Rattle.wbt_replay_order.specs.Kept.Sound.{Sound, WorkFits, is_at_work, working_on}
 use Rattle.wbt_replay_order.proofs.Frames.Chances.{IsPlace, IsChance, seek_chance}
+use Rattle.wbt_replay_order.proofs.Facts.Lists.{either}
 use Rattle.wbt_replay_order.proofs.Facts.Things.{moment_fits, flusher_there, flusher_fits}
 use Rattle.wbt_replay_order.proofs.Lists.Numbered.{one_if, sum_part}
 
@@ -63,10 +69,16 @@ module _ (trace : Trace) (facts : Facts trace) (s : State) (sound : Sound trace 
 
   -- ---- a task's turn, and a flusher's, where CPUs are these
 
-  rest_fits : (task : ℕ) (works : List ReplayWork) → All (WorkFits trace task) works → RestFits s.now works
-  rest_fits task [] all = tt
-  rest_fits task (work.Write n page pages ∷ more) all = tt
-  rest_fits task (work.Rest ticks ∷ more) all =
+  -- a rest right before a page
+  pause_fits : (pace : Option Pace) (since : ℕ) → IfSome pace IsPace → PauseFits s.now (pause_of pace since)
+  pause_fits None since its = tt
+  pause_fits (Some pace) since its = either (PauseFits s.now) (leb pace.pages since) (Some pace.ticks) None
+      (λ enough. omega (arith, its.ticks.1, moment_fits trace facts s sound)) (λ few. tt)
+
+  rest_fits : (task : ℕ) (t : ReplayTask) → IfSome t.pace IsPace → (works : List ReplayWork) → All (WorkFits trace task) works → RestFits s.now (pause_in t) works
+  rest_fits task t paced [] all = tt
+  rest_fits task t paced (work.Write n page pages ∷ more) all = pause_fits t.pace t.since paced
+  rest_fits task t paced (work.Rest ticks ∷ more) all =
       let h = All-head (WorkFits trace task) (work.Rest ticks) more all in omega (arith, h, moment_fits trace facts s sound)
 
   few_contexts : length s.contexts < 2 ^ 32
@@ -79,7 +91,7 @@ module _ (trace : Trace) (facts : Facts trace) (s : State) (sound : Sound trace 
       contexts = h.writers ∙ sym sound.holds.contexts.many;
       lines = sound.holds.contexts.many;
       few = few_contexts;
-      rest = rest_fits t (task_of t s).works h.works;
+      rest = rest_fits t (task_of t s) h.pace (task_of t s).works h.works;
     }
 
     phase_begins : (f : ℕ) → f < length trace.flushers → (p : ReplayPhase) → (is_finished p ≡ false → 1 ≤ s.working) → PhaseBegins trace f (record s { cpus = cs }) p

@@ -1,11 +1,13 @@
 -- The tasks of the opening, one action after another.
-use Rattle.std.proofs.Common.{◌≡◌, ◌≢◌, ◌⊎◌, inl, inr, ℕ, zero, suc, ◌+◌, ◌<◌, ◌≤◌, cond, eqb, List, [], ◌∷◌, ◌++◌, length, get_or, set, replicate, map, take, drop, refl, sym, ◌∙◌, ap, arith, ⊎_elim, length-append, append-nil, eq-eqb, ne_eqb}
+use Rattle.std.proofs.Common.{◌≡◌, ◌≢◌, ◌⊎◌, inl, inr, ℕ, zero, suc, ◌+◌, ◌<◌, ◌≤◌, cond, eqb, List, [], ◌∷◌, ◌++◌, length, get_or, set, map, take, drop, None, refl, sym, ◌∙◌, ap, arith, ⊎_elim, length-append, append-nil, eq-eqb, ne_eqb}
 use Rattle.std.proofs.lemmas.Bool.{cases_eq, cond-true, cond-false}
-use Rattle.std.proofs.lemmas.Grind.{flat_map-append, replicate_next}
-use Rattle.std.proofs.lemmas.List.{ext_get_or, get_or_append_left, get_or_push, get_or-set_same, get_or-set_other, length-set, length-map, length-take, length-drop, map-append, take_more, drop_more}
+use Rattle.std.proofs.lemmas.Grind.{flat_map-append}
+use Rattle.std.proofs.lemmas.List.{ext_get_or, get_or_append_left, get_or_push, get_or-set_same, get_or-set_other, length-set, length-map, length-take, length-drop, map-append, take_more, take_all, drop_more}
 use Rattle.wbt_trace.specs.declared.trace.Action.{Action}
 use Rattle.wbt_trace.specs.declared.trace.Action.TheVariants as action
+use Rattle.wbt_trace.specs.declared.trace.TaskLine.{TaskLine}
 use Rattle.wbt_trace.specs.declared.trace.Trace.{Trace}
+use Rattle.wbt_rules.specs.Pace.{pace_of}
 use Rattle.wbt_replay_moves.specs.Definition.State.{no_task}
 use Rattle.wbt_rules.specs.Things.{inode_of}
 use Rattle.wbt_replay_moves.specs.declared.state.ReplayTask.{ReplayTask}
@@ -14,29 +16,44 @@ use Rattle.wbt_replay_moves.specs.declared.state.ReplayWork.TheVariants as work
 use Rattle.wbt_replay_order.specs.Definition.Opening.{first_task, first_tasks, work_of, works_of}
 use Rattle.wbt_replay_order.specs.Kept.Opens.{ActionFits, doing, does_too, ended_idle, put_work, task_with}
 
+abbrev no_line : TaskLine
+no_line = record { cpu = 0; pace = None }
+
 -- so many tasks, with what they do by these actions
 abbrev pub tasks_doing : (trace : Trace) (actions : List Action) (n : ℕ) → List ReplayTask
 tasks_doing trace actions zero = []
-tasks_doing trace actions (suc n) = tasks_doing trace actions n ++ task_with trace (works_of trace n actions) ∷ []
+tasks_doing trace actions (suc n) = tasks_doing trace actions n ++ task_with trace (pace_of trace n) (works_of trace n actions) ∷ []
 
 pub many_doing : (trace : Trace) (actions : List Action) (n : ℕ) → length (tasks_doing trace actions n) ≡ n
 many_doing trace actions zero = refl
 many_doing trace actions (suc n) =
     let is = many_doing trace actions n in
-    omega (arith, is, length-append (tasks_doing trace actions n) (task_with trace (works_of trace n actions) ∷ []))
+    omega (arith, is, length-append (tasks_doing trace actions n) (task_with trace (pace_of trace n) (works_of trace n actions) ∷ []))
 
-pub doing_nothing : (trace : Trace) (n : ℕ) → tasks_doing trace [] n ≡ replicate n (task_with trace [])
-doing_nothing trace zero = refl
-doing_nothing trace (suc n) = ap (λ (l : List ReplayTask). l ++ task_with trace [] ∷ []) (doing_nothing trace n)
-    ∙ sym (replicate_next n (task_with trace [])) ∙ ap (λ (k : ℕ). replicate k (task_with trace [])) (let e : n + 1 ≡ suc n = omega arith in e)
+-- a task that does nothing so far, with the pace of its line
+abbrev idle_by : (trace : Trace) (line : TaskLine) → ReplayTask
+idle_by trace line = task_with trace line.pace []
 
-task_at : (trace : Trace) (actions : List Action) (n m : ℕ) (d : ReplayTask) → m < n → get_or (tasks_doing trace actions n) m d ≡ task_with trace (works_of trace m actions)
+doing_none : (trace : Trace) (n : ℕ) → n ≤ length trace.tasks → tasks_doing trace [] n ≡ map (idle_by trace) (take n trace.tasks)
+doing_none trace zero less = refl
+doing_none trace (suc n) less =
+    let line : TaskLine = get_or trace.tasks n no_line in
+    ap (λ (l : List ReplayTask). l ++ idle_by trace line ∷ []) (doing_none trace n (omega (arith, less)))
+    ∙ sym (map-append (idle_by trace) (take n trace.tasks) (line ∷ []))
+    ∙ ap (map (idle_by trace)) (sym (take_more trace.tasks n no_line (omega (arith, less))))
+    ∙ ap (λ (k : ℕ). map (idle_by trace) (take k trace.tasks)) (let e : n + 1 ≡ suc n = omega arith in e)
+
+pub doing_nothing : (trace : Trace) → tasks_doing trace [] (length trace.tasks) ≡ map (idle_by trace) trace.tasks
+doing_nothing trace =
+    doing_none trace (length trace.tasks) (omega arith) ∙ ap (map (idle_by trace)) (take_all (length trace.tasks) trace.tasks (omega arith))
+
+task_at : (trace : Trace) (actions : List Action) (n m : ℕ) (d : ReplayTask) → m < n → get_or (tasks_doing trace actions n) m d ≡ task_with trace (pace_of trace m) (works_of trace m actions)
 task_at trace actions zero m d less = absurd (omega (arith, less))
 task_at trace actions (suc n) m d less =
     let many = many_doing trace actions n in
-    let last = task_with trace (works_of trace n actions) in
+    let last = task_with trace (pace_of trace n) (works_of trace n actions) in
     ⊎_elim
-    (λ (same : m ≡ n). get_or_push (tasks_doing trace actions n) last d m (many ∙ sym same) ∙ ap (λ (k : ℕ). task_with trace (works_of trace k actions)) (sym same))
+    (λ (same : m ≡ n). get_or_push (tasks_doing trace actions n) last d m (many ∙ sym same) ∙ ap (λ (k : ℕ). task_with trace (pace_of trace k) (works_of trace k actions)) (sym same))
     (λ (other : m ≢ n).
     let before : m < n = omega (arith, less, other) in
     get_or_append_left (tasks_doing trace actions n) (last ∷ []) d m (omega (arith, many, before)) ∙ task_at trace actions n m d before)
@@ -62,22 +79,22 @@ module _ (trace : Trace) (actions : List Action) (n k : ℕ) (less : k < n) (w :
   after_at : (m : ℕ) → m < n → get_or (doing k w (tasks_doing trace actions n)) m no_task ≡ get_or (tasks_doing trace (actions ++ a ∷ []) n) m no_task
   after_at m below = by_place (cases_eq m k)
     where
-      later : get_or (tasks_doing trace (actions ++ a ∷ []) n) m no_task ≡ task_with trace (works_of trace m actions ++ cond (eqb m k) (w ∷ []) [])
-      later = task_at trace (actions ++ a ∷ []) n m no_task below ∙ ap (task_with trace) (more_works m)
+      later : get_or (tasks_doing trace (actions ++ a ∷ []) n) m no_task ≡ task_with trace (pace_of trace m) (works_of trace m actions ++ cond (eqb m k) (w ∷ []) [])
+      later = task_at trace (actions ++ a ∷ []) n m no_task below ∙ ap (task_with trace (pace_of trace m)) (more_works m)
 
       by_place : (m ≡ k) ⊎ (m ≢ k) → get_or (doing k w (tasks_doing trace actions n)) m no_task ≡ get_or (tasks_doing trace (actions ++ a ∷ []) n) m no_task
       by_place (inl same) =
           ap (λ (j : ℕ). get_or (doing k w (tasks_doing trace actions n)) j no_task) same
           ∙ get_or-set_same (tasks_doing trace actions n) k (does_too w (get_or (tasks_doing trace actions n) k no_task)) no_task there
           ∙ ap (does_too w) (task_at trace actions n k no_task less)
-          ∙ ap (λ (j : ℕ). task_with trace (works_of trace j actions ++ w ∷ [])) (sym same)
-          ∙ ap (λ (l : List ReplayWork). task_with trace (works_of trace m actions ++ l)) (sym (cond-true (eqb m k) (w ∷ []) [] (eq-eqb m k same)))
+          ∙ ap (λ (j : ℕ). task_with trace (pace_of trace j) (works_of trace j actions ++ w ∷ [])) (sym same)
+          ∙ ap (λ (l : List ReplayWork). task_with trace (pace_of trace m) (works_of trace m actions ++ l)) (sym (cond-true (eqb m k) (w ∷ []) [] (eq-eqb m k same)))
           ∙ sym later
       by_place (inr other) =
           get_or-set_other (tasks_doing trace actions n) k m (does_too w (get_or (tasks_doing trace actions n) k no_task)) no_task other
           ∙ task_at trace actions n m no_task below
-          ∙ ap (task_with trace) (sym (append-nil (works_of trace m actions)))
-          ∙ ap (λ (l : List ReplayWork). task_with trace (works_of trace m actions ++ l)) (sym (cond-false (eqb m k) (w ∷ []) [] (ne_eqb m k other)))
+          ∙ ap (task_with trace (pace_of trace m)) (sym (append-nil (works_of trace m actions)))
+          ∙ ap (λ (l : List ReplayWork). task_with trace (pace_of trace m) (works_of trace m actions ++ l)) (sym (cond-false (eqb m k) (w ∷ []) [] (ne_eqb m k other)))
           ∙ sym later
 
   put_one : doing k w (tasks_doing trace actions n) ≡ tasks_doing trace (actions ++ a ∷ []) n
@@ -101,8 +118,8 @@ put_more trace actions (action.Rest task ticks) fits =
 pub ended_are_first : (trace : Trace) (n : ℕ) → map ended_idle (tasks_doing trace trace.actions n) ≡ first_tasks trace n
 ended_are_first trace zero = refl
 ended_are_first trace (suc n) =
-    map-append ended_idle (tasks_doing trace trace.actions n) (task_with trace (works_of trace n trace.actions) ∷ [])
-    ∙ ap (λ (l : List ReplayTask). l ++ first_task trace (works_of trace n trace.actions) ∷ []) (ended_are_first trace n)
+    map-append ended_idle (tasks_doing trace trace.actions n) (task_with trace (pace_of trace n) (works_of trace n trace.actions) ∷ [])
+    ∙ ap (λ (l : List ReplayTask). l ++ first_task trace (pace_of trace n) (works_of trace n trace.actions) ∷ []) (ended_are_first trace n)
 
 -- a list of which the first places are done, and the next one
 pub many_done : (f : ReplayTask → ReplayTask) (xs : List ReplayTask) (k : ℕ) → k ≤ length xs → length (map f (take k xs) ++ drop k xs) ≡ length xs

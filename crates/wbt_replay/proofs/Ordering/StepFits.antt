@@ -1,15 +1,18 @@
 -- What a sound state gives each step of a CPU.
-use Rattle.std.proofs.Common.{◌≡◌, ℕ, ◌+◌, ◌<◌, ◌≤◌, false, ℤ, unsigned_abs, List, [], ◌∷◌, length, All, refl, sym, subst, arith}
+use Rattle.std.proofs.Common.{◌≡◌, ℕ, ◌+◌, ◌<◌, ◌≤◌, false, ℤ, unsigned_abs, List, [], ◌∷◌, length, All, refl, sym, subst, arith, ◌^◌, Option, None, Some, IfSome}
 use Rattle.std.proofs.Math.ListN.{set}
 use Rattle.std.proofs.lemmas.List.Elements.{All-head}
 use Rattle.wbt_counter.specs.declared.counter.Count.{Count}
 use Rattle.wbt_counter.specs.declared.counter.Counter.{Counter}
 use Rattle.wbt_counter.specs.declared.counter.Counter.TheVariants.{Domain, Context}
 use Rattle.wbt_task.specs.History.{new_writer}
+use Rattle.wbt_trace.specs.Lawful.{IsPace}
+use Rattle.wbt_trace.specs.declared.trace.Pace.{Pace}
 use Rattle.wbt_trace.specs.declared.trace.Trace.{Trace}
 use Rattle.wbt_journal.specs.Machine.{batch_of, domains}
 use Rattle.wbt_replay_moves.specs.Definition.Cpu.{own_of}
 use Rattle.wbt_replay_moves.specs.Definition.State.{State, cpu_of, with_cpu, task_of, flusher_of, domain_of, writeback_of, count_of}
+use Rattle.wbt_rules.specs.Places.{page_of}
 use Rattle.wbt_rules.specs.Things.{context_of}
 use Rattle.wbt_replay_moves.specs.Kept.Fit.{CanStep, HasOwn, HasCount, IsOwn, CanFold, DirtyFits, WriteFits, TakenFits, LookFits, FlyingFits, OfFlusher}
 use Rattle.wbt_replay_moves.specs.declared.state.Cpu.{Cpu}
@@ -24,10 +27,11 @@ use Rattle.wbt_replay_moves.specs.declared.todo.Step.TheVariants as step
 use Rattle.wbt_replay_moves.specs.declared.todo.Todo.{Todo}
 use Rattle.wbt_replay_moves.specs.declared.todo.Todo.TheVariants as todo
 use Rattle.wbt_replay_order.specs.Kept.Facts.{Facts}
-use Rattle.wbt_replay_order.specs.Kept.Sound.{Sound, HasRoom, IsAt, IsCount, IsWhose, WorkFits}
+use Rattle.wbt_replay_order.specs.Kept.Sound.{Sound, HasRoom, IsAt, IsCount, IsWhose, WorkFits, SinceFits}
 use Rattle.wbt_replay_order.specs.Kept.Turns.{IsCounter, Agrees, FlusherAgrees, IsOpenAt, settles_next}
 use Rattle.wbt_replay_ranges.proofs.Sound.Counters.{batch_few}
 use Rattle.wbt_replay.proofs.Ordering.PopFits.{kept, after, same, whose_is, fits_is, agrees_is, owner_fits}
+use Rattle.wbt_replay_order.proofs.Facts.Scans.{scan_page}
 use Rattle.wbt_replay_order.proofs.Facts.Things.{cpus_fit, end_few, page_fits, inode_fits, flusher_there, taken_fits, flying_fits}
 
 module _ (trace : Trace) (facts : Facts trace) (s : State) (sound : Sound trace s) where
@@ -39,6 +43,10 @@ module _ (trace : Trace) (facts : Facts trace) (s : State) (sound : Sound trace 
   }
 
   -- ---- what a task writes next
+
+  since_fits : (pace : Option Pace) (since : ℕ) → IfSome pace IsPace → SinceFits pace since → since + 1 < 2 ^ 32
+  since_fits None since its h = omega (arith, h)
+  since_fits (Some pace) since its h = omega (arith, h, its.pages.1)
 
   write_fits : (task : ℕ) → task < length trace.tasks → (c : Cpu) → c.local.since_check ≤ length s.steps
       → (works : List ReplayWork) → All (WorkFits trace task) works → WriteFits trace s.pages (task_of task s) c works
@@ -63,6 +71,7 @@ module _ (trace : Trace) (facts : Facts trace) (s : State) (sound : Sound trace 
           dirtied = omega (arith, fit.dirtied, sound.holds.few);
           since = omega (arith, since, sound.holds.few);
         },
+        since_fits (task_of task s).pace (task_of task s).since h.pace h.since,
       )
 
   -- ---- the items of a list
@@ -139,8 +148,12 @@ module _ (trace : Trace) (facts : Facts trace) (s : State) (sound : Sound trace 
         look : (batch : List ℕ) (p : ReplayPhase) → IsAt trace batch p → IsOpenAt trace batch p → LookFits from p
         look batch (phase.Idle until noted) at opened = tt
         look batch (phase.Taken n) at opened = tt
-        look batch (phase.Scanning scan) at opened =
-            (omega (arith, opened.0, facts.inode_end scan.inode at.there, sound.holds.pages), omega (arith, opened.0, end_few trace facts s sound scan.inode at.there))
+        look batch (phase.Scanning scan) at opened = record {
+          start = at.start;
+          passed = opened.0;
+          fits = omega (arith, at.first_is, at.pages_is, end_few trace facts s sound scan.inode at.there);
+          page = page_fits trace facts s sound scan.inode (page_of scan) (scan_page trace scan at.there at.first_is at.pages_is at.start);
+        }
         look batch (phase.Flying n pages until) at opened = tt
         look batch phase.Finished at opened = tt
 

@@ -1,18 +1,22 @@
 -- A turn that a CPU begins leaves less to be done: a step comes first, or an action, a rest of the CPU or a flusher pays.
-use Rattle.std.proofs.Common.{◌≡◌, ℕ, zero, suc, ◌+◌, ◌*◌, ◌<◌, ◌≤◌, Bool, true, false, cond, List, [], ◌∷◌, ◌++◌, length, get_or, refl, sym, ◌∙◌, ap, subst, arith, Some, sum_by}
+use Rattle.std.proofs.Common.{◌≡◌, ℕ, zero, suc, ◌+◌, ◌*◌, ◌<◌, ◌≤◌, Bool, true, false, cond, List, [], ◌∷◌, ◌++◌, length, get_or, refl, sym, ◌∙◌, ap, subst, arith, Some, sum_by, leb, eqb, Option, None, IfSome}
 use Rattle.std.proofs.Math.ListN.{set}
+use Rattle.std.proofs.lemmas.Bool.Decides.{nat_tests}
 use Rattle.std.proofs.lemmas.List.{append_assoc, set-get_or}
 use Rattle.std.proofs.lemmas.List.Sums.{sum_by-set}
 use Rattle.wbt_task.specs.declared.allowance.Due.{Due}
 use Rattle.wbt_task.specs.declared.allowance.Due.TheVariants as due
+use Rattle.wbt_trace.specs.Lawful.{IsPace}
+use Rattle.wbt_trace.specs.declared.trace.Pace.{Pace}
 use Rattle.wbt_trace.specs.declared.trace.Trace.{Trace}
 use Rattle.wbt_replay_moves.specs.Definition.Check.{writer_of}
 use Rattle.wbt_replay_moves.specs.Definition.Cpu.{do_next, do_last, then_do, logged}
 use Rattle.wbt_replay_moves.specs.Definition.Idle.{take, take_or_finish, domain_loads, measures_of, weighs_of, begin_test, take_last, take_first}
 use Rattle.wbt_replay_moves.specs.Definition.Perform.{begin_phase}
 use Rattle.wbt_replay_moves.specs.Definition.State.{State, no_cpu, no_flusher, cpu_of, task_of, flusher_of, queue_of, is_drained, waiting_of}
+use Rattle.wbt_rules.specs.Pace.{pause_of}
 use Rattle.wbt_rules.specs.Things.{group_of, flusher_device}
-use Rattle.wbt_replay_moves.specs.Definition.Writer.{check_items, begin_rest, begin_work, begin_due, has_nothing}
+use Rattle.wbt_replay_moves.specs.Definition.Writer.{check_items, begin_rest, pause_in, begin_pause, begin_page, begin_work, begin_due, has_nothing}
 use Rattle.wbt_replay_moves.specs.declared.state.Cpu.{Cpu}
 use Rattle.wbt_replay_moves.specs.declared.state.ReplayPhase.{ReplayPhase}
 use Rattle.wbt_replay_moves.specs.declared.state.ReplayPhase.TheVariants as phase
@@ -24,7 +28,7 @@ use Rattle.wbt_replay_moves.specs.declared.todo.Step.TheVariants as step
 use Rattle.wbt_replay_moves.specs.declared.todo.Todo.{Todo}
 use Rattle.wbt_replay_moves.specs.declared.todo.Todo.TheVariants as todo
 use Rattle.wbt_replay_order.specs.Definition.Order.{is_finished}
-use Rattle.wbt_replay_order.specs.Kept.Ending.{ahead_cost, IsPaid, is_last, wait, task_cost, flusher_cost, phase_cost}
+use Rattle.wbt_replay_order.specs.Kept.Ending.{ahead_cost, IsPaid, is_last, wait, pause_cost, task_cost, flusher_cost, phase_cost}
 use Rattle.wbt_replay_order.proofs.Facts.Lists.{either, twice}
 use Rattle.wbt_replay_ends.proofs.Ends.Goes.{Goes, cpu_goes, goes_so, flusher_there, wait_most}
 use Rattle.wbt_replay_ends.proofs.Ends.Turns.{ahead_most, loads_light, loads_begin, measures_light, weighs_light}
@@ -32,6 +36,15 @@ use Rattle.wbt_replay_ends.proofs.Ends.Writes.{IsAlone, task_goes}
 use Rattle.wbt_expiry.specs.declared.due.Due.{Due as Pair}
 use Rattle.wbt_journal.specs.declared.entry.Entry.TheVariants as entry
 use Rattle.wbt_replay_moves.specs.declared.state.Flusher.{Flusher}
+
+-- A task that rests between its pages has written one since it rested so.
+paused_some : (pace : Option Pace) (since ticks : ℕ) → IfSome pace IsPace → pause_of pace since ≡ Some ticks → 1 ≤ since
+paused_some None since ticks h is = absurd (cc is)
+paused_some (Some pace) since ticks h is = by_test (leb pace.pages since) refl is
+  where
+    by_test : (b : Bool) → leb pace.pages since ≡ b → cond b (Some pace.ticks) None ≡ Some ticks → 1 ≤ since
+    by_test true enough e = let low : pace.pages ≤ since = grind (arith, nat_tests) in let some = h.pages.0 in omega (arith, low, some)
+    by_test false few e = absurd (cc e)
 
 -- A turn that begins costs less than the 1 of a turn that is over.
 abbrev pub Begins : (i : ℕ) (u r : State) → Type 0
@@ -53,7 +66,25 @@ module _ (trace : Trace) (i : ℕ) (u : State) (there : i < length u.cpus) (none
   check_goes context (suc cgroup) =
       then_goes (check_items context (suc cgroup)) (omega arith, (omega arith, (omega arith, (omega arith, (omega arith, (omega arith, (omega arith, (omega arith, (omega arith, (omega arith, (omega arith, (tt, tt)))))))))))) refl
 
-  module _ (t : ℕ) (one : t < length u.tasks) (alone : IsAlone i t u) (at : (cpu_of i u).turn.whose ≡ whose.Task t) where
+  module _ (t : ℕ) (one : t < length u.tasks) (alone : IsAlone i t u) (at : (cpu_of i u).turn.whose ≡ whose.Task t) (paced : IfSome (task_of t u).pace IsPace) where
+    -- A rest right before a page is paid by the pages before it.
+    page_goes : (pause : Option ℕ) → pause_in (task_of t u) ≡ pause → Begins i u (begin_page i t pause u)
+    page_goes None is = then_goes (todo.Step step.Dirty ∷ todo.Silent silent.End ∷ []) (omega arith, (omega arith, (tt, tt))) refl
+    page_goes (Some ticks) is =
+        let items = todo.Silent silent.End ∷ [] in
+        let c = do_next items (cpu_of i u) in
+        let v = record (task_of t u) { since = 0; rest = u.now + ticks } in
+        let r = begin_pause i t ticks u in
+        task_goes i 0 1 u r c refl (omega arith) refl refl (subst (λ (ts : List Todo). IsPaid (items ++ ts)) (sym none) (omega arith, (tt, tt))) refl t v refl one alone
+        (let most = ahead_most (is_last r.tasks c.turn.whose) c.todo in
+        let cost = ap (λ (ts : List Todo). ahead_cost false (items ++ ts)) none in
+        let some : 1 ≤ (task_of t u).since = paused_some (task_of t u).pace (task_of t u).since ticks paced is in
+        let paid : pause_cost (task_of t u) ≡ 4 = ap {A = Bool} {B = ℕ} (λ b. cond b 0 4) (let off : eqb (task_of t u).since 0 ≡ false = grind (arith, nat_tests, some) in off) in
+        let w = wait_most u.now v.rest in
+        either (λ n. ahead_cost (is_last r.tasks c.turn.whose) c.todo + (4 * length v.works + pause_cost v + n) + 1 ≤ 1 + task_cost u.now (task_of t u)) (task_of t u).ended 0 (8 + wait u.now v.rest)
+        (λ ended. omega (arith, most, cost, paid))
+        (λ on. let was = ap {A = Bool} {B = ℕ} (λ b. cond b 0 (8 + wait u.now (task_of t u).rest)) on in omega (arith, most, cost, paid, w, was)))
+
     work_goes : (works : List ReplayWork) → (task_of t u).works ≡ works → (writer_of (task_of t u)).due ≡ due.No → Begins i u (begin_work i t works u)
     work_goes [] is undue =
         then_goes (todo.Silent silent.End ∷ []) (omega arith, (tt, tt))
@@ -69,10 +100,10 @@ module _ (trace : Trace) (i : ℕ) (u : State) (there : i < length u.cpus) (none
         let cost = ap (λ (ts : List Todo). ahead_cost false (items ++ ts)) none in
         let long = ap (λ (l : List ReplayWork). length l) is in
         let w = wait_most u.now v.rest in
-        either (λ n. ahead_cost (is_last r.tasks c.turn.whose) c.todo + (4 * length works + n) + 1 ≤ 1 + task_cost u.now (task_of t u)) (task_of t u).ended 0 (8 + wait u.now v.rest)
+        either (λ n. ahead_cost (is_last r.tasks c.turn.whose) c.todo + (4 * length works + pause_cost (task_of t u) + n) + 1 ≤ 1 + task_cost u.now (task_of t u)) (task_of t u).ended 0 (8 + wait u.now v.rest)
         (λ ended. omega (arith, most, cost, long))
         (λ on. let was = ap {A = Bool} {B = ℕ} (λ b. cond b 0 (8 + wait u.now (task_of t u).rest)) on in omega (arith, most, cost, long, w, was)))
-    work_goes (work.Write inode page pages ∷ works) is undue = then_goes (todo.Step step.Dirty ∷ todo.Silent silent.End ∷ []) (omega arith, (omega arith, (tt, tt))) refl
+    work_goes (work.Write inode page pages ∷ works) is undue = page_goes (pause_in (task_of t u)) refl
 
     pub task_begins : (d : Due) → (writer_of (task_of t u)).due ≡ d → Begins i u (begin_due trace i t d u)
     task_begins due.Check is = check_goes (task_of t u).context (group_of trace (task_of t u).context)

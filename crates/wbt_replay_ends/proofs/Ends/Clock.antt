@@ -10,7 +10,7 @@ use Rattle.wbt_replay_moves.specs.declared.state.ReplayPhase.{ReplayPhase}
 use Rattle.wbt_replay_moves.specs.declared.state.ReplayPhase.TheVariants as phase
 use Rattle.wbt_replay_moves.specs.declared.state.ReplayTask.{ReplayTask}
 use Rattle.wbt_replay_order.specs.Definition.Order.{sooner, task_sooner, phase_sooner, tasks_sooner, flushers_sooner, next_moment, at_moment}
-use Rattle.wbt_replay_order.specs.Kept.Ending.{wait, task_cost, phase_cost, flusher_cost, timer_cost, parts_cost}
+use Rattle.wbt_replay_order.specs.Kept.Ending.{wait, pause_cost, task_cost, phase_cost, flusher_cost, timer_cost, parts_cost}
 use Rattle.wbt_replay_ends.proofs.Ends.Cores.{round_cost}
 use Rattle.wbt_replay_ends.proofs.Ends.Sums.{sum_falls}
 
@@ -75,7 +75,7 @@ module _ (now m : ℕ) where
   task_falls : now ≤ m → (t : ReplayTask) → task_cost m t ≤ task_cost now t
   task_falls later t = by_end t.ended
     where
-      by_end : (b : Bool) → 4 * length t.works + cond b 0 (8 + wait m t.rest) ≤ 4 * length t.works + cond b 0 (8 + wait now t.rest)
+      by_end : (b : Bool) → 4 * length t.works + pause_cost t + cond b 0 (8 + wait m t.rest) ≤ 4 * length t.works + pause_cost t + cond b 0 (8 + wait now t.rest)
       by_end true = omega arith
       by_end false = let w = wait_falls later t.rest in omega (arith, w)
 
@@ -83,7 +83,7 @@ module _ (now m : ℕ) where
   task_case found t is = by_end t.ended is
     where
       by_end : (b : Bool) → cond b found (sooner now found t.rest) ≡ Some m
-          → (found ≡ Some m) ⊎ ((now < m) × (4 * length t.works + cond b 0 (8 + wait m t.rest) + 1 ≤ 4 * length t.works + cond b 0 (8 + wait now t.rest)))
+          → (found ≡ Some m) ⊎ ((now < m) × (4 * length t.works + pause_cost t + cond b 0 (8 + wait m t.rest) + 1 ≤ 4 * length t.works + pause_cost t + cond b 0 (8 + wait now t.rest)))
       by_end true is = inl is
       by_end false is = ⊎_elim (λ e. inl e) (λ h. inr (h.0, (let w = wait_ends t.rest h.0 h.1 in omega (arith, w)))) (sooner_case now found t.rest m is)
 

@@ -1,6 +1,7 @@
 -- Each silent move of a flusher's turn costs more than it leaves to be done.
 use Rattle.std.proofs.Common.{◌≡◌, ℕ, ◌+◌, ◌<◌, ◌≤◌, true, false, ◌||◌, eqb, ltb, List, [], ◌∷◌, ◌++◌, length, Option, Some, None, refl, sym, ◌∙◌, ap, arith, Bool, get_or, subst, unwrap_or}
 use Rattle.std.proofs.lemmas.List.{set-get_or}
+use Rattle.std.proofs.lemmas.List.Sums.{sum_by-set}
 use Rattle.wbt_estimate.specs.declared.estimate.Estimate.{Estimate}
 use Rattle.wbt_journal.specs.declared.entry.Entry.TheVariants as entry
 use Rattle.wbt_trace.specs.declared.trace.Trace.{Trace}
@@ -8,11 +9,11 @@ use Rattle.wbt_replay_moves.specs.Definition.Cpu.{do_next, then_do, logged, esti
 use Rattle.wbt_replay_moves.specs.Definition.Estimates.{estimate_to}
 use Rattle.wbt_replay_moves.specs.Definition.Idle.{rest_until, take, take_or_rest, with_hard, take_now, with_pairs, told_by, waits, noticed, age, tested_by}
 use Rattle.wbt_rules.specs.declared.moments.TheConstants.{FLUSHER_REST}
-use Rattle.wbt_replay_moves.specs.Definition.Scan.{is_over, close_in, fly, hand_over_in}
+use Rattle.wbt_replay_moves.specs.Definition.Scan.{is_over, places_after, keep_place, close_in, fly, hand_over_in}
 use Rattle.wbt_replay_moves.specs.Definition.Weigh.{is_over_by_itself, over_noted, weigh, weighed_by}
 use Rattle.wbt_io.specs.Moments.{done_at}
 use Rattle.wbt_replay_moves.specs.Definition.State.{State, no_cpu, no_flusher, cpu_of, flusher_of, queue_of, in_phase, no_waiting}
-use Rattle.wbt_rules.specs.Things.{end_of, flusher_device, rate_of}
+use Rattle.wbt_rules.specs.Things.{flusher_device, rate_of}
 use Rattle.wbt_replay_moves.specs.declared.state.Flusher.{Flusher}
 use Rattle.wbt_replay_moves.specs.declared.state.ReplayPhase.{ReplayPhase}
 use Rattle.wbt_replay_moves.specs.declared.state.ReplayPhase.TheVariants as phase
@@ -23,10 +24,10 @@ use Rattle.wbt_replay_moves.specs.declared.todo.Step.TheVariants as step
 use Rattle.wbt_replay_moves.specs.declared.todo.Todo.{Todo}
 use Rattle.wbt_replay_moves.specs.declared.todo.Todo.TheVariants as todo
 use Rattle.wbt_replay_order.specs.Definition.Order.{is_finished}
-use Rattle.wbt_replay_order.specs.Kept.Ending.{ahead_cost, IsPaid, is_last}
+use Rattle.wbt_replay_order.specs.Kept.Ending.{ahead_cost, IsPaid, is_last, flusher_cost}
 use Rattle.wbt_replay_order.specs.Kept.Turns.{IsIdle, IsScanning}
 use Rattle.wbt_replay_order.proofs.Facts.Lists.{either, twice}
-use Rattle.wbt_replay_ends.proofs.Ends.Goes.{outside, Goes, Plain, cpu_goes, flusher_goes, flusher_there, pace}
+use Rattle.wbt_replay_ends.proofs.Ends.Goes.{outside, Goes, Plain, goes_so, cpu_goes, flusher_goes, flusher_there, pace}
 use Rattle.std.proofs.Math.ListN.{set}
 use Rattle.wbt_expiry.specs.declared.due.Due.{Due}
 use Rattle.wbt_expiry.specs.Waiting.{Waiting as Wheel}
@@ -233,19 +234,22 @@ module _ (trace : Trace) (i : ℕ) (s : State) (there : i < length s.cpus) where
 
     pub close_goes : (p : ReplayPhase) → (flusher_of f s).phase ≡ p → IsScanning p → IsPaid (todo.Silent silent.Close ∷ (cpu_of i s).todo) → Quietly i silent.Close s (close_in trace i f p s)
     close_goes (phase.Scanning scan) is h paid =
-        either (Quietly i silent.Close s) (is_over trace scan (length (flusher_of f s).batch)) _ _
+        either (Quietly i silent.Close s) (is_over scan (length (flusher_of f s).batch)) _ _
         (λ over.
-        either (λ (items : List Todo). Quietly i silent.Close s (then_do i items s)) (scan.noted || ltb scan.page (end_of trace scan.inode)) _ _
+        either (λ (items : List Todo). Quietly i silent.Close s (then_do i items (keep_place trace f scan s))) (scan.noted || ltb scan.passed scan.pages) _ _
         (λ again. closed (todo.Step (step.Mark scan.inode) ∷ todo.Silent silent.HandOver ∷ []) (omega arith, (omega (arith, paid.0), (tt, paid.1.1))) (omega arith))
         (λ once. closed (todo.Silent silent.HandOver ∷ []) (omega (arith, paid.0), (tt, paid.1.1)) (omega arith)))
         (λ on.
         cpu_goes i 0 _ s s (cpu_of i s) (stays s refl refl refl (omega (arith, paid.0), paid.1.1)) refl refl (omega arith))
       where
+        -- the place that is kept costs nothing
         closed : (items : List Todo) → IsPaid (items ++ (cpu_of i s).todo)
-            → ahead_cost (is_last s.tasks (cpu_of i s).turn.whose) (items ++ (cpu_of i s).todo) + 1 ≤ before i silent.Close s → Quietly i silent.Close s (then_do i items s)
+            → ahead_cost (is_last s.tasks (cpu_of i s).turn.whose) (items ++ (cpu_of i s).todo) + 1 ≤ before i silent.Close s → Quietly i silent.Close s (then_do i items (keep_place trace f scan s))
         closed items behind less =
-            cpu_goes i 0 (before i silent.Close s) s (then_do i items s) (do_next items (cpu_of i s))
-            (record { same = refl; steps = omega arith; cpus = refl; paces = refl; todo = behind }) refl refl less
+            let g = record (flusher_of f s) { places = places_after trace f scan (flusher_of f s).places } in
+            goes_so i 0 (before i silent.Close s) s (then_do i items (keep_place trace f scan s)) (do_next items (cpu_of i s))
+            (record { same = refl; steps = omega arith; cpus = refl; paces = refl; todo = behind }) refl
+            (let changed = sum_by-set (flusher_cost s.now) s.flushers f g no_flusher (flusher_there f s (ap is_finished is)) in omega (arith, changed, less))
     close_goes (phase.Idle until kept) is h paid = absurd h
     close_goes (phase.Taken n) is h paid = absurd h
     close_goes (phase.Flying n pages until) is h paid = absurd h

@@ -143,7 +143,7 @@ module _ (trace : Trace) (facts : Facts trace) (s : State) (at : Turning trace s
         let d = at_begin w c free paces in
         turn_begun w c free paces
         (task_begins trace i (with_cpu i d s) (omega (arith, there, length-set s.cpus i d)) (free_here w c free paces) t (omega (arith, on.there, at.tasks))
-        (task_alone trace i s there at t on d) (whose_here w c free paces) (writer_of (task_of t s)).due refl)
+        (task_alone trace i s there at t on d) (whose_here w c free paces) (at.paces t (omega (arith, on.there, at.tasks))) (writer_of (task_of t s)).due refl)
 
     flusher_turn_ahead : (f : ℕ) (c : Cpu) → c.todo ≡ [] → pace c ≡ pace (cpu_of i s) → IsFlusherOn trace i f → is_finished (flusher_of f s).phase ≡ false
         → Ahead trace s (begin_turn trace i (whose.Flusher f) (with_cpu i c s))

@@ -6,12 +6,13 @@ use Rattle.std.proofs.lemmas.List.Sums.{sum_by_push}
 use Rattle.wbt_trace.specs.declared.trace.Action.{Action}
 use Rattle.wbt_trace.specs.declared.trace.Action.TheVariants as action
 use Rattle.wbt_trace.specs.declared.trace.Trace.{Trace}
+use Rattle.wbt_rules.specs.Pace.{pace_of}
 use Rattle.wbt_replay_moves.specs.Definition.State.{no_cpu}
 use Rattle.wbt_replay_moves.specs.declared.state.Cpu.{Cpu}
 use Rattle.wbt_replay_moves.specs.declared.state.ReplayTask.{ReplayTask}
 use Rattle.wbt_replay_moves.specs.declared.state.ReplayWork.{ReplayWork}
 use Rattle.wbt_replay_order.specs.Definition.Opening.{opening, opening_moment, work_of, works_of, first_task, first_tasks, first_flusher, first_flushers, first_cpu, first_cpus, stretch_of}
-use Rattle.wbt_replay_order.specs.Kept.Ending.{IsPaid, cpu_cost, task_cost, flusher_cost, wait, work_left, IsWithin, Ending}
+use Rattle.wbt_replay_order.specs.Kept.Ending.{IsPaid, cpu_cost, pause_cost, task_cost, flusher_cost, wait, work_left, IsWithin, Ending}
 use Rattle.wbt_replay_order.specs.Kept.Facts.{Facts}
 use Rattle.wbt_replay_order.proofs.Facts.Lists.{either}
 use Rattle.wbt_replay_ends.proofs.Ends.Goes.{wait_most, phase_most}
@@ -69,17 +70,17 @@ module _ (trace : Trace) where
       by_action (action.Write writer inode from pages) = either (λ (l : List ReplayWork). length l ≤ 1) (eqb writer task) _ _ (λ is. omega arith) (λ is. omega arith)
       by_action (action.Rest sleeper ticks) = either (λ (l : List ReplayWork). length l ≤ 1) (eqb sleeper task) _ _ (λ is. omega arith) (λ is. omega arith)
 
-  task_most : (now : ℕ) (t : ReplayTask) → task_cost now t ≤ 4 * length t.works + 9
-  task_most now t =
+  task_most : (now : ℕ) (t : ReplayTask) → pause_cost t ≡ 0 → task_cost now t ≤ 4 * length t.works + 9
+  task_most now t none =
       let w = wait_most now t.rest in
-      either (λ n. 4 * length t.works + n ≤ 4 * length t.works + 9) t.ended 0 (8 + wait now t.rest) (λ is. omega arith) (λ is. omega (arith, w))
+      either (λ n. 4 * length t.works + pause_cost t + n ≤ 4 * length t.works + 9) t.ended 0 (8 + wait now t.rest) (λ is. omega (arith, none)) (λ is. omega (arith, none, w))
 
   tasks_sum : (now n : ℕ) → sum_by (task_cost now) (first_tasks trace n) ≤ n * (4 * length trace.actions + 9)
   tasks_sum now zero = omega arith
   tasks_sum now (suc n) =
-      let t = first_task trace (works_of trace n trace.actions) in
+      let t = first_task trace (pace_of trace n) (works_of trace n trace.actions) in
       let few = few_works n trace.actions in
-      let most = task_most now t in
+      let most = task_most now t refl in
       push_most (task_cost now) (first_tasks trace n) t n (4 * length trace.actions + 9) (tasks_sum now n) (omega (arith, few, most))
 
   -- ---- flushers

@@ -17,6 +17,7 @@ use Rattle.wbt_replay_moves.specs.Definition.Flight.{complete_first, complete_in
 use Rattle.wbt_replay_moves.specs.Definition.Idle.{scan_of, unmark_in}
 use Rattle.wbt_replay_moves.specs.Definition.Scan.{look_in, claim_now, claim_in}
 use Rattle.wbt_replay_moves.specs.Definition.State.{State, no_cpu, cpu_of, flusher_of, domain_of, count_of, with_cpu, plain_step}
+use Rattle.wbt_rules.specs.Places.{page_of}
 use Rattle.wbt_rules.specs.Things.{context_of, group_of}
 use Rattle.wbt_replay_moves.specs.Definition.Writer.{mark}
 use Rattle.wbt_replay_moves.specs.declared.state.Cpu.{Cpu}
@@ -129,10 +130,10 @@ module _ (trace : Trace) (i : ℕ) (s : State) (there : i < length s.cpus) where
 
     pub look_goes : (p : ReplayPhase) → (flusher_of f s).phase ≡ p → IsScanning p → Pays step.Look (cpu_of i s).todo → Steps i s (look_in i f p s)
     look_goes (phase.Scanning scan) is h paid =
-        either (λ (t : State). Steps i s (plain_step i kind.Look t)) (is_claimable (s.book scan.page)) _ _
-        (λ found. step_goes kind.Look (do_next (todo.Step (step.Claim (shared_word s.book scan.page)) ∷ []) (cpu_of i s)) refl (omega arith, (paid.0, paid.1)))
+        either (λ (t : State). Steps i s (plain_step i kind.Look t)) (is_claimable (s.book (page_of scan))) _ _
+        (λ found. step_goes kind.Look (do_next (todo.Step (step.Claim (shared_word s.book (page_of scan))) ∷ []) (cpu_of i s)) refl (omega arith, (paid.0, paid.1)))
         (λ missed. both_goes _ (do_next (todo.Silent silent.Close ∷ []) (cpu_of i s))
-        (record (flusher_of f s) { phase = phase.Scanning (record scan { page = scan.page + 1; noted = scan.noted || ((s.book scan.page).dirty && (s.book scan.page).writeback) }) })
+        (record (flusher_of f s) { phase = phase.Scanning (record scan { passed = scan.passed + 1; noted = scan.noted || ((s.book (page_of scan)).dirty && (s.book (page_of scan)).writeback) }) })
         (record { same = refl; steps = one_more s.steps _; cpus = refl; paces = refl; todo = (omega (arith, paid.0), (tt, paid.1)) }) refl refl (ap is_finished is))
     look_goes (phase.Idle until kept) is h paid = absurd h
     look_goes (phase.Taken n) is h paid = absurd h
@@ -141,10 +142,10 @@ module _ (trace : Trace) (i : ℕ) (s : State) (there : i < length s.cpus) where
 
     pub claim_goes : (word : ℕ) (p : ReplayPhase) → (flusher_of f s).phase ≡ p → IsScanning p → Pays (step.Claim word) (cpu_of i s).todo → Steps i s (claim_in i f word p s)
     claim_goes word (phase.Scanning scan) is h paid =
-        let e = entry.Claimed f scan.page in
-        either (λ (t : State). Steps i s (plain_step i kind.Claim t)) (eqb (shared_word s.book scan.page) word) _ _
+        let e = entry.Claimed f (page_of scan) in
+        either (λ (t : State). Steps i s (plain_step i kind.Claim t)) (eqb (shared_word s.book (page_of scan)) word) _ _
         (λ hit. both_goes (plain_step i kind.Claim (claim_now i f scan s)) (do_next (todo.Silent silent.Close ∷ []) (logged e (cpu_of i s)))
-        (record (flusher_of f s) { phase = phase.Scanning (record scan { page = scan.page + 1 }); batch = (flusher_of f s).batch ++ scan.page ∷ [] })
+        (record (flusher_of f s) { phase = phase.Scanning (record scan { passed = scan.passed + 1 }); batch = (flusher_of f s).batch ++ page_of scan ∷ [] })
         (record {
           same = refl;
           steps = one_more s.steps _;

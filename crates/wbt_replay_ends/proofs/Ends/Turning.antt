@@ -1,11 +1,12 @@
 -- What a move needs of what is in range, so that it isn't asked again after an order line or the rotation was changed.
-use Rattle.std.proofs.Common.{◌≡◌, ℕ, ◌<◌, ◌≤◌, not, List, length, All, Option, refl, ◌∙◌, ap, arith}
+use Rattle.std.proofs.Common.{◌≡◌, ℕ, ◌<◌, ◌≤◌, not, List, length, All, Option, refl, ◌∙◌, ap, arith, IfSome}
 use Rattle.std.specs.List.{sum_by, count_by}
 use Rattle.wbt_num.specs.declared.most.TheConstants.{MOST_STEPS}
 use Rattle.wbt_journal.specs.Machine.{domains}
 use Rattle.wbt_journal.specs.declared.step.StepEntry.{StepEntry}
+use Rattle.wbt_trace.specs.Lawful.{IsPace}
 use Rattle.wbt_trace.specs.declared.trace.Trace.{Trace}
-use Rattle.wbt_replay_moves.specs.Definition.State.{State, cpu_of}
+use Rattle.wbt_replay_moves.specs.Definition.State.{State, cpu_of, task_of}
 use Rattle.wbt_replay_moves.specs.declared.state.Actor.{Actor}
 use Rattle.wbt_replay_moves.specs.declared.state.Actor.TheVariants as who
 use Rattle.wbt_replay_moves.specs.declared.state.Stretch.{Stretch}
@@ -29,6 +30,7 @@ pub record Turning (trace : Trace) (s : State) : Type 0 where
   pub agrees : (j : ℕ) → j < length s.cpus → All (Agrees trace s.tasks s.flushers (cpu_of j s).turn.whose) (cpu_of j s).todo
   pub jobs : (j : ℕ) → j < length s.cpus → (cpu_of j s).jobs ≡ (first_cpu trace j).jobs
   pub tasks_are : (j : ℕ) → j < length s.cpus → (cpu_of j s).tasks ≡ (first_cpu trace j).tasks
+  pub paces : (t : ℕ) → t < length s.tasks → IfSome (task_of t s).pace IsPace
   pub next : (j : ℕ) → j < length s.cpus → 1 ≤ length (cpu_of j s).jobs → (cpu_of j s).next < length (cpu_of j s).jobs
   pub next_task : (j : ℕ) → j < length s.cpus → 1 ≤ length (cpu_of j s).tasks → (cpu_of j s).next_task < length (cpu_of j s).tasks
 
@@ -44,6 +46,7 @@ turning trace s h = record {
   agrees = λ j less. (h.holds.agreed j (omega (arith, less, h.holds.cpus.many))).items;
   jobs = λ j less. (cpu j less).jobs;
   tasks_are = λ j less. (cpu j less).tasks;
+  paces = λ t less. (h.holds.tasks.each t (omega (arith, less, h.holds.tasks.many))).pace;
   next = λ j less. (cpu j less).next;
   next_task = λ j less. (cpu j less).next_task;
 }
@@ -65,6 +68,7 @@ placed_turning trace s turn h = record {
   agrees = h.agrees;
   jobs = h.jobs;
   tasks_are = h.tasks_are;
+  paces = h.paces;
   next = h.next;
   next_task = h.next_task;
 }
@@ -81,6 +85,7 @@ ordered_turning trace s orders h = record {
   agrees = h.agrees;
   jobs = h.jobs;
   tasks_are = h.tasks_are;
+  paces = h.paces;
   next = h.next;
   next_task = h.next_task;
 }

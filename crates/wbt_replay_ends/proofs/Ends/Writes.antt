@@ -12,7 +12,7 @@ use Rattle.wbt_replay_moves.specs.Definition.Check.{writer_of, check_of, decide_
 use Rattle.wbt_replay_moves.specs.Definition.Cpu.{do_next, logged, log_at, checked, owed_to}
 use Rattle.wbt_replay_moves.specs.Definition.State.{State, no_cpu, no_task, cpu_of, task_of, with_task, plain_step}
 use Rattle.wbt_rules.specs.Things.{context_of, group_of}
-use Rattle.wbt_replay_moves.specs.Definition.Writer.{without_page, counted_page, counted_local, dirty_fresh, dirty_page, dirty_next, leaked, end_now, end_by, has_nothing}
+use Rattle.wbt_replay_moves.specs.Definition.Writer.{without_page, passed_page, counted_page, counted_local, dirty_fresh, dirty_page, dirty_next, leaked, end_now, end_by, has_nothing}
 use Rattle.wbt_replay_moves.specs.declared.state.Cpu.{Cpu}
 use Rattle.wbt_replay_moves.specs.declared.state.Flusher.{Flusher}
 use Rattle.wbt_replay_moves.specs.declared.state.ReplayTask.{ReplayTask}
@@ -24,7 +24,7 @@ use Rattle.wbt_replay_moves.specs.declared.todo.Silent.TheVariants as silent
 use Rattle.wbt_replay_moves.specs.declared.todo.Step.TheVariants as step
 use Rattle.wbt_replay_moves.specs.declared.todo.Todo.{Todo}
 use Rattle.wbt_replay_moves.specs.declared.todo.Todo.TheVariants as todo
-use Rattle.wbt_replay_order.specs.Kept.Ending.{ahead_cost, StepsPay, IsPaid, is_last, cpu_cost, wait, task_cost, flusher_cost}
+use Rattle.wbt_replay_order.specs.Kept.Ending.{ahead_cost, StepsPay, IsPaid, is_last, cpu_cost, wait, pause_cost, task_cost, flusher_cost}
 use Rattle.wbt_replay_order.specs.Kept.Turns.{WritesNext}
 use Rattle.wbt_replay_order.proofs.Facts.Lists.{either, twice}
 use Rattle.wbt_replay_ends.proofs.Ends.Goes.{Outside, outside, pace, Goes, cpu_goes, one_more, paid_most, wait_most}
@@ -84,6 +84,9 @@ module _ (i made most : ℕ) (s r : State) (c : Cpu)
 fewer_works : (inode page pages : ℕ) (works : List ReplayWork) → length (without_page inode page pages works) ≤ suc (length works)
 fewer_works inode page pages works = either (λ (l : List ReplayWork). length l ≤ suc (length works)) (eqb pages 1) _ _ (λ is. omega arith) (λ is. omega arith)
 
+pause_most : (u : ReplayTask) → pause_cost u ≤ 4
+pause_most u = either (λ n. n ≤ 4) (eqb u.since 0) 0 4 (λ none. omega arith) (λ some. omega arith)
+
 -- what a fresh write puts down
 owed_paid : (context group inode : ℕ) (ts : List Todo) → (ahead_cost false ts ≤ 8) → StepsPay ts → IsPaid (owed_to (pos 1) context group (todo.Step (step.Mark inode)) ++ ts)
 owed_paid context group inode ts few pay =
@@ -92,21 +95,21 @@ owed_paid context group inode ts few pay =
     (λ some. (omega arith, (omega arith, (omega arith, (omega arith, (omega (arith, few), pay))))))
 
 module _ (trace : Trace) (i : ℕ) (s : State) (there : i < length s.cpus) (t : ℕ) (one : t < length s.tasks) (alone : IsAlone i t s) where
-  -- fewer works, and the same rest
+  -- fewer works, and the same rest; a page more pays for a rest
   lighter : (u : ReplayTask) (inode page pages : ℕ) (works : List ReplayWork) → (task_of t s).works ≡ work.Write inode page pages ∷ works → u.ended ≡ (task_of t s).ended → u.rest ≡ (task_of t s).rest
-      → u.works ≡ without_page inode page pages works → task_cost s.now u ≤ task_cost s.now (task_of t s)
+      → u.works ≡ without_page inode page pages works → task_cost s.now u ≤ task_cost s.now (task_of t s) + 4
   lighter u inode page pages works is ended rest so =
       let tail = ap {A = Bool} {B = ℕ} (λ b. cond b 0 (8 + wait s.now u.rest)) ended in
       let wait = ap {A = ℕ} {B = ℕ} (λ n. cond (task_of t s).ended 0 (8 + wait s.now n)) rest in
       let few = fewer_works inode page pages works in
       let was = ap (λ (l : List ReplayWork). length l) is in
       let now = ap (λ (l : List ReplayWork). length l) so in
-      omega (arith, tail, wait, few, was, now)
+      omega (arith, tail, wait, few, was, now, pause_most u)
 
   again_goes : (inode page pages : ℕ) (works : List ReplayWork) → (task_of t s).works ≡ work.Write inode page pages ∷ works → Pays step.Dirty (cpu_of i s).todo
-      → Steps i s (plain_step i kind.Dirty (log_at i (entry.Write t page false) (with_task t (record (task_of t s) { works = without_page inode page pages works }) s)))
+      → Steps i s (plain_step i kind.Dirty (log_at i (entry.Write t page false) (with_task t (passed_page inode page pages works (task_of t s)) s)))
   again_goes inode page pages works is paid =
-      let u = record (task_of t s) { works = without_page inode page pages works } in
+      let u = passed_page inode page pages works (task_of t s) in
       let c = logged (entry.Write t page false) (cpu_of i s) in
       let behind : IsPaid c.todo = (omega (arith, paid.0), paid.1) in
       let r = plain_step i kind.Dirty (log_at i (entry.Write t page false) (with_task t u s)) in
@@ -114,9 +117,9 @@ module _ (trace : Trace) (i : ℕ) (s : State) (there : i < length s.cpus) (t : 
       (let most = paid_most (is_last r.tasks c.turn.whose) c.todo behind in omega (arith, most, lighter u inode page pages works is refl refl refl))
 
   fresh_goes : (inode page pages : ℕ) (works : List ReplayWork) → (task_of t s).works ≡ work.Write inode page pages ∷ works → Pays step.Dirty (cpu_of i s).todo
-      → Steps i s (dirty_fresh trace i t inode page (with_task t (record (task_of t s) { works = without_page inode page pages works }) s))
+      → Steps i s (dirty_fresh trace i t inode page (with_task t (passed_page inode page pages works (task_of t s)) s))
   fresh_goes inode page pages works is paid =
-      let u = record (task_of t s) { works = without_page inode page pages works } in
+      let u = passed_page inode page pages works (task_of t s) in
       let k = context_of trace inode in
       let items = owed_to (pos 1) k (group_of trace k) (todo.Step (step.Mark inode)) in
       let w = with_task t u s in
@@ -132,7 +135,7 @@ module _ (trace : Trace) (i : ℕ) (s : State) (there : i < length s.cpus) (t : 
       (let most = paid_most (is_last r.tasks c.turn.whose) c.todo behind in omega (arith, most, lighter v inode page pages works is refl refl refl))
 
   page_goes : (inode page pages : ℕ) (works : List ReplayWork) → (task_of t s).works ≡ work.Write inode page pages ∷ works → Pays step.Dirty (cpu_of i s).todo
-      → Steps i s (dirty_page trace i t inode page (with_task t (record (task_of t s) { works = without_page inode page pages works }) s))
+      → Steps i s (dirty_page trace i t inode page (with_task t (passed_page inode page pages works (task_of t s)) s))
   page_goes inode page pages works is paid =
       either (Steps i s) (s.book page).dirty _ _
       (λ already. again_goes inode page pages works is paid)
@@ -149,7 +152,7 @@ module _ (trace : Trace) (i : ℕ) (s : State) (there : i < length s.cpus) (t : 
   rested decision context =
       let u = told_task s.now context decision (task_of t s) in
       let w = wait_most s.now u.rest in
-      either (λ n. 4 * length (task_of t s).works + n ≤ task_cost s.now (task_of t s) + 1) (task_of t s).ended 0 (8 + wait s.now u.rest)
+      either (λ n. 4 * length (task_of t s).works + pause_cost (task_of t s) + n ≤ task_cost s.now (task_of t s) + 1) (task_of t s).ended 0 (8 + wait s.now u.rest)
       (λ is. omega arith)
       (λ no. let was = ap {A = Bool} {B = ℕ} (λ b. cond b 0 (8 + wait s.now (task_of t s).rest)) no in omega (arith, w, was))
 

@@ -30,9 +30,10 @@ use Rattle.wbt_replay_moves.specs.Definition.Perform.{make_step, make_move}
 use Rattle.wbt_replay_moves.specs.Definition.Scan.{look_in, look_by, claim_now, claim_in, claim_by, is_over, close_items, close_in, close_by, hand_over_in, hand_over_by}
 use Rattle.wbt_io.specs.Moments.{done_at}
 use Rattle.wbt_replay_moves.specs.Definition.State.{State, no_task, cpu_of, task_of, flusher_of, queue_of, count_of, domain_of, writeback_of, plain_step, in_phase, with_event, with_task, with_queue}
-use Rattle.wbt_rules.specs.Things.{context_of, group_of, flusher_device, max_share, end_of, rate_of}
+use Rattle.wbt_rules.specs.Places.{page_of}
+use Rattle.wbt_rules.specs.Things.{context_of, group_of, flusher_device, max_share, rate_of}
 use Rattle.wbt_replay_moves.specs.Definition.Weigh.{is_over_by_itself, over_noted, weigh, weighed_by}
-use Rattle.wbt_replay_moves.specs.Definition.Writer.{without_page, counted_local, count_page, dirty_fresh, dirty_next, dirty_by, mark, leaked, end_by, has_nothing}
+use Rattle.wbt_replay_moves.specs.Definition.Writer.{passed_page, counted_local, count_page, dirty_fresh, dirty_next, dirty_by, mark, leaked, end_by, has_nothing}
 use Rattle.wbt_replay_moves.specs.Definition.Check.{writer_of}
 use Rattle.wbt_replay_moves.specs.declared.state.Cpu.{Cpu}
 use Rattle.wbt_replay_moves.specs.declared.state.ReplayPhase.{ReplayPhase}
@@ -145,7 +146,7 @@ module _ (trace : Trace) (i : ℕ) (s : State) where
   dirty_logs facts t (work.Write inode page pages ∷ works) fits =
       let first = All-head (WorkFits trace t) (work.Write inode page pages) works fits in
       let k = context_of trace inode in
-      let u = record (task_of t s) { works = without_page inode page pages works } in
+      let u = passed_page inode page pages works (task_of t s) in
       let e = entry.Write t page true in
       let w = with_task t u s in
       let v = count_page i t k (with_event (event.Dirty page) page w) in
@@ -172,8 +173,8 @@ module _ (trace : Trace) (i : ℕ) (s : State) where
   unmark_logs f phase.Finished = λ h. h
 
   pub look_logs : (f : ℕ) (p : ReplayPhase) → Logs trace s (look_in i f p s)
-  look_logs f (phase.Scanning scan) = either (λ (t : State). Logs trace s (plain_step i kind.Look t)) (is_claimable (s.book scan.page)) _ _
-      (λ is. plain_logs trace s _ i (do_next (todo.Step (step.Claim (shared_word s.book scan.page)) ∷ []) (cpu_of i s)) kind.Look refl refl (λ h. h))
+  look_logs f (phase.Scanning scan) = either (λ (t : State). Logs trace s (plain_step i kind.Look t)) (is_claimable (s.book (page_of scan))) _ _
+      (λ is. plain_logs trace s _ i (do_next (todo.Step (step.Claim (shared_word s.book (page_of scan))) ∷ []) (cpu_of i s)) kind.Look refl refl (λ h. h))
       (λ is. plain_logs trace s _ i (do_next (todo.Silent silent.Close ∷ []) (cpu_of i s)) kind.Look refl refl (λ h. h))
   look_logs f (phase.Idle until kept) = λ h. h
   look_logs f (phase.Taken n) = λ h. h
@@ -181,9 +182,9 @@ module _ (trace : Trace) (i : ℕ) (s : State) where
   look_logs f phase.Finished = λ h. h
 
   pub claim_logs : (f word : ℕ) (p : ReplayPhase) → Logs trace s (claim_in i f word p s)
-  claim_logs f word (phase.Scanning scan) = either (λ (t : State). Logs trace s (plain_step i kind.Claim t)) (eqb (shared_word s.book scan.page) word) _ _
+  claim_logs f word (phase.Scanning scan) = either (λ (t : State). Logs trace s (plain_step i kind.Claim t)) (eqb (shared_word s.book (page_of scan)) word) _ _
       (λ hit h.
-      let e = entry.Claimed f scan.page in
+      let e = entry.Claimed f (page_of scan) in
       let first = entry_logs trace s (log_at i e s) i (logged e (cpu_of i s)) refl (logged_named e (cpu_of i s) (λ a b. (refl, refl))) refl h in
       plain_logs trace (log_at i e s) (plain_step i kind.Claim (claim_now i f scan s)) i (do_next (todo.Silent silent.Close ∷ []) (cpu_of i (log_at i e s))) kind.Claim refl refl (λ h. h) first)
       (λ missed. alone_logs trace s (plain_step i kind.Claim s) i kind.Claim refl refl)
@@ -245,8 +246,8 @@ module _ (trace : Trace) (i : ℕ) (s : State) where
   tested_by_logs f turn (Some w) = age_logs trace i s f turn.began turn.over
 
   pub close_logs : (f : ℕ) (p : ReplayPhase) → Logs trace s (close_in trace i f p s)
-  close_logs f (phase.Scanning scan) = either (Logs trace s) (is_over trace scan (length (flusher_of f s).batch)) _ _
-      (λ over. entry_logs trace s _ i (do_next (close_items scan.inode (scan.noted || ltb scan.page (end_of trace scan.inode))) (cpu_of i s)) refl (λ h. h) refl)
+  close_logs f (phase.Scanning scan) = either (Logs trace s) (is_over scan (length (flusher_of f s).batch)) _ _
+      (λ over. entry_logs trace s _ i (do_next (close_items scan.inode (scan.noted || ltb scan.passed scan.pages)) (cpu_of i s)) refl (λ h. h) refl)
       (λ on h. h)
   close_logs f (phase.Idle until kept) = λ h. h
   close_logs f (phase.Taken n) = λ h. h

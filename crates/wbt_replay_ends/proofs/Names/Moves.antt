@@ -14,7 +14,7 @@ use Rattle.wbt_replay_moves.specs.Definition.Perform.{make_timer_step, make_time
 use Rattle.wbt_replay_moves.specs.Definition.State.{State, cpu_of, task_of, flusher_of, queue_of, domain_of, is_drained, with_cpu, waiting_of}
 use Rattle.wbt_rules.specs.Things.{group_of, flusher_device}
 use Rattle.wbt_replay_moves.specs.Definition.Timer.{begin_timer, with_timer, peak, is_time, periods, period_to}
-use Rattle.wbt_replay_moves.specs.Definition.Writer.{check_items, begin_work, begin_due}
+use Rattle.wbt_replay_moves.specs.Definition.Writer.{check_items, pause_in, begin_page, begin_work, begin_due}
 use Rattle.wbt_replay_moves.specs.declared.state.Actor.{Actor}
 use Rattle.wbt_replay_moves.specs.declared.state.Actor.TheVariants as who
 use Rattle.wbt_replay_moves.specs.declared.state.Cpu.{Cpu}
@@ -58,11 +58,16 @@ module _ (trace : Trace) (i : ℕ) (s : State) where
   then_logs : (items : List Todo) → Logs trace s (then_do i items s)
   then_logs items = entry_logs trace s (then_do i items s) i (do_next items (cpu_of i s)) refl (λ h. h) refl
 
+  page_logs : (t : ℕ) (pause : Option ℕ) → Logs trace s (begin_page i t pause s)
+  page_logs t None = then_logs (todo.Step step.Dirty ∷ todo.Silent silent.End ∷ [])
+  page_logs t (Some ticks) =
+      entry_logs trace s (begin_page i t (Some ticks) s) i (do_next (todo.Silent silent.End ∷ []) (cpu_of i s)) refl (λ h. h) refl
+
   work_logs : (t : ℕ) (works : List ReplayWork) → Logs trace s (begin_work i t works s)
   work_logs t [] = then_logs (todo.Silent silent.End ∷ [])
   work_logs t (work.Rest ticks ∷ works) =
       entry_logs trace s (begin_work i t (work.Rest ticks ∷ works) s) i (do_next (todo.Silent silent.End ∷ []) (cpu_of i s)) refl (λ h. h) refl
-  work_logs t (work.Write inode page pages ∷ works) = then_logs (todo.Step step.Dirty ∷ todo.Silent silent.End ∷ [])
+  work_logs t (work.Write inode page pages ∷ works) = page_logs t (pause_in (task_of t s))
 
   due_logs : (t : ℕ) (d : Due) → Logs trace s (begin_due trace i t d s)
   due_logs t due.Check = then_logs (check_items (task_of t s).context (group_of trace (task_of t s).context))

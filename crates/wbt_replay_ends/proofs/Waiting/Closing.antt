@@ -2,19 +2,22 @@
 use Rattle.std.proofs.Common.{◌≡◌, ◌≢◌, ◌⊎◌, ℕ, ◌<◌, ◌≤◌, true, false, ◌||◌, eqb, ltb, List, [], ◌∷◌, ◌++◌, length, refl, sym, ◌∙◌, ap, subst, arith, inl, ⊎_elim, eq-eqb}
 use Rattle.std.proofs.lemmas.Bool.{or_left, or_right, or_parts}
 use Rattle.std.proofs.lemmas.Bool.Decides.{nat_tests}
-use Rattle.std.proofs.lemmas.List.{get_or-set_same, get_or-set_other}
+use Rattle.std.proofs.lemmas.List.{length-set, get_or-set_same, get_or-set_other}
 use Rattle.std.specs.List.{list_any}
 use mathlib.Core.Logic.{dite}
 use native.Mathlib.Decide.{ℕ_discrete}
 use Rattle.wbt_trace.specs.declared.trace.Trace.{Trace}
 use Rattle.wbt_journal.specs.declared.entry.Entry.TheVariants as entry
 use Rattle.wbt_replay_moves.specs.Definition.Cpu.{then_do}
-use Rattle.wbt_replay_moves.specs.Definition.Scan.{close_in, close_items, is_over, hand_over_in, land_empty, fly}
+use Rattle.wbt_replay_moves.specs.Definition.Scan.{places_after, keep_place, close_in, close_items, is_over, hand_over_in, land_empty, fly}
 use Rattle.wbt_io.specs.Moments.{done_at}
 use Rattle.wbt_replay_moves.specs.Definition.State.{State, no_cpu, cpu_of, flusher_of, with_cpu, in_phase}
-use Rattle.wbt_rules.specs.Things.{end_of, flusher_device, rate_of}
+use Rattle.wbt_rules.specs.Places.{IsAhead}
+use Rattle.wbt_rules.specs.Things.{flusher_device, rate_of}
+use Rattle.wbt_rules.proofs.Places.{none_ahead}
 use Rattle.wbt_rules.specs.declared.scan.Scan.{Scan}
 use Rattle.wbt_replay_moves.specs.declared.state.Cpu.{Cpu}
+use Rattle.wbt_replay_moves.specs.declared.state.Flusher.{Flusher}
 use Rattle.wbt_replay_moves.specs.declared.state.ReplayPhase.{ReplayPhase}
 use Rattle.wbt_replay_moves.specs.declared.state.ReplayPhase.TheVariants as phase
 use Rattle.wbt_replay_moves.specs.declared.state.Whose.{Whose}
@@ -31,8 +34,8 @@ use Rattle.wbt_replay_order.specs.Kept.Waiting.IsAwaited.{takeable, owed}
 use Rattle.wbt_replay_order.proofs.Facts.Lists.{either}
 use Rattle.wbt_replay_order.proofs.Lists.Todos.{same_alike, pop_alike}
 use Rattle.wbt_replay_ends.proofs.Waiting.Moved.{lists_stay, ours_stay, empties_stay, moved_waits}
-use Rattle.wbt_replay_ends.proofs.Waiting.Still.{cpu_stays, set_alike}
-use Rattle.wbt_replay_ends.proofs.Waiting.Turned.{is_parked, scan_in, parks}
+use Rattle.wbt_replay_ends.proofs.Waiting.Still.{cpu_stays, set_alike, still_alike}
+use Rattle.wbt_replay_ends.proofs.Waiting.Turned.{now_is, is_parked, scan_in, goes_on, parks}
 
 abbrev flusher_in : Whose → ℕ
 flusher_in (whose.Task task) = 0
@@ -44,7 +47,7 @@ module _ (trace : Trace) (i f : ℕ) (less : i < trace.cpus) (on : IsFlusherOn t
   items_waits : (scan : Scan) (items : List Todo) → (flusher_of f s).phase ≡ phase.Scanning scan
       → ((m : ℕ) → owes_mark m (cpu_of i s) ≡ true → list_any (is_mark_of m) (items ++ (cpu_of i s).todo) ≡ true)
       → AreBefore trace (whose.Flusher f) (items ++ (cpu_of i s).todo)
-      → ((m p : ℕ) → IsPageOf trace m p → scan.inode ≡ m → (scan.page ≤ p) ⊎ (scan.noted ≡ true) → list_any (is_mark_of m) (items ++ (cpu_of i s).todo) ≡ true)
+      → ((m p : ℕ) → IsPageOf trace m p → scan.inode ≡ m → IsAhead scan p ⊎ (scan.noted ≡ true) → list_any (is_mark_of m) (items ++ (cpu_of i s).todo) ≡ true)
       → Waiting trace (then_do i items s)
   items_waits scan items at owes before marks =
       let c : Cpu = record (cpu_of i s) { todo = items ++ (cpu_of i s).todo } in
@@ -75,7 +78,7 @@ module _ (trace : Trace) (i f : ℕ) (less : i < trace.cpus) (on : IsFlusherOn t
         was_awaited = λ m p page there found. takeable (taken f there found);
         was_scanned = λ m p old page is there found its behind still.
             let same : old ≡ scan = ap scan_in (sym found ∙ at) in
-            owed i less (ap (owes_mark m) here ∙ marks m p page (ap (λ (x : Scan). x.inode) (sym same) ∙ its) (subst (λ (x : Scan). (x.page ≤ p) ⊎ (x.noted ≡ true)) same behind));
+            owed i less (ap (owes_mark m) here ∙ marks m p page (ap (λ (x : Scan). x.inode) (sym same) ∙ its) (subst (λ (x : Scan). IsAhead x p ⊎ (x.noted ≡ true)) same behind));
         was_held = λ p is some. some;
         placed = λ there. w.places f there;
         serves = λ d l some. inl some;
@@ -83,9 +86,9 @@ module _ (trace : Trace) (i f : ℕ) (less : i < trace.cpus) (on : IsFlusherOn t
       }) w
 
   closed_waits : (scan : Scan) → (flusher_of f s).phase ≡ phase.Scanning scan
-      → Waiting trace (then_do i (close_items scan.inode (scan.noted || ltb scan.page (end_of trace scan.inode))) s)
+      → Waiting trace (then_do i (close_items scan.inode (scan.noted || ltb scan.passed scan.pages)) s)
   closed_waits scan at =
-      either (λ (items : List Todo). Waiting trace (then_do i items s)) (scan.noted || ltb scan.page (end_of trace scan.inode)) (todo.Step (step.Mark scan.inode) ∷ todo.Silent silent.HandOver ∷ []) (todo.Silent silent.HandOver ∷ [])
+      either (λ (items : List Todo). Waiting trace (then_do i items s)) (scan.noted || ltb scan.passed scan.pages) (todo.Step (step.Mark scan.inode) ∷ todo.Silent silent.HandOver ∷ []) (todo.Silent silent.HandOver ∷ [])
       (λ again. items_waits scan (todo.Step (step.Mark scan.inode) ∷ todo.Silent silent.HandOver ∷ []) at
       (λ m some. or_right (eqb m scan.inode) _ some)
       ((subst (IsPlaced trace f) at (w.places f on.there), refl), (tt, subst (λ (x : Whose). AreBefore trace x (cpu_of i s).todo) ours (w.turns i less)))
@@ -94,21 +97,12 @@ module _ (trace : Trace) (i f : ℕ) (less : i < trace.cpus) (on : IsFlusherOn t
       (λ m some. some)
       (tt, subst (λ (x : Whose). AreBefore trace x (cpu_of i s).todo) ours (w.turns i less))
       (λ m p page same behind.
-      let none = or_parts scan.noted (ltb scan.page (end_of trace scan.inode)) over in
-      let past : end_of trace scan.inode ≤ scan.page = grind (arith, nat_tests, none.1) in
+      let none = or_parts scan.noted (ltb scan.passed scan.pages) over in
+      let past : scan.pages ≤ scan.passed = grind (arith, nat_tests, none.1) in
       ⊎_elim
-      (λ low. absurd (omega (arith, low, past, page.before_end, ap (end_of trace) same)))
+      (λ ahead. absurd (none_ahead scan p past ahead))
       (λ is. absurd (cc (sym is ∙ none.0)))
       behind))
-
-  pub close_waits : (p : ReplayPhase) → (flusher_of f s).phase ≡ p → Waiting trace (close_in trace i f p s)
-  close_waits (phase.Scanning scan) at =
-      either (Waiting trace) (is_over trace scan (length (flusher_of f s).batch)) (then_do i (close_items scan.inode (scan.noted || ltb scan.page (end_of trace scan.inode))) s) s
-      (λ over. closed_waits scan at) (λ more. w)
-  close_waits (phase.Idle until kept) at = w
-  close_waits (phase.Taken n) at = w
-  close_waits (phase.Flying n pages until) at = w
-  close_waits phase.Finished at = w
 
   -- ---- the hand over, of which the CPU's list is the first item
 
@@ -144,3 +138,25 @@ module _ (trace : Trace) (i f : ℕ) (less : i < trace.cpus) (on : IsFlusherOn t
     hand_over_waits (phase.Taken n) at = pop_waits
     hand_over_waits (phase.Flying n pages until) at = pop_waits
     hand_over_waits phase.Finished at = pop_waits
+
+-- ---- the close, at which the flusher keeps the place of its scan
+
+module _ (trace : Trace) (i f : ℕ) (less : i < trace.cpus) (on : IsFlusherOn trace i f) (s : State) (seats : length s.cpus ≡ trace.cpus)
+    (many : length s.flushers ≡ length trace.flushers) (w : Waiting trace s) (ours : (cpu_of i s).turn.whose ≡ whose.Flusher f) where
+  kept_waits : (scan : Scan) → (flusher_of f s).phase ≡ phase.Scanning scan
+      → Waiting trace (then_do i (close_items scan.inode (scan.noted || ltb scan.passed scan.pages)) (keep_place trace f scan s))
+  kept_waits scan at =
+      let x : Flusher = record (flusher_of f s) { places = places_after trace f scan (flusher_of f s).places } in
+      let u : State = keep_place trace f scan s in
+      closed_waits trace i f less on u seats (length-set s.flushers f x ∙ many)
+      (goes_on trace i f less on s seats many w x u (still_alike trace s u refl) refl (omega arith) refl refl refl refl (λ p e. e) (λ p e. e) (λ p e some. some))
+      ours scan (ap (λ (y : Flusher). y.phase) (now_is trace i f less on s seats many w x u refl) ∙ at)
+
+  pub close_waits : (p : ReplayPhase) → (flusher_of f s).phase ≡ p → Waiting trace (close_in trace i f p s)
+  close_waits (phase.Scanning scan) at =
+      either (Waiting trace) (is_over scan (length (flusher_of f s).batch)) _ s
+      (λ over. kept_waits scan at) (λ more. w)
+  close_waits (phase.Idle until kept) at = w
+  close_waits (phase.Taken n) at = w
+  close_waits (phase.Flying n pages until) at = w
+  close_waits phase.Finished at = w

@@ -10,10 +10,10 @@ use Rattle.wbt_trace.specs.declared.trace.Trace.{Trace}
 use Rattle.wbt_counter.specs.Sums.{one_if}
 use Rattle.wbt_book.specs.Ledger.{times_in}
 use Rattle.wbt_replay_moves.specs.Definition.Idle.{finish, rest_until, take, take_or_finish, take_or_rest, with_hard, scan_of, unmark_of, unmark_in, take_now, with_pairs, take_last, told_by, tell, waits, note, noticed, age, tested_by}
-use Rattle.wbt_replay_moves.specs.Definition.State.{State, cpu_of, flusher_of, queue_of, with_queue, writeback_of, in_phase, no_flusher, waiting_of, with_waiting}
-use Rattle.wbt_rules.specs.Flusher.{quota_of}
+use Rattle.wbt_replay_moves.specs.Definition.State.{State, cpu_of, flusher_of, queue_of, with_queue, in_phase, no_flusher, waiting_of, with_waiting}
 use Rattle.wbt_rules.specs.declared.scan.Scan.{Scan}
-use Rattle.wbt_rules.specs.Things.{context_of, device_at, inode_of, device_of, flusher_device}
+use Rattle.wbt_rules.specs.Things.{device_at, inode_of, device_of, flusher_device}
+use Rattle.wbt_rules.proofs.Places.{all_ahead}
 use Rattle.wbt_replay_moves.specs.declared.state.Flusher.{Flusher}
 use Rattle.wbt_replay_moves.specs.declared.state.ReplayPhase.{ReplayPhase}
 use Rattle.wbt_replay_moves.specs.declared.state.ReplayPhase.TheVariants as phase
@@ -21,7 +21,7 @@ use Rattle.wbt_replay_moves.specs.declared.state.ReplayTurn.{ReplayTurn}
 use Rattle.wbt_replay_moves.specs.declared.todo.Step.TheVariants as step
 use Rattle.wbt_replay_moves.specs.declared.todo.Todo.TheVariants as todo
 use Rattle.wbt_replay_order.specs.Definition.Order.{is_finished}
-use Rattle.wbt_replay_order.specs.Kept.Facts.{Facts, IsFlusherOn}
+use Rattle.wbt_replay_order.specs.Kept.Facts.{Facts, IsPageOf, IsFlusherOn}
 use Rattle.wbt_replay_order.specs.Kept.Sound.{AreQueued, AreQueues}
 use Rattle.wbt_replay_order.specs.Kept.Turns.{IsIdle}
 use Rattle.wbt_replay_order.specs.Kept.Waiting.{is_hand_over, IsStillOpen, IsPlaced, Waiting, pairs_in, AreListed}
@@ -30,7 +30,7 @@ use Rattle.wbt_replay_order.specs.Kept.Waiting.IsAwaited.{scanned}
 use Rattle.wbt_replay_order.proofs.Facts.Lists.{either, twice}
 use Rattle.wbt_replay_ends.proofs.Waiting.Scans.{push_waits}
 use Rattle.wbt_replay_ends.proofs.Waiting.Still.{still_alike, cpu_stays}
-use Rattle.wbt_replay_ends.proofs.Waiting.Turned.{is_parked, now_is, turned_waits, parks, goes_on, same_queue, same_lists, same_ours}
+use Rattle.wbt_replay_ends.proofs.Waiting.Turned.{is_parked, scan_in, now_is, turned_waits, parks, goes_on, same_queue, same_lists, same_ours}
 use Rattle.std.proofs.Math.ListN.{set}
 use Rattle.std.proofs.lemmas.Bool.{or_left, or_right}
 use Rattle.wbt_expiry.specs.Waiting.{Waiting as Wheel, has_inode}
@@ -303,10 +303,13 @@ module _ (trace : Trace) (facts : Facts trace) (i f : ℕ) (less : i < trace.cpu
 
     -- ---- the mark is cleared
 
-    cleared_waits : (n : ℕ) → (flusher_of f s).phase ≡ phase.Taken n → n < length s.marks → list_any is_hand_over (cpu_of i s).todo ≡ false → Waiting trace (unmark_of trace i f n s)
-    cleared_waits n at there shut =
+    cleared_waits : (n : ℕ) → (flusher_of f s).phase ≡ phase.Taken n → n < length s.marks → get_or (flusher_of f s).places n 0 < (inode_of trace n).pages
+        → list_any is_hand_over (cpu_of i s).todo ≡ false → Waiting trace (unmark_of trace i f n s)
+    cleared_waits n at there below shut =
         let p : ReplayPhase = scan_of trace f n s in
-        let quota : ℕ = quota_of (device_at trace (flusher_device trace f)) (writeback_of (context_of trace n) s).estimate.avg (flusher_of f s).hard in
+        let scan : Scan = scan_in p in
+        let low : scan.start < scan.pages =
+        either (λ (k : ℕ). k < (inode_of trace n).pages) (device_at trace (flusher_device trace f)).cyclic (get_or (flusher_of f s).places n 0) 0 (λ goes. below) (λ stays. omega (arith, below)) in
         let x : Flusher = record (flusher_of f s) { phase = p } in
         let t : State = unmark_of trace i f n s in
         let now : (flusher_of f t).phase ≡ p = ap (λ (y : Flusher). y.phase) (now_is trace i f less on s seats many w x t refl) in
@@ -330,17 +333,18 @@ module _ (trace : Trace) (facts : Facts trace) (i f : ℕ) (less : i < trace.cpu
           was_taken = λ m e found. absurd (cc (sym e ∙ (ap (λ (k : ℕ). get_or t.marks k true) (ap taken_in (sym found ∙ at)) ∙ cleared)));
           was_awaited = λ m q page found.
               let same : m ≡ n = ap taken_in (sym found ∙ at) in
-              scanned f (record { inode = n; page = (inode_of trace n).first; quota = quota; noted = false }) on.there now (sym same)
-              (inl (subst (λ (k : ℕ). (inode_of trace k).first ≤ q) same page.after_first))
+              let here : IsPageOf trace n q = subst (λ (k : ℕ). IsPageOf trace k q) same page in
+              scanned f scan on.there now (sym same) (inl (all_ahead scan q low refl here.after_first here.before_end))
               (subst (λ (k : ℕ). IsStillOpen f (cpu_of k t)) (sym on.cpu_is) (λ ours. shut));
           was_scanned = λ m q scan page e found its behind still. absurd (unscanned scan found);
           placed = subst (IsPlaced trace f) at (w.places f on.there);
           ends = λ over. absurd (cc over);
         })
 
-    pub unmark_waits : (p : ReplayPhase) → (flusher_of f s).phase ≡ p → ((n : ℕ) → p ≡ phase.Taken n → n < length s.marks) → list_any is_hand_over (cpu_of i s).todo ≡ false
-        → Waiting trace (unmark_in trace i f p s)
-    unmark_waits (phase.Taken n) at there shut = cleared_waits n at (there n refl) shut
+    pub unmark_waits : (p : ReplayPhase) → (flusher_of f s).phase ≡ p
+        → ((n : ℕ) → p ≡ phase.Taken n → (n < length s.marks) × (get_or (flusher_of f s).places n 0 < (inode_of trace n).pages))
+        → list_any is_hand_over (cpu_of i s).todo ≡ false → Waiting trace (unmark_in trace i f p s)
+    unmark_waits (phase.Taken n) at there shut = cleared_waits n at (there n refl).0 (there n refl).1 shut
     unmark_waits (phase.Scanning scan) at there shut = w
     unmark_waits (phase.Idle until kept) at there shut = w
     unmark_waits (phase.Flying n pages until) at there shut = w

@@ -119,7 +119,8 @@ module _ (trace : Trace) (facts : Facts trace) (i : ℕ) (less : i < trace.cpus)
       owner step.Unmark is (λ (y : Whose). unmark_by trace i y stepping)
       (λ task of on. gone step.Unmark is (λ n. refl))
       (λ f of on. unmark_waits trace facts i f less on stepping (seated step.Unmark is) needs.flushers.many (gone step.Unmark is (λ n. refl)) (flusher_of f s).phase refl
-      (λ n at. let is_at : (((flusher_of f s).batch ≡ []) × (n < length trace.inodes)) = subst (IsAt trace (flusher_of f s).batch) at (needs.flushers.each f).phase in omega (arith, is_at.1, needs.marks))
+      (λ n at. let is_at : (((flusher_of f s).batch ≡ []) × (n < length trace.inodes)) = subst (IsAt trace (flusher_of f s).batch) at (needs.flushers.each f).phase in
+      (omega (arith, is_at.1, needs.marks), ((needs.flushers.each f).places on.there).below n is_at.1))
       (ap (λ (l : List Todo). list_any is_hand_over l) (listed step.Unmark is) ∙ none_later rest (in_order trace facts i less s needs w (todo.Step step.Unmark) rest is).0))
   step_waits step.Look is =
       owner step.Look is (λ (y : Whose). look_by i y stepping)

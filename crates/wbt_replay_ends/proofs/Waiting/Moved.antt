@@ -7,6 +7,7 @@ use Rattle.wbt_trace.specs.declared.trace.Trace.{Trace}
 use Rattle.wbt_book.specs.Ledger.{times_in}
 use Rattle.wbt_expiry.specs.Waiting.{has_inode}
 use Rattle.wbt_replay_moves.specs.Definition.State.{State, cpu_of, flusher_of, waiting_of, queue_of}
+use Rattle.wbt_rules.specs.Places.{IsAhead}
 use Rattle.wbt_rules.specs.declared.scan.Scan.{Scan}
 use Rattle.wbt_rules.specs.Things.{device_of, flusher_cpu, flusher_device}
 use Rattle.wbt_replay_moves.specs.declared.state.Flusher.{Flusher}
@@ -34,7 +35,7 @@ pub record Moved (trace : Trace) (f : ℕ) (s t : State) : Type 0 where
   pub was_taken : (n : ℕ) → n < length trace.inodes → get_or t.marks n true ≡ true → f < length trace.flushers → (flusher_of f s).phase ≡ phase.Taken n → IsTakeable trace t n
   pub was_awaited : (n p : ℕ) → IsPageOf trace n p → f < length trace.flushers → (flusher_of f s).phase ≡ phase.Taken n → IsAwaited trace t n p
   pub was_scanned : (n p : ℕ) (scan : Scan) → IsPageOf trace n p → (t.book p).dirty ≡ true → f < length trace.flushers
-      → (flusher_of f s).phase ≡ phase.Scanning scan → scan.inode ≡ n → (scan.page ≤ p) ⊎ (scan.noted ≡ true)
+      → (flusher_of f s).phase ≡ phase.Scanning scan → scan.inode ≡ n → IsAhead scan p ⊎ (scan.noted ≡ true)
       → IsStillOpen f (cpu_of (flusher_cpu trace f) s) → IsAwaited trace t n p
   pub was_held : (p : ℕ) → (t.book p).writeback ≡ true → 1 ≤ times_in p (flusher_of f s).batch → 1 ≤ times_in p (flusher_of f t).batch
   pub placed : f < length trace.flushers → IsPlaced trace f (flusher_of f t).phase

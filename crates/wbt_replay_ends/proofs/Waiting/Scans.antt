@@ -13,6 +13,7 @@ use Rattle.wbt_journal.specs.declared.entry.Entry.TheVariants as entry
 use Rattle.wbt_replay_moves.specs.Definition.Cpu.{then_do, log_at}
 use Rattle.wbt_replay_moves.specs.Definition.Scan.{look_in, looked_at, claim_in, claim_now}
 use Rattle.wbt_replay_moves.specs.Definition.State.{State, cpu_of, flusher_of, with_flusher, with_event, in_phase}
+use Rattle.wbt_rules.specs.Places.{page_of}
 use Rattle.wbt_rules.specs.declared.scan.Scan.{Scan}
 use Rattle.wbt_replay_moves.specs.declared.state.Flusher.{Flusher}
 use Rattle.wbt_replay_moves.specs.declared.state.ReplayPhase.{ReplayPhase}
@@ -47,21 +48,21 @@ still_noted b false e = absurd (cc e)
 
 module _ (trace : Trace) (i f : ℕ) (less : i < trace.cpus) (on : IsFlusherOn trace i f) (s : State) (seats : length s.cpus ≡ trace.cpus)
     (many : length s.flushers ≡ length trace.flushers) (w : Waiting trace s) where
-  looked_waits : (scan : Scan) → (flusher_of f s).phase ≡ phase.Scanning scan → Waiting trace (looked_at i f scan (s.book scan.page) s)
+  looked_waits : (scan : Scan) → (flusher_of f s).phase ≡ phase.Scanning scan → Waiting trace (looked_at i f scan (s.book (page_of scan)) s)
   looked_waits scan at =
-      let then : Bool = scan.noted || ((s.book scan.page).dirty && (s.book scan.page).writeback) in
-      let p : ReplayPhase = phase.Scanning (record scan { page = scan.page + 1; noted = then }) in
+      let then : Bool = scan.noted || ((s.book (page_of scan)).dirty && (s.book (page_of scan)).writeback) in
+      let p : ReplayPhase = phase.Scanning (record scan { passed = scan.passed + 1; noted = then }) in
       let u : State = in_phase f p s in
-      either (Waiting trace) (is_claimable (s.book scan.page)) (then_do i (todo.Step (step.Claim (shared_word s.book scan.page)) ∷ []) s) (then_do i (todo.Silent silent.Close ∷ []) u)
-      (λ can. push_waits trace i (todo.Step (step.Claim (shared_word s.book scan.page)) ∷ []) s _ (refl, tt) w refl (omega arith) refl refl refl refl)
+      either (Waiting trace) (is_claimable (s.book (page_of scan))) (then_do i (todo.Step (step.Claim (shared_word s.book (page_of scan))) ∷ []) s) (then_do i (todo.Silent silent.Close ∷ []) u)
+      (λ can. push_waits trace i (todo.Step (step.Claim (shared_word s.book (page_of scan))) ∷ []) s _ (refl, tt) w refl (omega arith) refl refl refl refl)
       (λ no. push_waits trace i (todo.Silent silent.Close ∷ []) u _ (refl, tt)
       (passes trace i f less on s seats many w (record (flusher_of f s) { phase = p }) u scan then (still_alike trace s u refl) refl (omega arith) refl refl at refl refl
-      (λ k is. is) (λ k is. inl is) (λ k some. some) (λ is. noted_now (s.book scan.page).dirty (s.book scan.page).writeback scan.noted no is)
-      (λ is. still_noted ((s.book scan.page).dirty && (s.book scan.page).writeback) scan.noted is))
+      (λ k is. is) (λ k is. inl is) (λ k some. some) (λ is. noted_now (s.book (page_of scan)).dirty (s.book (page_of scan)).writeback scan.noted no is)
+      (λ is. still_noted ((s.book (page_of scan)).dirty && (s.book (page_of scan)).writeback) scan.noted is))
       refl (omega arith) refl refl refl refl)
 
   pub look_waits : (p : ReplayPhase) → (flusher_of f s).phase ≡ p → Waiting trace (look_in i f p s)
-  look_waits (phase.Scanning scan) at = still trace (looked_at i f scan (s.book scan.page) s) _ (looked_waits scan at) refl (omega arith) refl refl refl refl
+  look_waits (phase.Scanning scan) at = still trace (looked_at i f scan (s.book (page_of scan)) s) _ (looked_waits scan at) refl (omega arith) refl refl refl refl
   look_waits (phase.Idle until kept) at = w
   look_waits (phase.Taken n) at = w
   look_waits (phase.Flying n pages until) at = w
@@ -69,22 +70,22 @@ module _ (trace : Trace) (i f : ℕ) (less : i < trace.cpus) (on : IsFlusherOn t
 
   claimed_waits : (scan : Scan) → (flusher_of f s).phase ≡ phase.Scanning scan → Waiting trace (claim_now i f scan s)
   claimed_waits scan at =
-      let x : Flusher = record (flusher_of f s) { phase = phase.Scanning (record scan { page = scan.page + 1 }); batch = (flusher_of f s).batch ++ scan.page ∷ [] } in
-      let u : State = with_flusher f x (with_event (event.Claim scan.page) scan.page s) in
-      let v : State = log_at i (entry.Claimed f scan.page) u in
-      let now : u.book scan.page ≡ bits_after (event.Claim scan.page) (s.book scan.page) = put_same s.book scan.page (bits_after (event.Claim scan.page) (s.book scan.page)) in
-      let elsewhere : (p : ℕ) → p ≢ scan.page → u.book p ≡ s.book p = λ p other. put_other s.book scan.page (bits_after (event.Claim scan.page) (s.book scan.page)) p other in
-      let itself : (p : ℕ) → p ≡ scan.page → u.book p ≡ bits_after (event.Claim scan.page) (s.book scan.page) = λ p same. ap u.book same ∙ now in
+      let x : Flusher = record (flusher_of f s) { phase = phase.Scanning (record scan { passed = scan.passed + 1 }); batch = (flusher_of f s).batch ++ page_of scan ∷ [] } in
+      let u : State = with_flusher f x (with_event (event.Claim (page_of scan)) (page_of scan) s) in
+      let v : State = log_at i (entry.Claimed f (page_of scan)) u in
+      let now : u.book (page_of scan) ≡ bits_after (event.Claim (page_of scan)) (s.book (page_of scan)) = put_same s.book (page_of scan) (bits_after (event.Claim (page_of scan)) (s.book (page_of scan))) in
+      let elsewhere : (p : ℕ) → p ≢ page_of scan → u.book p ≡ s.book p = λ p other. put_other s.book (page_of scan) (bits_after (event.Claim (page_of scan)) (s.book (page_of scan))) p other in
+      let itself : (p : ℕ) → p ≡ page_of scan → u.book p ≡ bits_after (event.Claim (page_of scan)) (s.book (page_of scan)) = λ p same. ap u.book same ∙ now in
       push_waits trace i (todo.Silent silent.Close ∷ []) v _ (refl, tt)
-      (cpu_stays trace i (record (cpu_of i u) { entries = (cpu_of i u).entries ++ entry.Claimed f scan.page ∷ [] }) u v
+      (cpu_stays trace i (record (cpu_of i u) { entries = (cpu_of i u).entries ++ entry.Claimed f (page_of scan) ∷ [] }) u v
       (passes trace i f less on s seats many w x u scan scan.noted (still_alike trace s u refl) refl (omega arith) refl refl at refl refl
-      (λ p is. dite (ℕ_discrete p scan.page)
+      (λ p is. dite (ℕ_discrete p (page_of scan))
       (λ same. absurd (cc (sym is ∙ ap (λ (b : Bits). b.dirty) (itself p same))))
       (λ other. sym (ap (λ (b : Bits). b.dirty) (elsewhere p other)) ∙ is))
-      (λ p is. dite (ℕ_discrete p scan.page)
-      (λ same. inr (omega (arith, times_in-append p (flusher_of f s).batch (scan.page ∷ []), ap one_if (eq-eqb p scan.page same))))
+      (λ p is. dite (ℕ_discrete p (page_of scan))
+      (λ same. inr (omega (arith, times_in-append p (flusher_of f s).batch (page_of scan ∷ []), ap one_if (eq-eqb p (page_of scan) same))))
       (λ other. inl (sym (ap (λ (b : Bits). b.writeback) (elsewhere p other)) ∙ is)))
-      (λ p some. omega (arith, some, times_in-append p (flusher_of f s).batch (scan.page ∷ [])))
+      (λ p some. omega (arith, some, times_in-append p (flusher_of f s).batch (page_of scan ∷ [])))
       (λ is. absurd (cc (sym is ∙ ap (λ (b : Bits). b.dirty) now)))
       (λ is. is))
       (same_alike trace (cpu_of i u) _ refl refl) refl (omega arith) refl refl refl refl)
@@ -92,7 +93,7 @@ module _ (trace : Trace) (i f : ℕ) (less : i < trace.cpus) (on : IsFlusherOn t
 
   pub claim_waits : (word : ℕ) (p : ReplayPhase) → (flusher_of f s).phase ≡ p → Waiting trace (claim_in i f word p s)
   claim_waits word (phase.Scanning scan) at =
-      either (λ (u : State). Waiting trace (record u { steps = (claim_in i f word (phase.Scanning scan) s).steps })) (eqb (shared_word s.book scan.page) word) (claim_now i f scan s) s
+      either (λ (u : State). Waiting trace (record u { steps = (claim_in i f word (phase.Scanning scan) s).steps })) (eqb (shared_word s.book (page_of scan)) word) (claim_now i f scan s) s
       (λ hit. still trace (claim_now i f scan s) _ (claimed_waits scan at) refl (omega arith) refl refl refl refl)
       (λ missed. still trace s _ w refl (omega arith) refl refl refl refl)
   claim_waits word (phase.Idle until kept) at = w

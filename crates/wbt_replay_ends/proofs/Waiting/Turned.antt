@@ -2,12 +2,12 @@
 use Rattle.std.proofs.Common.{◌≡◌, ◌⊎◌, ℕ, ◌+◌, ◌<◌, ◌≤◌, Bool, true, false, List, [], length, get_or, sym, ◌∙◌, ap, subst, arith, inl, inr, ⊎_elim}
 use Rattle.std.proofs.Math.ListN.{set}
 use Rattle.std.proofs.lemmas.List.{get_or-set_same, get_or-set_other}
-use mathlib.Core.Logic.{dite}
-use native.Mathlib.Decide.{ℕ_discrete}
 use Rattle.wbt_trace.specs.declared.trace.Trace.{Trace}
 use Rattle.wbt_book.specs.Ledger.{times_in}
 use Rattle.wbt_expiry.specs.Waiting.{has_inode}
 use Rattle.wbt_replay_moves.specs.Definition.State.{State, no_flusher, cpu_of, flusher_of, waiting_of, queue_of}
+use Rattle.wbt_rules.specs.Places.{page_of, IsAhead}
+use Rattle.wbt_rules.proofs.Places.{next_or_ahead}
 use Rattle.wbt_rules.specs.declared.scan.Scan.{Scan}
 use Rattle.wbt_rules.specs.Things.{device_of, flusher_cpu, flusher_device}
 use Rattle.wbt_replay_moves.specs.declared.state.Flusher.{Flusher}
@@ -38,7 +38,7 @@ pub record Turned (trace : Trace) (i f : ℕ) (x : Flusher) (s t : State) : Type
   pub was_taken : (n : ℕ) → get_or t.marks n true ≡ true → (flusher_of f s).phase ≡ phase.Taken n → IsTakeable trace t n
   pub was_awaited : (n p : ℕ) → IsPageOf trace n p → (flusher_of f s).phase ≡ phase.Taken n → IsAwaited trace t n p
   pub was_scanned : (n p : ℕ) (scan : Scan) → IsPageOf trace n p → (t.book p).dirty ≡ true
-      → (flusher_of f s).phase ≡ phase.Scanning scan → scan.inode ≡ n → (scan.page ≤ p) ⊎ (scan.noted ≡ true) → IsStillOpen f (cpu_of i s) → IsAwaited trace t n p
+      → (flusher_of f s).phase ≡ phase.Scanning scan → scan.inode ≡ n → IsAhead scan p ⊎ (scan.noted ≡ true) → IsStillOpen f (cpu_of i s) → IsAwaited trace t n p
   pub placed : IsPlaced trace f x.phase
   pub ends : is_finished x.phase ≡ true
       → (is_finished (flusher_of f s).phase ≡ true) ⊎ ((s.running ≡ 0) × (length (queue_of (flusher_device trace f) t) ≡ 0))
@@ -54,7 +54,7 @@ is_parked phase.Finished = true
 -- how far a scan has come
 abbrev pub scan_in : ReplayPhase → Scan
 scan_in (phase.Scanning scan) = scan
-scan_in p = record { inode = 0; page = 0; quota = 0; noted = false }
+scan_in p = record { inode = 0; first = 0; pages = 0; start = 0; passed = 0; quota = 0; noted = false }
 
 parked_placed : (trace : Trace) (f : ℕ) (p : ReplayPhase) → is_parked p ≡ true → IsPlaced trace f p
 parked_placed trace f (phase.Idle until kept) e = tt
@@ -148,7 +148,7 @@ module _ (trace : Trace) (i f : ℕ) (less : i < trace.cpus) (on : IsFlusherOn t
   pub parks : ((j : ℕ) → Alike trace (cpu_of j s) (cpu_of j t)) → t.flushers ≡ set s.flushers f x → t.running ≤ s.running → t.marks ≡ s.marks → t.queues ≡ s.queues → t.book ≡ s.book
       → x.batch ≡ (flusher_of f s).batch → pairs_in x ≡ (waiting_of f s).pairs → is_parked x.phase ≡ true
       → ((n : ℕ) → (flusher_of f s).phase ≡ phase.Taken n → ⊥)
-      → ((n p : ℕ) (scan : Scan) → IsPageOf trace n p → (flusher_of f s).phase ≡ phase.Scanning scan → scan.inode ≡ n → (scan.page ≤ p) ⊎ (scan.noted ≡ true) → IsStillOpen f (cpu_of i s) → ⊥)
+      → ((n p : ℕ) (scan : Scan) → IsPageOf trace n p → (flusher_of f s).phase ≡ phase.Scanning scan → scan.inode ≡ n → IsAhead scan p ⊎ (scan.noted ≡ true) → IsStillOpen f (cpu_of i s) → ⊥)
       → (is_finished x.phase ≡ true → (is_finished (flusher_of f s).phase ≡ true) ⊎ ((s.running ≡ 0) × (length (queue_of (flusher_device trace f) t) ≡ 0)))
       → (is_finished x.phase ≡ true → (waiting_of f s).pairs ≡ [])
       → Waiting trace t
@@ -175,19 +175,19 @@ module _ (trace : Trace) (i f : ℕ) (less : i < trace.cpus) (on : IsFlusherOn t
 
   -- Its scan goes past a page, which is clean then or noted.
   pub passes : (scan : Scan) (then : Bool) → ((j : ℕ) → Alike trace (cpu_of j s) (cpu_of j t)) → t.flushers ≡ set s.flushers f x → t.running ≤ s.running → t.marks ≡ s.marks
-      → t.queues ≡ s.queues → (flusher_of f s).phase ≡ phase.Scanning scan → x.phase ≡ phase.Scanning (record scan { page = scan.page + 1; noted = then }) → pairs_in x ≡ (waiting_of f s).pairs
+      → t.queues ≡ s.queues → (flusher_of f s).phase ≡ phase.Scanning scan → x.phase ≡ phase.Scanning (record scan { passed = scan.passed + 1; noted = then }) → pairs_in x ≡ (waiting_of f s).pairs
       → ((p : ℕ) → (t.book p).dirty ≡ true → (s.book p).dirty ≡ true)
       → ((p : ℕ) → (t.book p).writeback ≡ true → ((s.book p).writeback ≡ true) ⊎ (1 ≤ times_in p x.batch))
       → ((p : ℕ) → 1 ≤ times_in p (flusher_of f s).batch → 1 ≤ times_in p x.batch)
-      → ((t.book scan.page).dirty ≡ true → then ≡ true) → (scan.noted ≡ true → then ≡ true) → Waiting trace t
+      → ((t.book (page_of scan)).dirty ≡ true → then ≡ true) → (scan.noted ≡ true → then ≡ true) → Waiting trace t
   passes scan then alike flushers running marks queues at to kept dirties flights held here_noted goes =
-      let next : Scan = record scan { page = scan.page + 1; noted = then } in
+      let next : Scan = record scan { passed = scan.passed + 1; noted = then } in
       let now : (flusher_of f t).phase ≡ phase.Scanning next = ap (λ (y : Flusher). y.phase) (now_is flushers) ∙ to in
-      let behind_it : (p : ℕ) → (t.book p).dirty ≡ true → (scan.page ≤ p) ⊎ (scan.noted ≡ true) → (scan.page + 1 ≤ p) ⊎ (then ≡ true) =
+      let behind_it : (p : ℕ) → (t.book p).dirty ≡ true → IsAhead scan p ⊎ (scan.noted ≡ true) → IsAhead next p ⊎ (then ≡ true) =
       λ p is behind. ⊎_elim
-      (λ low. dite (ℕ_discrete p scan.page)
-      (λ here. inr (here_noted (ap (λ (j : ℕ). (t.book j).dirty) (sym here) ∙ is)))
-      (λ past. inl (omega (arith, low, past))))
+      (λ ahead. ⊎_elim
+      (λ here. inr (here_noted (ap (λ (j : ℕ). (t.book j).dirty) here ∙ is)))
+      (λ later. inl later) (next_or_ahead scan p ahead))
       (λ was. inr (goes was)) behind in
       turned_waits (record {
         flushers = flushers;
@@ -206,7 +206,7 @@ module _ (trace : Trace) (i f : ℕ) (less : i < trace.cpus) (on : IsFlusherOn t
         was_awaited = λ m p here found. absurd (cc (sym found ∙ at));
         was_scanned = λ m p old here is found its behind still.
             let same : old ≡ scan = ap scan_in (sym found ∙ at) in
-            scanned f next on.there now (ap (λ (y : Scan). y.inode) (sym same) ∙ its) (behind_it p is (subst (λ (y : Scan). (y.page ≤ p) ⊎ (y.noted ≡ true)) same behind))
+            scanned f next on.there now (ap (λ (y : Scan). y.inode) (sym same) ∙ its) (behind_it p is (subst (λ (y : Scan). IsAhead y p ⊎ (y.noted ≡ true)) same behind))
             (still_open alike still);
         placed = subst (IsPlaced trace f) (sym to) (subst (IsPlaced trace f) at (w.places f on.there));
         ends = λ over. absurd (cc (sym over ∙ ap is_finished to));

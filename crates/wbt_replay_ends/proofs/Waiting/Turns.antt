@@ -1,5 +1,5 @@
 -- The beginning of a turn keeps it that what is still to be cleaned waits.
-use Rattle.std.proofs.Common.{◌≡◌, ℕ, zero, suc, ◌+◌, ◌<◌, leb, List, [], ◌∷◌, ◌++◌, length, refl, sym, ◌∙◌, ap, subst, arith, eqb-true}
+use Rattle.std.proofs.Common.{◌≡◌, ℕ, zero, suc, ◌+◌, ◌<◌, leb, List, [], ◌∷◌, ◌++◌, length, refl, sym, ◌∙◌, ap, subst, arith, eqb-true, Option, None, Some}
 use Rattle.std.proofs.lemmas.List.{get_or-set_same, length-set}
 use Rattle.wbt_trace.specs.declared.trace.Trace.{Trace}
 use Rattle.wbt_counter.specs.declared.counter.Counter.TheVariants.{Context}
@@ -9,7 +9,7 @@ use Rattle.wbt_replay_moves.specs.Definition.Idle.{begin_idle, begin_test, domai
 use Rattle.wbt_replay_moves.specs.Definition.Perform.{begin_turn, begin_for, begin_phase}
 use Rattle.wbt_replay_moves.specs.Definition.State.{State, no_cpu, cpu_of, flusher_of, with_cpu, task_of, with_task, writeback_of, is_drained, waiting_of}
 use Rattle.wbt_rules.specs.Things.{group_of}
-use Rattle.wbt_replay_moves.specs.Definition.Writer.{check_items, begin_due, begin_work}
+use Rattle.wbt_replay_moves.specs.Definition.Writer.{check_items, pause_in, begin_due, begin_page, begin_work}
 use Rattle.wbt_replay_moves.specs.declared.state.Cpu.{Cpu}
 use Rattle.wbt_replay_moves.specs.declared.state.ReplayPhase.{ReplayPhase}
 use Rattle.wbt_replay_moves.specs.declared.state.ReplayPhase.TheVariants as phase
@@ -70,13 +70,20 @@ last_waits trace cpu items s calm w =
 -- ---- turns
 
 module _ (trace : Trace) (facts : Facts trace) (i : ℕ) (less : i < trace.cpus) where
+  -- a page that is written next, or a rest right before it
+  page_waits : (task : ℕ) (pause : Option ℕ) (s : State) → Waiting trace s → Waiting trace (begin_page i task pause s)
+  page_waits task None s w =
+      cpu_stays trace i (record (cpu_of i s) { todo = todo.Step step.Dirty ∷ todo.Silent silent.End ∷ (cpu_of i s).todo }) s _ w (write_alike trace (cpu_of i s)) refl (omega arith) refl refl refl refl
+  page_waits task (Some ticks) s w =
+      let t : ReplayTask = record (task_of task s) { since = 0; rest = s.now + ticks } in
+      push_waits trace i (todo.Silent silent.End ∷ []) (with_task task t s) _ (refl, tt) (still trace s (with_task task t s) w refl (omega arith) refl refl refl refl) refl (omega arith) refl refl refl refl
+
   work_waits : (task : ℕ) (works : List ReplayWork) (s : State) → Waiting trace s → Waiting trace (begin_work i task works s)
   work_waits task [] s w = push_waits trace i (todo.Silent silent.End ∷ []) s _ (refl, tt) w refl (omega arith) refl refl refl refl
   work_waits task (work.Rest ticks ∷ works) s w =
       let t : ReplayTask = record (task_of task s) { works = works; rest = s.now + ticks } in
       push_waits trace i (todo.Silent silent.End ∷ []) (with_task task t s) _ (refl, tt) (still trace s (with_task task t s) w refl (omega arith) refl refl refl refl) refl (omega arith) refl refl refl refl
-  work_waits task (work.Write n q pages ∷ works) s w =
-      cpu_stays trace i (record (cpu_of i s) { todo = todo.Step step.Dirty ∷ todo.Silent silent.End ∷ (cpu_of i s).todo }) s _ w (write_alike trace (cpu_of i s)) refl (omega arith) refl refl refl refl
+  work_waits task (work.Write n q pages ∷ works) s w = page_waits task (pause_in (task_of task s)) s w
 
   due_waits : (task : ℕ) (d : Due) (s : State) → Waiting trace s → Waiting trace (begin_due trace i task d s)
   due_waits task due.Check s w =

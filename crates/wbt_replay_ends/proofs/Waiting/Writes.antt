@@ -15,7 +15,7 @@ use Rattle.wbt_journal.specs.declared.entry.Entry.TheVariants as entry
 use Rattle.wbt_replay_moves.specs.Definition.Cpu.{owed_to, log_at}
 use Rattle.wbt_replay_moves.specs.Definition.State.{State, no_cpu, no_flusher, cpu_of, task_of, with_task, with_event}
 use Rattle.wbt_rules.specs.Things.{context_of, device_of, group_of, flusher_cpu}
-use Rattle.wbt_replay_moves.specs.Definition.Writer.{dirty_next, dirty_page, dirty_fresh, count_page, counted_local, without_page}
+use Rattle.wbt_replay_moves.specs.Definition.Writer.{dirty_next, dirty_page, dirty_fresh, count_page, counted_local, passed_page}
 use Rattle.wbt_replay_moves.specs.declared.state.Cpu.{Cpu}
 use Rattle.wbt_replay_moves.specs.declared.state.ReplayTask.{ReplayTask}
 use Rattle.wbt_replay_moves.specs.declared.state.Whose.{Whose}
@@ -145,5 +145,5 @@ module _ (trace : Trace) (facts : Facts trace) (i task : ℕ) (less : i < trace.
   dirty_waits [] s seats w ours ends page = w
   dirty_waits (work.Rest ticks ∷ works) s seats w ours ends page = w
   dirty_waits (work.Write n q pages ∷ works) s seats w ours ends page =
-      let t : ReplayTask = record (task_of task s) { works = without_page n q pages works } in
+      let t : ReplayTask = passed_page n q pages works (task_of task s) in
       page_waits n q (with_task task t s) seats (still trace s (with_task task t s) w refl (omega arith) refl refl refl refl) ours ends (page n q pages works refl)

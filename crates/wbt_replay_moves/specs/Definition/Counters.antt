@@ -18,6 +18,7 @@ use Rattle.wbt_replay_moves.specs.declared.state.Found.{Found}
 use Rattle.wbt_replay_moves.specs.declared.state.Held.{Held}
 use Rattle.wbt_replay_moves.specs.declared.state.ReplayTurn.{ReplayTurn}
 
+-- an event is added to the CPU's own number of a counter
 abbrev pub add : (trace : Trace) (cpu : ℕ) (x : Counter) (change : ℤ) (s : State) → State
 add trace cpu x change s =
     plain_step cpu kind.Add
@@ -31,11 +32,13 @@ counted n count = record { version = count.version + 1; value = count.value +ℤ
 abbrev pub fold_of : (x : Counter) (count : Count) (c : Cpu) → Cpu
 fold_of x count c = logged (entry.Folded (record { counter = x; version = count.version + 1; delta = own_of x c })) c
 
+-- the CPU's own number is folded into the shared count, which gets its next version
 abbrev pub fold : (cpu : ℕ) (x : Counter) (s : State) → State
 fold cpu x s =
     plain_step cpu kind.Fold
     (with_cpu cpu (fold_of x (count_of x s) (cpu_of cpu s)) (with_count x (counted (own_of x (cpu_of cpu s)) (count_of x s)) s))
 
+-- the CPU's own number is cleared, after its fold
 abbrev pub clear : (cpu : ℕ) (x : Counter) (s : State) → State
 clear cpu x s = plain_step cpu kind.Clear (with_cpu cpu (with_own x (pos 0) (cpu_of cpu s)) s)
 
@@ -45,6 +48,7 @@ clear cpu x s = plain_step cpu kind.Clear (with_cpu cpu (with_own x (pos 0) (cpu
 abbrev pub word_of : (d : DomainState) → Found
 word_of d = record { sequence = d.sequence; hard = d.limits.hard }
 
+-- the first step of a load: the turn keeps the sequence word that it finds
 abbrev pub load_first : (cpu domain : ℕ) (s : State) → State
 load_first cpu domain s =
     let c = cpu_of cpu s in
@@ -67,12 +71,15 @@ abbrev pub limits_kept : (domain : ℕ) (held : Held) (turn : ReplayTurn) → Re
 limits_kept zero held turn = record turn { global = record turn.global { version = held.version; limits = held.limits } }
 limits_kept (suc cgroup) held turn = record turn { cgroup = record turn.cgroup { version = held.version; limits = held.limits } }
 
+-- the CPU and its turn keep these limits of a domain
 abbrev pub keeps : (domain : ℕ) (held : Held) (c : Cpu) → Cpu
 keeps domain held c = record c { held = set c.held domain held; turn = limits_kept domain held c.turn }
 
+-- the CPU holds the published limits where they were read whole, and else those that it held
 abbrev pub holds : (domain : ℕ) (d : DomainState) (c : Cpu) → Cpu
 holds domain d c = keeps domain (held_after c.turn.found d (get_or c.held domain no_held)) c
 
+-- the last step of a load: the sequence word is compared, and the limits are kept
 abbrev pub load_limits : (cpu domain : ℕ) (s : State) → State
 load_limits cpu domain s = plain_step cpu kind.Limits (with_cpu cpu (holds domain (domain_of domain s) (cpu_of cpu s)) s)
 
@@ -80,6 +87,7 @@ load_limits cpu domain s = plain_step cpu kind.Limits (with_cpu cpu (holds domai
 abbrev pub is_over : (limits : Limits) (count : Count) → Bool
 is_over limits count = is_over_background (at_least_zero count.value) limits
 
+-- the turn keeps a count that was loaded, and whether the domain is over background by it
 abbrev pub count_kept : (x : Counter) (count : Count) (turn : ReplayTurn) → ReplayTurn
 count_kept (Context context) count turn = record turn { context = count }
 count_kept (Domain zero) count turn =
@@ -87,6 +95,7 @@ count_kept (Domain zero) count turn =
 count_kept (Domain (suc cgroup)) count turn =
     record turn { cgroup = record turn.cgroup { count = count }; over = turn.over || is_over turn.cgroup.limits count }
 
+-- the CPU loads a shared count
 abbrev pub load_count : (cpu : ℕ) (x : Counter) (s : State) → State
 load_count cpu x s =
     let c = cpu_of cpu s in

@@ -29,15 +29,18 @@ sample_by turn read w = record {
   below_setpoint = nat_lt read.dirty (setpoint read.limits);
 }
 
+-- what the update of a context's estimate is made of
 abbrev pub sample_of : (trace : Trace) (context : ℕ) (turn : ReplayTurn) (s : State) → Sample
 sample_of trace context turn s = sample_by turn (global_read trace context turn s) (writeback_of context s)
 
+-- a context gets its new estimate, which goes into the journal; where there is none nothing changes
 abbrev pub estimate_to : (cpu context : ℕ) (found : Option Estimate) (s : State) → State
 estimate_to cpu context None s = s
 estimate_to cpu context (Some estimate) s =
     with_cpu cpu (estimated (record { context = context; estimate = estimate }) (cpu_of cpu s))
     (with_writeback context (record (writeback_of context s) { estimate = estimate }) s)
 
+-- a context's estimate is updated where it is old enough
 abbrev pub estimate : (trace : Trace) (cpu context : ℕ) (s : State) → State
 estimate trace cpu context s =
     estimate_to cpu context (update_of (writeback_of context s).estimate (sample_of trace context (cpu_of cpu s).turn s)) s

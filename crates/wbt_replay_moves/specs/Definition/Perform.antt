@@ -63,6 +63,7 @@ make_timer_step trace (timer_step.Unseal domain) s = unseal domain s
 make_timer_step trace (timer_step.Thresh domain) s = thresh s
 make_timer_step trace (timer_step.Publish domain) s = publish domain s
 
+-- a silent move of the timer's turn
 unfoldable pub make_timer_move : (item : TimerSilent) (s : State) → State
 make_timer_move (timer_silent.Period domain) s = period domain s
 make_timer_move timer_silent.Rest s = rest s
@@ -73,6 +74,7 @@ with_made cpu s = with_cpu cpu (record (cpu_of cpu s) { made = (cpu_of cpu s).ma
 
 -- ---- what a flusher's turn begins with
 
+-- the first item of a flusher's turn, by its phase
 abbrev pub begin_phase : (trace : Trace) (cpu flusher : ℕ) (phase : ReplayPhase) (s : State) → State
 begin_phase trace cpu flusher (phase.Idle until kept) s = begin_idle trace cpu flusher s
 begin_phase trace cpu flusher (phase.Taken inode) s = then_do cpu (todo.Step step.Unmark ∷ []) s
@@ -80,6 +82,7 @@ begin_phase trace cpu flusher (phase.Scanning scan) s = then_do cpu (todo.Step s
 begin_phase trace cpu flusher (phase.Flying inode pages until) s = then_do cpu (todo.Step step.Complete ∷ []) s
 begin_phase trace cpu flusher phase.Finished s = s
 
+-- a flusher's turn begins
 abbrev pub begin_flush : (trace : Trace) (cpu flusher : ℕ) (s : State) → State
 begin_flush trace cpu flusher s = begin_phase trace cpu flusher (flusher_of flusher s).phase s
 

@@ -22,6 +22,7 @@ use Rattle.wbt_replay_moves.specs.declared.todo.TimerStep.TheVariants as step
 abbrev pub timer_number : (s : State) → ℕ
 timer_number s = length s.cpus
 
+-- the state with this timer
 abbrev pub with_timer : (timer : Timer) (s : State) → State
 with_timer timer s = record s { timer = timer }
 
@@ -32,6 +33,7 @@ abbrev pub reads_global : (domain reading : ℕ) (timer : Timer) → Timer
 reads_global zero reading timer = record timer { global = reading }
 reads_global (suc cgroup) reading timer = timer
 
+-- the timer finds a domain's limits by its reading and the hard limit before
 abbrev pub finds : (trace : Trace) (domain before reading : ℕ) (timer : Timer) → Timer
 finds trace domain before reading timer = record timer {
   limits = limits_after (thresholds_at trace timer.began domain timer.global reading) before reading;
@@ -44,11 +46,13 @@ load trace domain s =
     plain_step (timer_number s) kind.Count
     (with_timer (finds trace domain (domain_of domain s).limits.hard reading (reads_global domain reading s.timer)) s)
 
+-- a step was made that may raise a domain's peak to this hard limit
 abbrev pub raised : (domain hard : ℕ) (s : State) → State
 raised domain hard s = record s {
   steps = s.steps ++ (record { who = timer_number s; kind = kind.Peak; context = 0; change = pos 0; domain = domain; peak = hard }) ∷ [];
 }
 
+-- the domain's peak is raised to the hard limit that is to be published, where it is less
 abbrev pub peak : (domain : ℕ) (s : State) → State
 peak domain s =
     raised domain s.timer.limits.hard
@@ -58,15 +62,19 @@ peak domain s =
 abbrev pub sequenced : (domain : ℕ) (s : State) → State
 sequenced domain s = with_domain domain (record (domain_of domain s) { sequence = (domain_of domain s).sequence + 1 }) s
 
+-- the first of the three steps: the sequence becomes odd
 abbrev pub unseal : (domain : ℕ) (s : State) → State
 unseal domain s = plain_step (timer_number s) kind.Unseal (sequenced domain s)
 
+-- the second of the three steps: the thresh word is written
 abbrev pub thresh : (s : State) → State
 thresh s = plain_step (timer_number s) kind.Thresh s
 
+-- the timer with a further entry in its part of the journal
 abbrev pub timer_logged : (e : TimerEntry) (timer : Timer) → Timer
 timer_logged e timer = record timer { entries = timer.entries ++ e ∷ [] }
 
+-- the last of the three steps: the sequence becomes even, and the limits stand published
 abbrev pub publish : (domain : ℕ) (s : State) → State
 publish domain s =
     plain_step (timer_number s) kind.Publish
@@ -79,14 +87,17 @@ publish domain s =
 abbrev pub is_time : (timer : Timer) → Bool
 is_time timer = nat_le timer.period timer.began
 
+-- how many periods have come by the turn
 abbrev pub periods : (timer : Timer) → ℕ
 periods timer = periods_by timer.began timer.period
 
+-- a domain gets its events after these periods, which go into the journal; where they were refused nothing changes
 abbrev pub period_to : (domain k : ℕ) (found : Option Half) (s : State) → State
 period_to domain k None s = s
 period_to domain k (Some events) s =
     with_timer (timer_logged (entry.Period domain k) s.timer) (with_domain domain (record (domain_of domain s) { events = events }) s)
 
+-- a domain's periods begin where it is time
 abbrev pub period : (domain : ℕ) (s : State) → State
 period domain s =
     if is_time s.timer
@@ -100,6 +111,7 @@ rested timer = record timer {
   period = next_period timer.began timer.period;
 }
 
+-- the silent move that ends the timer's turn
 abbrev pub rest : (s : State) → State
 rest s = with_timer (rested s.timer) s
 
@@ -112,12 +124,15 @@ domain_turns (suc count) domain =
     todo.Step (step.Count domain) ∷ todo.Step (step.Peak domain)
     ∷ todo.Step (step.Unseal domain) ∷ todo.Step (step.Thresh domain) ∷ todo.Step (step.Publish domain) ∷ domain_turns count (domain + 1)
 
+-- the silent moves for periods of so many domains, from one on
 unfoldable pub domain_periods : (count domain : ℕ) → List TimerTodo
 domain_periods zero domain = []
 domain_periods (suc count) domain = todo.Silent (silent.Period domain) ∷ domain_periods count (domain + 1)
 
+-- all items of a turn of the timer: the domains' limits, their periods, and the rest
 abbrev pub turn_items : (domains : ℕ) → List TimerTodo
 turn_items domains = domain_turns domains 0 ++ domain_periods domains 0 ++ todo.Silent silent.Rest ∷ []
 
+-- the timer begins a turn
 abbrev pub begin_timer : (s : State) → State
 begin_timer s = with_timer (record s.timer { todo = s.timer.todo ++ turn_items (length s.domains); began = s.now }) s

@@ -53,6 +53,7 @@ IsOverOwn reading read = context_background read.wb_thresh read.limits.bg read.l
 abbrev pub over_noted : (over : Bool) (c : Cpu) → Cpu
 over_noted over c = record c { turn = record c.turn { over = c.turn.over || over } }
 
+-- the turn notes whether a context is over its own part of a background threshold
 abbrev pub weigh : (trace : Trace) (cpu context : ℕ) (s : State) → State
 weigh trace cpu context s =
     with_cpu cpu (over_noted (is_over_by_itself (weighed_by trace context (cpu_of cpu s) s)) (cpu_of cpu s)) s

@@ -1,5 +1,5 @@
 -- Where a machine may go on: what its moves name is there, and its numbers fit.
-use Rattle.std.specs.Prelude.{◌≡◌, ℕ, ◌+◌, ◌^◌, ◌<◌, ◌≤◌, ℤ, unsigned_abs, List, [], ◌∷◌, length, get_or, sum_by, All, Option, Some, None, IsSome}
+use Rattle.std.specs.Prelude.{◌≡◌, ℕ, ◌+◌, ◌^◌, ◌<◌, ◌≤◌, ℤ, unsigned_abs, List, [], ◌∷◌, length, get_or, sum_by, All, Option, Some, None, IsSome, IfSome}
 use Rattle.wbt_num.specs.Limits.{IsLawful}
 use Rattle.wbt_num.specs.declared.most.TheConstants.{MOST_CPUS}
 use Rattle.wbt_counter.specs.declared.counter.Count.{Count}
@@ -18,10 +18,12 @@ use Rattle.wbt_trace.specs.declared.trace.Trace.{Trace}
 use Rattle.wbt_replay_moves.specs.Definition.Check.{writer_in}
 use Rattle.wbt_journal.specs.Machine.{batch_of}
 use Rattle.wbt_replay_moves.specs.Definition.Cpu.{own_of}
+use Rattle.wbt_replay_moves.specs.Definition.Writer.{pause_in}
 use Rattle.wbt_replay_moves.specs.Definition.State.{State, no_held, cpu_of, task_of, flusher_of, waiting_of, queue_of, domain_of, writeback_of, count_of}
 use Rattle.wbt_rules.specs.Age.{expire_ticks}
 use Rattle.wbt_rules.specs.declared.scan.Scan.{Scan}
-use Rattle.wbt_rules.specs.Things.{context_of, context_at, group_of, device_of, device_at, end_of, flusher_device, rate_of}
+use Rattle.wbt_rules.specs.Places.{page_of}
+use Rattle.wbt_rules.specs.Things.{context_of, context_at, group_of, device_of, device_at, flusher_device, rate_of}
 use Rattle.wbt_rules.specs.Thresholds.{DomainFits}
 use Rattle.wbt_replay_moves.specs.declared.state.Cpu.{Cpu}
 use Rattle.wbt_replay_moves.specs.declared.state.Domain.{Domain as DomainState}
@@ -105,11 +107,13 @@ pub record IsPart (whole part : Half) : Type 0 where
   pub few : part.events < 2 ^ 40
   pub few_in_all : whole.events < 2 ^ 40
 
+-- a fraction of at most one, of fewer than 2 ^ 41 events
 pub record IsFraction (f : Fraction) : Type 0 where
   pub num : f.num ≤ f.den
   pub den : 1 ≤ f.den
   pub few : f.den < 2 ^ 41
 
+-- what is read of a domain has lawful limits and a fraction in range
 pub record IsLine (line : DomainLine) : Type 0 where
   pub limits : IsLawful line.limits
   pub share : IsFraction line.share
@@ -141,6 +145,7 @@ pub record CheckFits (trace : Trace) (task context : ℕ) (turn : ReplayTurn) (s
   pub cap : 1 ≤ trace.cap
   pub moment : s.now < 2 ^ 62
 
+-- the check of the turn's task fits
 abbrev pub DecideFits : (trace : Trace) (s : State) (turn : ReplayTurn) (whose : Whose) → Type 0
 DecideFits trace s turn (whose.Task task) = CheckFits trace task (task_of task s).context turn s
 DecideFits trace s turn (whose.Flusher flusher) = Unit {0}
@@ -163,6 +168,7 @@ pub record WeighFits (trace : Trace) (cpu context : ℕ) (s : State) : Type 0 wh
 
 -- ---- a task's next page
 
+-- the first page of a write is there, and its inode's context
 pub record PageFits (trace : Trace) (inode page pages all : ℕ) : Type 0 where
   pub some : 1 ≤ pages
   pub there : inode < length trace.inodes
@@ -181,13 +187,19 @@ abbrev pub WriteFits : (trace : Trace) (all : ℕ) (t : ReplayTask) (c : Cpu) (w
 WriteFits trace all t c [] = Unit {0}
 WriteFits trace all t c (work.Rest ticks ∷ more) = Unit {0}
 WriteFits trace all t c (work.Write inode page pages ∷ more) =
-    PageFits trace inode page pages all × CountFits (context_of trace inode) t c
+    PageFits trace inode page pages all × CountFits (context_of trace inode) t c × (t.since + 1 < 2 ^ 32)
 
-abbrev pub RestFits : (now : ℕ) (works : List ReplayWork) → Type 0
-RestFits now [] = Unit {0}
-RestFits now (work.Rest ticks ∷ more) = now + ticks < 2 ^ 64
-RestFits now (work.Write inode page pages ∷ more) = Unit {0}
+-- a rest that the task's line asks for before its next page, and one that it has next
+abbrev pub PauseFits : (now : ℕ) (pause : Option ℕ) → Type 0
+PauseFits now pause = IfSome pause (λ ticks. now + ticks < 2 ^ 64)
 
+-- the rest that a task begins next ends before the moment 2 ^ 64
+abbrev pub RestFits : (now : ℕ) (pause : Option ℕ) (works : List ReplayWork) → Type 0
+RestFits now pause [] = Unit {0}
+RestFits now pause (work.Rest ticks ∷ more) = now + ticks < 2 ^ 64
+RestFits now pause (work.Write inode page pages ∷ more) = PauseFits now pause
+
+-- the turn's task is there, and its first page can be written and counted
 abbrev pub DirtyFits : (trace : Trace) (cpu : ℕ) (s : State) (whose : Whose) → Type 0
 DirtyFits trace cpu s (whose.Task task) =
     (task < length s.tasks) × WriteFits trace s.pages (task_of task s) (cpu_of cpu s) (task_of task s).works
@@ -203,6 +215,7 @@ pub record TaskEnds (cpu task : ℕ) (s : State) : Type 0 where
   pub running : 1 ≤ s.running
   pub leaks : (cpu_of cpu s).local.leaks + sum_by (λ w. w.task.nr_dirtied) (task_of task s).writers < 2 ^ 52
 
+-- the turn's task is there, and can end
 abbrev pub EndFits : (cpu : ℕ) (s : State) (whose : Whose) → Type 0
 EndFits cpu s (whose.Task task) = TaskEnds cpu task s
 EndFits cpu s (whose.Flusher flusher) = Unit {0}
@@ -213,11 +226,11 @@ EndFits cpu s (whose.Flusher flusher) = Unit {0}
 abbrev pub EstimatesFit : (s : State) → Type 0
 EstimatesFit s = (k : ℕ) → k < length s.contexts → (writeback_of k s).estimate.at < 2 ^ 62
 
--- The inode that was taken is there, and so are the flusher and its device.
+-- The inode that was taken is there, with a place among the flusher's, and so are the flusher and its device.
 abbrev pub TakenFits : (trace : Trace) (flusher : ℕ) (s : State) (phase : ReplayPhase) → Type 0
 TakenFits trace flusher s (phase.Taken inode) =
     HasInode trace inode (length s.marks) (length s.queues) × (context_of trace inode < length s.contexts)
-    × HasFlusher trace flusher (length s.flushers) (length s.queues)
+    × HasFlusher trace flusher (length s.flushers) (length s.queues) × (inode < length (flusher_of flusher s).places)
 TakenFits trace flusher s other = Unit {0}
 
 -- An inode that a flusher may notice is there, with its context, below the wheel's number of inodes, and is due within its reach.
@@ -245,20 +258,31 @@ pub record NoticesFit (trace : Trace) (flusher since : ℕ) (s : State) : Type 0
   pub early : since < 2 ^ 62
   pub queue : All (NoticeFits trace (waiting_of flusher s).inodes) (queue_of (flusher_device trace flusher) s)
 
--- The scan's page is there, and has a next one.
+-- The scan has a place within its inode, and the inode one among the flusher's.
 pub record ScanFits (trace : Trace) (flusher : ℕ) (scan : Scan) (s : State) : Type 0 where
   pub here : HasFlusher trace flusher (length s.flushers) (length s.queues)
   pub there : scan.inode < length trace.inodes
-  pub end : end_of trace scan.inode < 2 ^ 32
+  pub place : scan.inode < length (flusher_of flusher s).places
+  pub start : scan.start < scan.pages
+  pub passed : scan.passed ≤ scan.pages
   pub batch : length (flusher_of flusher s).batch < 2 ^ 32
   pub moment : s.now ≤ 2 ^ 63
 
+-- the flusher's scan fits, where it scans
 abbrev pub ScanningFits : (trace : Trace) (flusher : ℕ) (s : State) (phase : ReplayPhase) → Type 0
 ScanningFits trace flusher s (phase.Scanning scan) = ScanFits trace flusher scan s
 ScanningFits trace flusher s other = Unit {0}
 
+-- The scan comes to a page next that is there, of so many.
+pub record ComesTo (scan : Scan) (all : ℕ) : Type 0 where
+  pub start : scan.start < scan.pages
+  pub passed : scan.passed < scan.pages
+  pub fits : scan.first + scan.pages ≤ 2 ^ 32
+  pub page : page_of scan < all
+
+-- the scan comes to a page that is there, where the flusher scans
 abbrev pub LookFits : (s : State) (phase : ReplayPhase) → Type 0
-LookFits s (phase.Scanning scan) = (scan.page < s.pages) × (scan.page + 1 < 2 ^ 32)
+LookFits s (phase.Scanning scan) = ComesTo scan s.pages
 LookFits s other = Unit {0}
 
 -- The flight's inode and context are there, and its numbers find room.
@@ -271,6 +295,7 @@ pub record FlightFits (trace : Trace) (flusher inode pages : ℕ) (s : State) : 
   pub part : IsPart (domain_of 0 s).events (writeback_of (context_of trace inode) s).part
   pub cgroup_part : IsPart (domain_of (group_of trace (context_of trace inode)) s).events (writeback_of (context_of trace inode) s).cgroup_part
 
+-- the flusher's flight fits, where it flies
 abbrev pub FlyingFits : (trace : Trace) (flusher : ℕ) (s : State) (phase : ReplayPhase) → Type 0
 FlyingFits trace flusher s (phase.Flying inode pages until) = FlightFits trace flusher inode pages s
 FlyingFits trace flusher s other = Unit {0}
@@ -350,6 +375,7 @@ CanTimerStep trace (timer_step.Unseal domain) s = (length s.cpus < 2 ^ 32) × (d
 CanTimerStep trace (timer_step.Thresh domain) s = length s.cpus < 2 ^ 32
 CanTimerStep trace (timer_step.Publish domain) s = (length s.cpus < 2 ^ 32) × (domain < length s.domains) × HasNext (domain_of domain s)
 
+-- where a silent move of the timer's turn may be made
 unfoldable pub CanTimerMove : (item : TimerSilent) (s : State) → Type 0
 CanTimerMove (timer_silent.Period domain) s = domain < length s.domains
 CanTimerMove timer_silent.Rest s = TimerFits s.timer
@@ -362,7 +388,7 @@ pub record TaskBegins (trace : Trace) (task : ℕ) (s : State) : Type 0 where
   pub contexts : length (task_of task s).writers ≡ length s.contexts
   pub lines : length s.contexts ≡ length trace.contexts
   pub few : length s.contexts < 2 ^ 32
-  pub rest : RestFits s.now (task_of task s).works
+  pub rest : RestFits s.now (pause_in (task_of task s)) (task_of task s).works
 
 -- a turn of an idle flusher
 pub record IdleBegins (trace : Trace) (flusher : ℕ) (s : State) : Type 0 where
@@ -372,6 +398,7 @@ pub record IdleBegins (trace : Trace) (flusher : ℕ) (s : State) : Type 0 where
   pub measures : All (λ k. k < length s.contexts) (flusher_of flusher s).measures
   pub few : length s.domains < 2 ^ 32
 
+-- a flusher's turn may begin; only an idle one's asks for anything
 abbrev pub PhaseBegins : (trace : Trace) (flusher : ℕ) (s : State) (phase : ReplayPhase) → Type 0
 PhaseBegins trace flusher s (phase.Idle until kept) = IdleBegins trace flusher s
 PhaseBegins trace flusher s other = Unit {0}

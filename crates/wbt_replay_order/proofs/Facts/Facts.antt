@@ -2,13 +2,15 @@
 use Rattle.std.proofs.Common.{◌≡◌, ℕ, suc, ◌<◌, Bool, true, false, ◌||◌, eqb, List, [], ◌∷◌, length, get_or, refl, sym, subst, arith, eqb-true, ⊎_elim, None, Option, Some, IfSome, unwrap_or, ◌*◌, ◌≤◌}
 use Rattle.std.proofs.lemmas.Bool.{cases_lt}
 use Rattle.std.proofs.lemmas.List.{get_or_past}
-use Rattle.wbt_trace.specs.Lawful.{IsLawful, IsChunk, IsContext, IsFirstEstimate, IsInode, IsExpire}
+use Rattle.wbt_trace.specs.Lawful.{IsLawful, IsChunk, IsContext, IsFirstEstimate, IsInode, IsExpire, IsPace}
 use Rattle.wbt_trace.specs.Lawful.{has_flusher}
 use Rattle.wbt_trace.specs.declared.trace.Cgroup.{Cgroup}
 use Rattle.wbt_trace.specs.declared.trace.Context.{Context}
 use Rattle.wbt_trace.specs.declared.trace.Device.{Device}
 use Rattle.wbt_trace.specs.declared.trace.FlusherLine.{FlusherLine}
+use Rattle.wbt_trace.specs.declared.trace.TaskLine.{TaskLine}
 use Rattle.wbt_trace.specs.declared.trace.Trace.{Trace}
+use Rattle.wbt_rules.specs.Pace.{pace_of}
 use Rattle.wbt_rules.specs.Things.{inode_of, context_of, context_at, device_at}
 use Rattle.wbt_replay_order.specs.Definition.Opening.{tasks_from}
 use Rattle.wbt_replay_order.specs.Claims.Setting.{inode_with, writers_in}
@@ -27,7 +29,7 @@ abbrev no_cgroup : Cgroup
 no_cgroup = record { filepages = 0; headroom = 0 }
 
 abbrev no_device : Device
-no_device = record { rate = 1; min = 0; max = 100; strict = false; chunk = None }
+no_device = record { rate = 1; min = 0; max = 100; strict = false; chunk = None; cyclic = false }
 
 -- a device's flusher has a number
 pub record HasFlusher (device : ℕ) (flushers : List FlusherLine) : Type 0 where
@@ -74,6 +76,13 @@ module _ (trace : Trace) (lawful : IsLawful trace) where
       (λ past. subst (λ (x : Context). IfSome x.estimate IsFirstEstimate) (sym (get_or_past trace.contexts k no_context past)) tt)
       (cases_lt k (length trace.contexts))
 
+  -- nor has a task that isn't there
+  pace_here : (t : ℕ) → IfSome (pace_of trace t) IsPace
+  pace_here t = ⊎_elim
+      (λ less. lawful.within.paces t no_task less)
+      (λ past. subst (λ (x : TaskLine). IfSome x.pace IsPace) (sym (get_or_past trace.tasks t no_task past)) tt)
+      (cases_lt t (length trace.tasks))
+
   page_is : (n p : ℕ) → IsPageOf trace n p → inode_with trace p ≡ n
   page_is n p page =
       let is = found_in 0 0 p trace.inodes lawful.within.inodes.firsts n page.there page.after_first page.before_end in
@@ -108,6 +117,7 @@ module _ (trace : Trace) (lawful : IsLawful trace) where
     rate = λ d less. (lawful.within.devices.each d no_device less).rate.0;
     chunks = chunk_here;
     firsts = estimate_here;
+    paces = pace_here;
     flusher_cpu_is = λ f less. (lawful.within.flushers f no_line less).1;
     flusher_device_is = λ f less. (lawful.within.flushers f no_line less).0;
     manned = λ d less. let h = found_flusher d trace.flushers (lawful.whole.flushers d less) in (h.place, h.less, h.is);

@@ -1,5 +1,5 @@
 -- The tasks of the CPUs at the opening.
-use Rattle.std.proofs.Common.{◌≡◌, ℕ, zero, suc, ◌+◌, ◌<◌, ◌≤◌, Bool, true, false, cond, eqb, List, [], ◌∷◌, ◌++◌, length, get_or, All, ◌∙◌, ap, subst, arith, eq-eqb, eqb-true, length-append}
+use Rattle.std.proofs.Common.{◌≡◌, ℕ, zero, suc, ◌+◌, ◌<◌, ◌≤◌, Bool, true, false, cond, eqb, List, [], ◌∷◌, ◌++◌, length, get_or, All, ◌∙◌, ap, subst, arith, eq-eqb, eqb-true, length-append, None}
 use Rattle.std.proofs.lemmas.List.Elements.{All-nil}
 use Rattle.wbt_trace.specs.declared.trace.TaskLine.{TaskLine}
 use Rattle.wbt_trace.specs.declared.trace.Trace.{Trace}
@@ -9,7 +9,7 @@ use Rattle.wbt_replay_order.specs.Kept.Facts.{IsTaskOn}
 use Rattle.wbt_replay_order.proofs.Facts.Lists.{all_push, either}
 
 abbrev pub no_task : TaskLine
-no_task = record { cpu = 0 }
+no_task = record { cpu = 0; pace = None }
 
 -- ---- each is one of the CPU's
 

@@ -11,6 +11,7 @@ use Rattle.wbt_replay_moves.specs.declared.state.ReplayPhase.{ReplayPhase}
 use Rattle.wbt_replay_moves.specs.declared.state.ReplayPhase.TheVariants as phase
 use Rattle.wbt_replay_moves.specs.declared.state.ReplayTurn.{ReplayTurn}
 use Rattle.wbt_replay_order.specs.Kept.Facts.{Facts, IsPageOf}
+use Rattle.wbt_replay_order.specs.Kept.Horizon.{latest}
 use Rattle.wbt_replay_order.specs.Kept.Sound.{Sound, IsAt, IsTurn, written_of, AreQueued, WheelFits}
 use Rattle.wbt_replay_order.proofs.Lists.Numbered.{sum_part}
 use Rattle.wbt_expiry.specs.Waiting.{Waiting as Wheel}
@@ -19,7 +20,7 @@ module _ (trace : Trace) (facts : Facts trace) (s : State) (sound : Sound trace 
   pub cpus_fit : IsCpus trace
   cpus_fit = (facts.some_cpu, omega (arith, facts.few_cpus))
 
-  pub moment_fits : s.now ≤ 2 ^ 58
+  pub moment_fits : s.now ≤ latest
   moment_fits = let h = sound.holds.horizon.clock in omega (arith, h)
 
   -- pages that were written
@@ -135,7 +136,12 @@ module _ (trace : Trace) (facts : Facts trace) (s : State) (sound : Sound trace 
 
       pub taken_fits : (p : ReplayPhase) → IsAt trace (flusher_of f s).batch p → TakenFits trace f (record s { cpus = cs }) p
       taken_fits (phase.Idle until kept) h = tt
-      taken_fits (phase.Taken n) h = (inode_fits n h.1, omega (arith, facts.inode_context n h.1, sound.holds.contexts.many), flusher_fits f less)
+      taken_fits (phase.Taken n) h = (
+        inode_fits n h.1,
+        omega (arith, facts.inode_context n h.1, sound.holds.contexts.many),
+        flusher_fits f less,
+        omega (arith, h.1, ((sound.holds.flushers.each f).places less).many),
+      )
       taken_fits (phase.Scanning scan) h = tt
       taken_fits (phase.Flying n pages until) h = tt
       taken_fits phase.Finished h = tt
@@ -146,8 +152,10 @@ module _ (trace : Trace) (facts : Facts trace) (s : State) (sound : Sound trace 
       scanning_fits (phase.Scanning scan) h = record {
         here = flusher_fits f less;
         there = h.there;
-        end = end_few scan.inode h.there;
-        batch = omega (arith, h.behind, h.within, end_few scan.inode h.there);
+        place = omega (arith, h.there, ((sound.holds.flushers.each f).places less).many);
+        start = h.start;
+        passed = h.within;
+        batch = omega (arith, h.behind, h.within, h.pages_is, end_few scan.inode h.there);
         moment = omega (arith, moment_fits);
       }
       scanning_fits (phase.Flying n pages until) h = tt

@@ -17,8 +17,9 @@ use Rattle.wbt_replay_moves.specs.Definition.Idle.{take_or_finish, take_or_rest,
 use Rattle.wbt_replay_moves.specs.Definition.Perform.{make_step, make_move}
 use Rattle.wbt_replay_moves.specs.Definition.Scan.{look_by, look_in, looked_at, claim_by, claim_in, claim_now, close_by, close_in, is_over, hand_over_by, hand_over_in, land_empty}
 use Rattle.wbt_replay_moves.specs.Definition.State.{State, cpu_of, flusher_of, task_of, with_task, domain_of, writeback_of, queue_of, in_phase}
+use Rattle.wbt_rules.specs.Places.{page_of}
 use Rattle.wbt_rules.specs.Things.{context_of, group_of, flusher_device, max_share}
-use Rattle.wbt_replay_moves.specs.Definition.Writer.{without_page, dirty_by, dirty_next, dirty_page, dirty_fresh, mark, marked, end_by, end_now, has_nothing}
+use Rattle.wbt_replay_moves.specs.Definition.Writer.{passed_page, dirty_by, dirty_next, dirty_page, dirty_fresh, mark, marked, end_by, end_now, has_nothing}
 use Rattle.wbt_replay_moves.specs.declared.state.ReplayPhase.{ReplayPhase}
 use Rattle.wbt_replay_moves.specs.declared.state.ReplayPhase.TheVariants as phase
 use Rattle.wbt_replay_moves.specs.declared.state.ReplayTurn.{ReplayTurn}
@@ -88,7 +89,7 @@ grew_next : (trace : Trace) (cpu task : ℕ) (works : List ReplayWork) (s : Stat
 grew_next trace cpu task [] s = inl refl
 grew_next trace cpu task (work.Rest ticks ∷ works) s = inl refl
 grew_next trace cpu task (work.Write inode page pages ∷ works) s =
-    grew_page trace cpu task inode page (with_task task (record (task_of task s) { works = without_page inode page pages works }) s)
+    grew_page trace cpu task inode page (with_task task (passed_page inode page pages works (task_of task s)) s)
 
 grew_dirty : (trace : Trace) (cpu : ℕ) (w : Whose) (s : State) → Steps cpu s (dirty_by trace cpu w s)
 grew_dirty trace cpu (whose.Task task) s = grew_next trace cpu task (task_of task s).works s
@@ -111,8 +112,8 @@ grew_unmark trace cpu (whose.Task task) s = inl refl
 
 grew_look_in : (cpu flusher : ℕ) (p : ReplayPhase) (s : State) → Steps cpu s (look_in cpu flusher p s)
 grew_look_in cpu flusher (phase.Scanning scan) s =
-    let u = looked_at cpu flusher scan (s.book scan.page) s in
-    then_step cpu s u (look_in cpu flusher (phase.Scanning scan) s) _ refl refl refl (both_silent s (is_claimable (s.book scan.page)) _ _ refl refl)
+    let u = looked_at cpu flusher scan (s.book (page_of scan)) s in
+    then_step cpu s u (look_in cpu flusher (phase.Scanning scan) s) _ refl refl refl (both_silent s (is_claimable (s.book (page_of scan))) _ _ refl refl)
 grew_look_in cpu flusher (phase.Taken inode) s = inl refl
 grew_look_in cpu flusher (phase.Idle until kept) s = inl refl
 grew_look_in cpu flusher (phase.Flying inode pages until) s = inl refl
@@ -125,8 +126,8 @@ grew_look cpu (whose.Task task) s = inl refl
 grew_claim_in : (cpu flusher word : ℕ) (p : ReplayPhase) (s : State) → Steps cpu s (claim_in cpu flusher word p s)
 grew_claim_in cpu flusher word (phase.Scanning scan) s =
     let found = claim_now cpu flusher scan s in
-    then_step cpu s (cond (eqb (shared_word s.book scan.page) word) found s) (claim_in cpu flusher word (phase.Scanning scan) s) _ refl refl refl
-    (both_silent s (eqb (shared_word s.book scan.page) word) found s refl refl)
+    then_step cpu s (cond (eqb (shared_word s.book (page_of scan)) word) found s) (claim_in cpu flusher word (phase.Scanning scan) s) _ refl refl refl
+    (both_silent s (eqb (shared_word s.book (page_of scan)) word) found s refl refl)
 grew_claim_in cpu flusher word (phase.Taken inode) s = inl refl
 grew_claim_in cpu flusher word (phase.Idle until kept) s = inl refl
 grew_claim_in cpu flusher word (phase.Flying inode pages until) s = inl refl
@@ -215,7 +216,7 @@ silent_test trace cpu turn (whose.Task task) s = refl
 
 silent_close_in : (trace : Trace) (cpu flusher : ℕ) (p : ReplayPhase) (s : State) → Silently s (close_in trace cpu flusher p s)
 silent_close_in trace cpu flusher (phase.Scanning scan) s =
-    both_silent s (is_over trace scan (length (flusher_of flusher s).batch)) _ s refl refl
+    both_silent s (is_over scan (length (flusher_of flusher s).batch)) _ s refl refl
 silent_close_in trace cpu flusher (phase.Taken inode) s = refl
 silent_close_in trace cpu flusher (phase.Idle until kept) s = refl
 silent_close_in trace cpu flusher (phase.Flying inode pages until) s = refl

@@ -13,7 +13,7 @@ use Rattle.wbt_replay_moves.specs.Definition.Idle.{take_last}
 use Rattle.wbt_replay_moves.specs.Definition.Perform.{make_step, make_timer_step, make_timer_move, begin_turn, begin_for, begin_phase}
 use Rattle.wbt_replay_moves.specs.Definition.State.{State, cpu_of, with_cpu, flusher_of, task_of, domain_of, is_drained, waiting_of}
 use Rattle.wbt_replay_moves.specs.Definition.Timer.{with_timer, period_to, is_time, periods}
-use Rattle.wbt_replay_moves.specs.Definition.Writer.{begin_due, begin_work}
+use Rattle.wbt_replay_moves.specs.Definition.Writer.{pause_in, begin_page, begin_due, begin_work}
 use Rattle.wbt_replay_moves.specs.declared.state.Actor.{Actor}
 use Rattle.wbt_replay_moves.specs.declared.state.Actor.TheVariants as who
 use Rattle.wbt_replay_moves.specs.declared.state.Cpu.{Cpu}
@@ -39,7 +39,7 @@ use Rattle.wbt_task.specs.declared.allowance.Due.{Due}
 use Rattle.wbt_task.specs.declared.allowance.Due.TheVariants as due
 use Rattle.wbt_replay_order.specs.Claims.Bound.{WasPast}
 use Rattle.wbt_replay_order.specs.Definition.Opening.{opening}
-use Rattle.wbt_replay_order.specs.Definition.Order.{actor_at, after, ahead_of, turn_at, job_at, is_full, is_halted, is_nothing, is_ended, spend, stop, cpu_on, timer_on, go_on, begin_job, begin, with_orders, begin_or_drop, follow, next_moment, at_moment, place_after, chance_of, take_turn, seek_turn, next_turn, finish_turn, rotate_from, tick, advance_by, advance}
+use Rattle.wbt_replay_order.specs.Definition.Order.{actor_at, after, ahead_of, turn_at, job_at, is_full, is_halted, is_nothing, is_ended, spend, stop, cpu_on, timer_on, go_on, begin_job, begin, with_orders, begin_or_drop, follow, next_moment, at_moment, place_after, chance_of, take_turn, seek_turn, next_turn, finish_turn, rotate_from, advance_by, advance}
 use Rattle.wbt_replay_order.specs.Definition.Order as order
 use Rattle.wbt_replay_order.specs.Definition.Run.{most_moves, state_at, last_state}
 use Rattle.wbt_replay_order.specs.declared.chance.Ahead.{Ahead}
@@ -52,10 +52,14 @@ use Rattle.wbt_replay_order.proofs.Growth.Runs.{run_last, run_stays}
 
 -- ---- the beginning of a turn
 
+silent_page : (cpu task : ℕ) (pause : Option ℕ) (s : State) → Silently s (begin_page cpu task pause s)
+silent_page cpu task None s = refl
+silent_page cpu task (Some ticks) s = refl
+
 silent_work : (cpu task : ℕ) (works : List ReplayWork) (s : State) → Silently s (begin_work cpu task works s)
 silent_work cpu task [] s = refl
 silent_work cpu task (work.Rest ticks ∷ works) s = refl
-silent_work cpu task (work.Write inode page pages ∷ works) s = refl
+silent_work cpu task (work.Write inode page pages ∷ works) s = silent_page cpu task (pause_in (task_of task s)) s
 
 silent_due : (trace : Trace) (cpu task : ℕ) (d : Due) (s : State) → Silently s (begin_due trace cpu task d s)
 silent_due trace cpu task due.Check s = refl

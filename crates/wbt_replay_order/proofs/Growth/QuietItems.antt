@@ -13,9 +13,10 @@ use Rattle.wbt_replay_moves.specs.Definition.Cpu.{added, own_of, with_own, log_a
 use Rattle.wbt_replay_moves.specs.Definition.Idle.{domain_loads, measures_of, weighs_of, begin_test, begin_idle, rest_until, take, take_or_finish, take_or_rest, test, test_by, tested, with_hard, unmark, unmark_by, unmark_in, take_last, note, noticed, age, age_so, tested_by, take_now, with_pairs, take_first}
 use Rattle.wbt_replay_moves.specs.Definition.Scan.{look, look_by, look_in, looked_at, claim, claim_by, claim_in, claim_now, close, close_by, close_in, is_over, land_empty, hand_over, hand_over_by, hand_over_in}
 use Rattle.wbt_replay_moves.specs.Definition.State.{State, cpu_of, flusher_of, task_of, domain_of, count_of, with_count, with_task, with_event, queue_of, is_drained, waiting_of, with_queue}
+use Rattle.wbt_rules.specs.Places.{page_of}
 use Rattle.wbt_rules.specs.Things.{context_of, group_of, flusher_device}
 use Rattle.wbt_replay_moves.specs.Definition.Weigh.{is_over_by_itself, over_noted, weigh, weighed_by}
-use Rattle.wbt_replay_moves.specs.Definition.Writer.{without_page, count_page, dirty, dirty_by, dirty_next, dirty_page, dirty_fresh, mark, end, end_by, end_now, has_nothing}
+use Rattle.wbt_replay_moves.specs.Definition.Writer.{passed_page, count_page, dirty, dirty_by, dirty_next, dirty_page, dirty_fresh, mark, end, end_by, end_now, has_nothing}
 use Rattle.wbt_rules.specs.declared.scan.Scan.{Scan}
 use Rattle.wbt_replay_moves.specs.declared.state.Cpu.{Cpu}
 use Rattle.wbt_replay_moves.specs.declared.state.ReplayPhase.{ReplayPhase}
@@ -106,7 +107,7 @@ quiet_next : (trace : Trace) (cpu task : ℕ) (works : List ReplayWork) (s : Sta
 quiet_next trace cpu task [] s = still s
 quiet_next trace cpu task (work.Rest ticks ∷ works) s = still s
 quiet_next trace cpu task (work.Write inode page pages ∷ works) s =
-    quiet_page trace cpu task inode page (with_task task (record (task_of task s) { works = without_page inode page pages works }) s)
+    quiet_page trace cpu task inode page (with_task task (passed_page inode page pages works (task_of task s)) s)
 
 quiet_dirty_by : (trace : Trace) (cpu : ℕ) (w : Whose) (s : State) → Quiet s (dirty_by trace cpu w s)
 quiet_dirty_by trace cpu (whose.Task task) s = quiet_next trace cpu task (task_of task s).works s
@@ -221,7 +222,7 @@ quiet_looked cpu flusher scan bits s =
     either (Quiet s) (is_claimable bits) _ _ (λ can. quiet_cpu cpu _ s refl refl (λ n. n)) (λ no. quiet_cpu cpu _ s refl refl (λ n. n))
 
 quiet_look_in : (cpu flusher : ℕ) (p : ReplayPhase) (s : State) → Quiet s (look_in cpu flusher p s)
-quiet_look_in cpu flusher (phase.Scanning scan) s = quiet_looked cpu flusher scan (s.book scan.page) s
+quiet_look_in cpu flusher (phase.Scanning scan) s = quiet_looked cpu flusher scan (s.book (page_of scan)) s
 quiet_look_in cpu flusher (phase.Taken inode) s = still s
 quiet_look_in cpu flusher (phase.Idle until kept) s = still s
 quiet_look_in cpu flusher (phase.Flying inode pages until) s = still s
@@ -236,12 +237,12 @@ quiet_look cpu s = quiet_look_by cpu (cpu_of cpu s).turn.whose s
 
 quiet_claim_now : (cpu flusher : ℕ) (scan : Scan) (s : State) → Quiet s (claim_now cpu flusher scan s)
 quiet_claim_now cpu flusher scan s =
-    let u = log_at cpu (entry.Claimed flusher scan.page) s in
-    then_still s u (then_do cpu (todo.Silent silent.Close ∷ []) u) (log_quietly cpu (entry.Claimed flusher scan.page) s refl) (do_quietly cpu u (todo.Silent silent.Close ∷ []))
+    let u = log_at cpu (entry.Claimed flusher (page_of scan)) s in
+    then_still s u (then_do cpu (todo.Silent silent.Close ∷ []) u) (log_quietly cpu (entry.Claimed flusher (page_of scan)) s refl) (do_quietly cpu u (todo.Silent silent.Close ∷ []))
 
 quiet_claim_in : (cpu flusher word : ℕ) (p : ReplayPhase) (s : State) → Quiet s (claim_in cpu flusher word p s)
 quiet_claim_in cpu flusher word (phase.Scanning scan) s =
-    either (Quiet s) (eqb (shared_word s.book scan.page) word) (claim_now cpu flusher scan s) s
+    either (Quiet s) (eqb (shared_word s.book (page_of scan)) word) (claim_now cpu flusher scan s) s
     (λ same. quiet_claim_now cpu flusher scan s) (λ other. still s)
 quiet_claim_in cpu flusher word (phase.Taken inode) s = still s
 quiet_claim_in cpu flusher word (phase.Idle until kept) s = still s
@@ -257,7 +258,7 @@ quiet_claim cpu word s = quiet_claim_by cpu word (cpu_of cpu s).turn.whose s
 
 quiet_close_in : (trace : Trace) (cpu flusher : ℕ) (p : ReplayPhase) (s : State) → Quiet s (close_in trace cpu flusher p s)
 quiet_close_in trace cpu flusher (phase.Scanning scan) s =
-    either (Quiet s) (is_over trace scan (length (flusher_of flusher s).batch)) _ s (λ over. quiet_cpu cpu _ s refl refl (λ n. n)) (λ more. still s)
+    either (Quiet s) (is_over scan (length (flusher_of flusher s).batch)) _ s (λ over. quiet_cpu cpu _ s refl refl (λ n. n)) (λ more. still s)
 quiet_close_in trace cpu flusher (phase.Taken inode) s = still s
 quiet_close_in trace cpu flusher (phase.Idle until kept) s = still s
 quiet_close_in trace cpu flusher (phase.Flying inode pages until) s = still s

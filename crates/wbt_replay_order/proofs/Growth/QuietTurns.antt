@@ -1,5 +1,5 @@
 -- Flights and the beginnings of turns leave the timer, the peaks, the checks and the estimates as they are.
-use Rattle.std.proofs.Common.{◌≡◌, ℕ, zero, suc, false, eqb, negsuc, List, [], ◌∷◌, length, refl}
+use Rattle.std.proofs.Common.{◌≡◌, ℕ, zero, suc, false, eqb, negsuc, List, [], ◌∷◌, length, refl, Option, None, Some}
 use Rattle.wbt_trace.specs.declared.trace.Trace.{Trace}
 use Rattle.wbt_flex.specs.Proportions.{fraction_of, may_be_added, added, aged}
 use Rattle.wbt_flex.specs.declared.half.Half.{Half}
@@ -10,7 +10,7 @@ use Rattle.wbt_replay_moves.specs.Definition.Flight.{complete, complete_by, comp
 use Rattle.wbt_replay_moves.specs.Definition.Perform.{begin_turn, begin_for, begin_phase}
 use Rattle.wbt_replay_moves.specs.Definition.State.{State, cpu_of, with_cpu, flusher_of, with_flusher, task_of, domain_of, with_domain, writeback_of, with_writeback, in_phase}
 use Rattle.wbt_rules.specs.Things.{context_of, group_of, max_share}
-use Rattle.wbt_replay_moves.specs.Definition.Writer.{begin_due, begin_work}
+use Rattle.wbt_replay_moves.specs.Definition.Writer.{pause_in, begin_page, begin_due, begin_work}
 use Rattle.wbt_replay_moves.specs.declared.state.Domain.{Domain}
 use Rattle.wbt_replay_moves.specs.declared.state.ReplayPhase.{ReplayPhase}
 use Rattle.wbt_replay_moves.specs.declared.state.ReplayPhase.TheVariants as phase
@@ -104,10 +104,14 @@ quiet_land trace cpu s = quiet_land_by trace cpu (cpu_of cpu s).turn.whose s
 
 -- ---- the beginning of a turn
 
+quiet_begin_page : (cpu task : ℕ) (pause : Option ℕ) (s : State) → Quiet s (begin_page cpu task pause s)
+quiet_begin_page cpu task None s = quiet_cpu cpu _ s refl refl (λ n. n)
+quiet_begin_page cpu task (Some ticks) s = quiet_cpu cpu _ s refl refl (λ n. n)
+
 quiet_work : (cpu task : ℕ) (works : List ReplayWork) (s : State) → Quiet s (begin_work cpu task works s)
 quiet_work cpu task [] s = quiet_cpu cpu _ s refl refl (λ n. n)
 quiet_work cpu task (work.Rest ticks ∷ works) s = quiet_cpu cpu _ s refl refl (λ n. n)
-quiet_work cpu task (work.Write inode page pages ∷ works) s = quiet_cpu cpu _ s refl refl (λ n. n)
+quiet_work cpu task (work.Write inode page pages ∷ works) s = quiet_begin_page cpu task (pause_in (task_of task s)) s
 
 quiet_due : (trace : Trace) (cpu task : ℕ) (d : Due) (s : State) → Quiet s (begin_due trace cpu task d s)
 quiet_due trace cpu task due.Check s = quiet_cpu cpu _ s refl refl (λ n. n)

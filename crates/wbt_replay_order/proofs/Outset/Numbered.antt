@@ -30,6 +30,13 @@ module _ {A : Type 0} (xs : ℕ → List A) (f : ℕ → A) (d : A) (none : xs 0
       (λ past. subst (P i) (sym (get_or_past (xs n) i d (omega (arith, past, numbered_length n)))) (other i))
       (cases_lt i n)
 
+  -- where what holds of the default is known past their number alone
+  pub numbered_each : (P : ℕ → A → Type 0) (n : ℕ) → ((i : ℕ) → P i (f i)) → ((i : ℕ) → n ≤ i → P i d) → (i : ℕ) → P i (get_or (xs n) i d)
+  numbered_each P n each other i = ⊎_elim
+      (λ less. subst (P i) (sym (numbered_at n i less)) (each i))
+      (λ past. subst (P i) (sym (get_or_past (xs n) i d (omega (arith, past, numbered_length n)))) (other i past))
+      (cases_lt i n)
+
   pub numbered_sum : (g : A → ℕ) (n : ℕ) → sum_by g (xs n) ≡ total n (λ k. g (f k))
   numbered_sum g zero = ap (sum_by g) none
   numbered_sum g (suc n) = omega (arith, ap (sum_by g) (more n), sum_by_push g (xs n) (f n), numbered_sum g n)

@@ -1,5 +1,5 @@
 -- The opening of a lawful trace's run is sound, and each CPU's own numbers have room.
-use Rattle.std.proofs.Common.{◌≡◌, ℕ, ◌+◌, ◌*◌, ◌^◌, ◌<◌, ◌≤◌, Bool, false, cond, eqb, ◌&&◌, not, pos, ℤ, unsigned_abs, List, [], ◌∷◌, ◌++◌, length, map, get_or, replicate, sum_by, All, refl, sym, ◌∙◌, ap, subst, arith, eqb-true, ⊎_elim, None}
+use Rattle.std.proofs.Common.{◌≡◌, ℕ, ◌+◌, ◌*◌, ◌^◌, ◌<◌, ◌≤◌, Bool, false, cond, eqb, ◌&&◌, not, pos, ℤ, unsigned_abs, List, [], ◌∷◌, ◌++◌, length, map, get_or, replicate, sum_by, All, refl, sym, ◌∙◌, ap, subst, arith, eqb-true, ⊎_elim, Option, None}
 use Rattle.std.proofs.lemmas.Bool.{cases_lt}
 use Rattle.std.proofs.lemmas.List.{get_or_past, get_or-replicate, length-replicate, nil_from_length}
 use Rattle.std.proofs.lemmas.List.Elements.{All-nil, All-head, All-tail, All-push, All-map, All-weaker, All-replicate}
@@ -19,11 +19,13 @@ use Rattle.wbt_trace.specs.Lawful.{IsLawful, IsOrder}
 use Rattle.wbt_trace.specs.declared.trace.Context.{Context as ContextLine}
 use Rattle.wbt_trace.specs.declared.trace.Order.{Order}
 use Rattle.wbt_trace.specs.declared.trace.Order.TheVariants as order
+use Rattle.wbt_trace.specs.declared.trace.Pace.{Pace}
 use Rattle.wbt_trace.specs.declared.trace.Trace.{Trace}
 use Rattle.wbt_replay_moves.specs.Definition.Check.{writer_in}
 use Rattle.wbt_journal.specs.Machine.{batch_of}
 use Rattle.wbt_replay_moves.specs.Definition.Cpu.{own_of}
 use Rattle.wbt_replay_moves.specs.Definition.State.{no_cpu, no_task, no_flusher, no_domain, no_context, no_limits, no_held, flusher_of}
+use Rattle.wbt_rules.specs.Pace.{pace_of}
 use Rattle.wbt_rules.specs.Strict.{is_strict}
 use Rattle.wbt_rules.specs.Things.{flusher_device, leads}
 use Rattle.wbt_replay_moves.specs.declared.state.Cpu.{Cpu}
@@ -36,14 +38,15 @@ use Rattle.wbt_replay_moves.specs.declared.state.Writeback.{Writeback}
 use Rattle.wbt_replay_order.specs.Definition.Opening.{opening, opening_moment, first_limits, first_domain, first_domains, first_context, first_contexts, works_of, first_task, first_tasks, contexts_from, strict_from, first_flusher, first_flushers, tasks_from, first_cpu, first_cpus, first_held, stretch_of}
 use Rattle.wbt_replay_order.specs.Definition.Order.{is_finished}
 use Rattle.wbt_replay_order.specs.Kept.Facts.{Facts}
-use Rattle.wbt_replay_order.specs.Kept.Horizon.{horizon, ticks_of, rests_of, credit_of, until_of}
-use Rattle.wbt_replay_order.specs.Kept.Sound.{IsDomain, AreDomains, IsContext, AreContexts, AreWritten, written_of, flown_of, AreQueued, WriterFits, IsTask, AreTasks, dirtied_by, dirtied_of, leaks_of, IsFlusher, AreFlushers, IsCpu, AreCpus, IsAgreed, is_at_work, working_on, is_stopped, IsStretch, TimerItemFits, Holds, Sound, IsRoom, HasRoom, WheelFits}
+use Rattle.wbt_replay_order.specs.Kept.Horizon.{horizon, ticks_of, rest_of, rests_of, credit_of, until_of}
+use Rattle.wbt_replay_order.specs.Kept.Sound.{IsDomain, AreDomains, IsContext, AreContexts, AreWritten, written_of, flown_of, AreQueued, WriterFits, IsTask, AreTasks, dirtied_by, dirtied_of, leaks_of, ArePlaces, IsFlusher, AreFlushers, IsCpu, AreCpus, IsAgreed, is_at_work, working_on, is_stopped, IsStretch, TimerItemFits, Holds, Sound, IsRoom, HasRoom, WheelFits}
 use Rattle.wbt_replay_order.specs.Kept.Turns.{ItemFits, Agrees, IsOpen}
 use Rattle.wbt_replay_order.proofs.Facts.Facts.{facts}
 use Rattle.wbt_replay_order.proofs.Facts.Lists.{either}
+use Rattle.wbt_replay_order.proofs.Facts.Paces.{none_since, none_ticks}
 use Rattle.wbt_replay_order.proofs.Facts.Settings.{firsts_lawful}
 use Rattle.wbt_replay_order.proofs.Outset.Cpus.{lines_on, counted_with, all_lines}
-use Rattle.wbt_replay_order.proofs.Outset.Numbered.{numbered_length, numbered_at, numbered_all, numbered_sum}
+use Rattle.wbt_replay_order.proofs.Outset.Numbered.{numbered_length, numbered_at, numbered_all, numbered_each, numbered_sum}
 use Rattle.wbt_replay_order.proofs.Outset.Tasks.{works_fit, all_rests, last_is}
 use Rattle.wbt_rules.proofs.Openings.{first_moment, first_sound}
 use Rattle.wbt_rules.specs.Age.{is_ageing}
@@ -133,27 +136,29 @@ first_due : (cap : ℕ) → (new_writer cap).due ≡ due.No
 unfolding new_writer
 first_due cap = refl
 
-not_due : (trace : Trace) (works : List ReplayWork) (k : ℕ) → (writer_in k (first_task trace works)).due ≡ due.No
-not_due trace works k =
+not_due : (trace : Trace) (pace : Option Pace) (works : List ReplayWork) (k : ℕ) → (writer_in k (first_task trace pace works)).due ≡ due.No
+not_due trace pace works k =
     repeated (λ (w : Writer). w.due ≡ due.No) (length trace.contexts) k (new_writer trace.cap) (new_writer 0) (first_due trace.cap) (first_due 0)
 
 first_writer_fits : (trace : Trace) → 1 ≤ trace.cap → WriterFits trace 0 (new_writer trace.cap)
 unfolding new_writer first
 first_writer_fits trace some = record { dirtied = omega arith; allowance = omega arith; left = omega arith; some_left = λ is. omega (arith, some) }
 
-task_fits : (trace : Trace) (lawful : IsLawful trace) (t : ℕ) → IsTask trace 0 t (first_task trace (works_of trace t trace.actions))
+task_fits : (trace : Trace) (lawful : IsLawful trace) (t : ℕ) → IsTask trace 0 t (first_task trace (pace_of trace t) (works_of trace t trace.actions))
 task_fits trace lawful t = record {
   works = works_fit trace lawful t;
   context = λ some. some;
   writers = length-replicate (length trace.contexts) (new_writer trace.cap);
   fit = All-replicate (WriterFits trace 0) (length trace.contexts) (new_writer trace.cap) (first_writer_fits trace lawful.within.cap.0);
-  due = λ k is. absurd (cc (sym is ∙ not_due trace (works_of trace t trace.actions) k));
+  due = λ k is. absurd (cc (sym is ∙ not_due trace (pace_of trace t) (works_of trace t trace.actions) k));
   ended = λ is. nil_from_length (works_of trace t trace.actions) (eqb-true (length (works_of trace t trace.actions)) 0 is);
   last = λ is. last_is trace t false trace.actions ∙ is;
+  pace = (facts trace lawful).paces t;
+  since = none_since (pace_of trace t) ((facts trace lawful).paces t);
 }
 
 abbrev task_at : (trace : Trace) (t : ℕ) → ReplayTask
-task_at trace t = first_task trace (works_of trace t trace.actions)
+task_at trace t = first_task trace (pace_of trace t) (works_of trace t trace.actions)
 
 tasks_fit : (trace : Trace) (lawful : IsLawful trace) → AreTasks trace 0 (first_tasks trace (length trace.tasks))
 tasks_fit trace lawful = record {
@@ -186,8 +191,19 @@ strict_fit_from trace n device number (c ∷ cs) known few all =
     (either (All (λ k. k < n)) ours (known ++ number ∷ []) known
     (λ is. All-push (λ k. k < n) known number all (omega (arith, few))) (λ other. all))
 
-flusher_fits : (trace : Trace) (f : ℕ) → IsFlusher trace f (first_flusher trace f)
-flusher_fits trace f = record {
+-- each first place is one of the inode's, which has some pages
+places_fit : (trace : Trace) → Facts trace → ArePlaces trace (replicate (length trace.inodes) 0)
+places_fit trace all = record {
+  many = length-replicate (length trace.inodes) 0;
+  below = λ n less.
+      let none : ℕ = 0 in
+      let is : get_or (replicate (length trace.inodes) none) n none ≡ none = get_or-replicate (length trace.inodes) n none none less in
+      let some = all.inode_some n less in
+      omega (arith, is, some);
+}
+
+flusher_fits : (trace : Trace) → Facts trace → (f : ℕ) → IsFlusher trace f (first_flusher trace f)
+flusher_fits trace all f = record {
   phase = refl;
   quota = tt;
   hard = (firsts_lawful trace 0).hard_in_range;
@@ -196,21 +212,23 @@ flusher_fits trace f = record {
       (λ other. All-nil (λ k. k < length trace.contexts));
   weighs = strict_fit_from trace (length trace.contexts) (flusher_device trace f) 0 trace.contexts [] (omega arith) (All-nil (λ k. k < length trace.contexts));
   wheel = either (WheelFits trace) (is_ageing trace (flusher_device trace f)) _ None (λ ages. record { inodes = refl; each = tt }) (λ other. tt);
+  places = λ less. places_fit trace all;
 }
 
-no_flusher_fits : (trace : Trace) (f : ℕ) → IsFlusher trace f no_flusher
-no_flusher_fits trace f =
-    let none = All-nil (λ k. k < length trace.contexts) in record { phase = refl; quota = tt; hard = omega arith; measures = none; weighs = none; wheel = tt }
+no_flusher_fits : (trace : Trace) (f : ℕ) → length trace.flushers ≤ f → IsFlusher trace f no_flusher
+no_flusher_fits trace f past =
+    let none = All-nil (λ k. k < length trace.contexts) in
+    record { phase = refl; quota = tt; hard = omega arith; measures = none; weighs = none; wheel = tt; places = λ less. absurd (omega (arith, past, less)) }
 
 -- what holds of a flusher at first, and of none
 of_flushers : (trace : Trace) (P : Flusher → Type 0) → ((f : ℕ) → P (first_flusher trace f)) → P no_flusher → (n f : ℕ) → P (get_or (first_flushers trace n) f no_flusher)
 of_flushers trace P each other n f =
     numbered_all (first_flushers trace) (first_flusher trace) no_flusher refl (λ m. refl) (λ i x. P x) each (λ i. other) n f
 
-flushers_fit : (trace : Trace) → AreFlushers trace (first_flushers trace (length trace.flushers))
-flushers_fit trace = record {
+flushers_fit : (trace : Trace) → Facts trace → AreFlushers trace (first_flushers trace (length trace.flushers))
+flushers_fit trace all = record {
   many = numbered_length (first_flushers trace) (first_flusher trace) no_flusher refl (λ n. refl) (length trace.flushers);
-  each = numbered_all (first_flushers trace) (first_flusher trace) no_flusher refl (λ n. refl) (IsFlusher trace) (flusher_fits trace) (no_flusher_fits trace) (length trace.flushers);
+  each = numbered_each (first_flushers trace) (first_flusher trace) no_flusher refl (λ n. refl) (IsFlusher trace) (length trace.flushers) (flusher_fits trace all) (no_flusher_fits trace);
 }
 
 all_open : (trace : Trace) (f : ℕ) → IsOpen trace (get_or (first_flushers trace (length trace.flushers)) f no_flusher)
@@ -299,7 +317,13 @@ horizon_fits trace lawful =
     let orders = ticks_few trace trace.order lawful.within.order in
     let few_orders = lawful.within.few_orders in
     let rests : sum_by rests_of (first_tasks trace (length trace.tasks)) ≤ length trace.actions * 2 ^ 40 =
-    omega (arith, numbered_sum (first_tasks trace) (task_at trace) no_task refl (λ m. refl) rests_of (length trace.tasks), all_rests trace lawful (length trace.tasks)) in
+    omega (
+      arith,
+      numbered_sum (first_tasks trace) (task_at trace) no_task refl (λ m. refl) rests_of (length trace.tasks),
+      total_same (length trace.tasks) (λ t. rests_of (task_at trace t)) (λ t. sum_by rest_of (works_of trace t trace.actions)) (λ t less.
+          omega (arith, none_ticks (pace_of trace t))),
+      all_rests trace lawful (length trace.tasks),
+    ) in
     let few_actions = lawful.within.few_actions in
     let credits = no_sum trace credit_of (λ i. refl) trace.cpus in
     record {
@@ -337,7 +361,7 @@ opening_holds trace lawful = record {
       ∙ total_nothing (length trace.tasks) (λ t. dirtied_of (task_at trace t)) (nothing_dirtied trace) in
       let leaks = no_sum trace leaks_of (λ i. refl) trace.cpus in
       omega (arith, tasks, leaks);
-  flushers = flushers_fit trace;
+  flushers = flushers_fit trace (facts trace lawful);
   cpus = cpus_fit trace;
   agreed = λ i less. subst (IsAgreed trace (first_tasks trace (length trace.tasks)) (first_flushers trace (length trace.flushers)) i) (sym (cpu_is trace trace.cpus i less)) (record {
     items = All-nil (Agrees trace (first_tasks trace (length trace.tasks)) (first_flushers trace (length trace.flushers)) (first_cpu trace i).turn.whose);

@@ -12,6 +12,7 @@ use Rattle.wbt_replay_moves.specs.Definition.Cpu.{added, own_of, with_own, log_a
 use Rattle.wbt_replay_moves.specs.Definition.Idle.{domain_loads, measures_of, weighs_of, begin_test, begin_idle, rest_until, take, take_or_finish, take_or_rest, test, test_by, tested, with_hard, unmark, unmark_by, unmark_in, take_last, note, noticed, age, age_so, tested_by, take_now, with_pairs, take_first}
 use Rattle.wbt_replay_moves.specs.Definition.Scan.{look, look_by, look_in, looked_at, claim, claim_by, claim_in, claim_now, close, close_by, close_in, is_over, land_empty, hand_over, hand_over_by, hand_over_in}
 use Rattle.wbt_replay_moves.specs.Definition.State.{State, cpu_of, flusher_of, task_of, domain_of, count_of, with_count, with_task, queue_of, is_drained, waiting_of, with_queue}
+use Rattle.wbt_rules.specs.Places.{page_of}
 use Rattle.wbt_rules.specs.Things.{flusher_device}
 use Rattle.wbt_replay_moves.specs.Definition.Weigh.{is_over_by_itself, over_noted, weigh, weighed_by}
 use Rattle.wbt_replay_moves.specs.Definition.Writer.{mark, end, end_by, end_now, has_nothing}
@@ -186,7 +187,7 @@ wrote_looked cpu flusher scan bits s =
     either (Wrote s) (is_claimable bits) _ _ (λ can. wrote_cpu cpu _ s (λ t. refl)) (λ no. wrote_cpu cpu _ s (λ t. refl))
 
 wrote_look_in : (cpu flusher : ℕ) (p : ReplayPhase) (s : State) → Wrote s (look_in cpu flusher p s)
-wrote_look_in cpu flusher (phase.Scanning scan) s = wrote_looked cpu flusher scan (s.book scan.page) s
+wrote_look_in cpu flusher (phase.Scanning scan) s = wrote_looked cpu flusher scan (s.book (page_of scan)) s
 wrote_look_in cpu flusher (phase.Taken inode) s = unwritten s
 wrote_look_in cpu flusher (phase.Idle until kept) s = unwritten s
 wrote_look_in cpu flusher (phase.Flying inode pages until) s = unwritten s
@@ -201,12 +202,12 @@ wrote_look cpu s = wrote_look_by cpu (cpu_of cpu s).turn.whose s
 
 wrote_claim_now : (cpu flusher : ℕ) (scan : Scan) (s : State) → Wrote s (claim_now cpu flusher scan s)
 wrote_claim_now cpu flusher scan s =
-    let u = log_at cpu (entry.Claimed flusher scan.page) s in
-    then_unwritten s u (then_do cpu (todo.Silent silent.Close ∷ []) u) (wrote_cpu cpu _ s (unlogged (entry.Claimed flusher scan.page) (cpu_of cpu s) (λ t. refl))) (do_quietly cpu u (todo.Silent silent.Close ∷ []))
+    let u = log_at cpu (entry.Claimed flusher (page_of scan)) s in
+    then_unwritten s u (then_do cpu (todo.Silent silent.Close ∷ []) u) (wrote_cpu cpu _ s (unlogged (entry.Claimed flusher (page_of scan)) (cpu_of cpu s) (λ t. refl))) (do_quietly cpu u (todo.Silent silent.Close ∷ []))
 
 wrote_claim_in : (cpu flusher word : ℕ) (p : ReplayPhase) (s : State) → Wrote s (claim_in cpu flusher word p s)
 wrote_claim_in cpu flusher word (phase.Scanning scan) s =
-    either (Wrote s) (eqb (shared_word s.book scan.page) word) (claim_now cpu flusher scan s) s
+    either (Wrote s) (eqb (shared_word s.book (page_of scan)) word) (claim_now cpu flusher scan s) s
     (λ same. wrote_claim_now cpu flusher scan s) (λ other. unwritten s)
 wrote_claim_in cpu flusher word (phase.Taken inode) s = unwritten s
 wrote_claim_in cpu flusher word (phase.Idle until kept) s = unwritten s
@@ -222,7 +223,7 @@ wrote_claim cpu word s = wrote_claim_by cpu word (cpu_of cpu s).turn.whose s
 
 wrote_close_in : (trace : Trace) (cpu flusher : ℕ) (p : ReplayPhase) (s : State) → Wrote s (close_in trace cpu flusher p s)
 wrote_close_in trace cpu flusher (phase.Scanning scan) s =
-    either (Wrote s) (is_over trace scan (length (flusher_of flusher s).batch)) _ s (λ over. wrote_cpu cpu _ s (λ t. refl)) (λ more. unwritten s)
+    either (Wrote s) (is_over scan (length (flusher_of flusher s).batch)) _ s (λ over. wrote_cpu cpu _ s (λ t. refl)) (λ more. unwritten s)
 wrote_close_in trace cpu flusher (phase.Taken inode) s = unwritten s
 wrote_close_in trace cpu flusher (phase.Idle until kept) s = unwritten s
 wrote_close_in trace cpu flusher (phase.Flying inode pages until) s = unwritten s

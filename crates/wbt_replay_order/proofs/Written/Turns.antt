@@ -1,5 +1,5 @@
 -- Flights and the beginnings of turns write no page.
-use Rattle.std.proofs.Common.{◌≡◌, ℕ, zero, suc, ◌+◌, false, eqb, negsuc, List, [], ◌∷◌, length, flat_map, refl, sym, ap}
+use Rattle.std.proofs.Common.{◌≡◌, ℕ, zero, suc, ◌+◌, false, eqb, negsuc, List, [], ◌∷◌, length, flat_map, refl, sym, ap, Option, None, Some}
 use Rattle.wbt_trace.specs.declared.trace.Trace.{Trace}
 use Rattle.wbt_flex.specs.Proportions.{fraction_of, may_be_added}
 use Rattle.wbt_journal.specs.declared.entry.Entry.TheVariants as entry
@@ -9,7 +9,7 @@ use Rattle.wbt_replay_moves.specs.Definition.Flight.{complete, complete_by, comp
 use Rattle.wbt_replay_moves.specs.Definition.Perform.{begin_turn, begin_for, begin_phase}
 use Rattle.wbt_replay_moves.specs.Definition.State.{State, cpu_of, with_cpu, flusher_of, with_flusher, task_of, with_task, domain_of, writeback_of, in_phase}
 use Rattle.wbt_rules.specs.Things.{context_of, group_of, max_share}
-use Rattle.wbt_replay_moves.specs.Definition.Writer.{begin_due, begin_work}
+use Rattle.wbt_replay_moves.specs.Definition.Writer.{pause_in, begin_page, begin_due, begin_work}
 use Rattle.wbt_replay_moves.specs.declared.state.ReplayPhase.{ReplayPhase}
 use Rattle.wbt_replay_moves.specs.declared.state.ReplayPhase.TheVariants as phase
 use Rattle.wbt_replay_moves.specs.declared.state.ReplayTask.{ReplayTask}
@@ -90,13 +90,20 @@ wrote_land trace cpu s = wrote_land_by trace cpu (cpu_of cpu s).turn.whose s
 
 -- ---- the beginning of a turn
 
+wrote_page : (cpu task : ℕ) (pause : Option ℕ) (s : State) → Wrote s (begin_page cpu task pause s)
+wrote_page cpu task None s = wrote_cpu cpu _ s (λ t. refl)
+wrote_page cpu task (Some ticks) s =
+    let t : ReplayTask = record (task_of task s) { since = 0; rest = s.now + ticks } in
+    let u = with_task task t s in
+    then_unwritten s u (begin_page cpu task (Some ticks) s) (wrote_task task t s refl) (wrote_cpu cpu _ u (λ t. refl))
+
 wrote_work : (cpu task : ℕ) (works : List ReplayWork) (s : State) → (task_of task s).works ≡ works → Wrote s (begin_work cpu task works s)
 wrote_work cpu task [] s is = wrote_cpu cpu _ s (λ t. refl)
 wrote_work cpu task (work.Rest ticks ∷ works) s is =
     let t : ReplayTask = record (task_of task s) { works = works; rest = s.now + ticks } in
     let u = with_task task t s in
     then_unwritten s u (begin_work cpu task (work.Rest ticks ∷ works) s) (wrote_task task t s (sym (ap (λ (ws : List ReplayWork). flat_map pages_of ws) is))) (wrote_cpu cpu _ u (λ t. refl))
-wrote_work cpu task (work.Write inode page pages ∷ works) s is = wrote_cpu cpu _ s (λ t. refl)
+wrote_work cpu task (work.Write inode page pages ∷ works) s is = wrote_page cpu task (pause_in (task_of task s)) s
 
 wrote_due : (trace : Trace) (cpu task : ℕ) (d : Due) (s : State) → Wrote s (begin_due trace cpu task d s)
 wrote_due trace cpu task due.Check s = wrote_cpu cpu _ s (λ t. refl)

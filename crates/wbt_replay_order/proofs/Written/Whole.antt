@@ -19,11 +19,12 @@ use Rattle.wbt_journal.specs.declared.entry.Entry.TheVariants as entry
 use Rattle.wbt_replay_moves.specs.Definition.Check.{decision_at, told_task, decide_for}
 use Rattle.wbt_replay_moves.specs.Definition.Cpu.{do_next, logged, log_at, owed_to}
 use Rattle.wbt_replay_moves.specs.Definition.Estimates.{estimate, estimate_to, sample_of}
+use Rattle.wbt_rules.specs.Pace.{pace_of}
 use Rattle.wbt_rules.specs.Things.{inode_of, context_of, group_of}
 use Rattle.wbt_replay_moves.specs.Definition.Perform.{make_timer_step, make_timer_move}
 use Rattle.wbt_replay_moves.specs.Definition.State.{State, no_cpu, no_task, cpu_of, with_cpu, task_of, with_task, plain_step, domain_of, writeback_of}
 use Rattle.wbt_replay_moves.specs.Definition.Timer.{with_timer, period, period_to, is_time, periods}
-use Rattle.wbt_replay_moves.specs.Definition.Writer.{without_page, dirty, dirty_by, dirty_next, dirty_fresh, counted_page, counted_local}
+use Rattle.wbt_replay_moves.specs.Definition.Writer.{passed_page, dirty, dirty_by, dirty_next, dirty_fresh, counted_page, counted_local}
 use Rattle.wbt_replay_moves.specs.declared.state.Cpu.{Cpu}
 use Rattle.wbt_replay_moves.specs.declared.state.ReplayTask.{ReplayTask}
 use Rattle.wbt_replay_moves.specs.declared.state.Whose.{Whose}
@@ -95,7 +96,7 @@ module _ (trace : Trace) where
   write_next cpu task [] s is seat there on some h = h
   write_next cpu task (work.Rest ticks ∷ works) s is seat there on some h = h
   write_next cpu task (work.Write inode page pages ∷ works) s is seat there on some h =
-      let t : ReplayTask = record (task_of task s) { works = without_page inode page pages works } in
+      let t : ReplayTask = passed_page inode page pages works (task_of task s) in
       let ahead : to_write (task_of task s) ≡ page ∷ to_write t =
       ap (λ (ws : List ReplayWork). flat_map pages_of ws) is ∙ pages_before inode page pages works (some inode page pages works is) in
       either (AllThere trace) (s.book page).dirty _ (dirty_fresh trace cpu task inode page (with_task task t s))
@@ -207,7 +208,7 @@ module _ (trace : Trace) where
   opening_there t less =
       ap (λ (l : List ℕ). l ++ to_write (get_or (first_tasks trace (length trace.tasks)) t no_task))
       (numbered_all (first_cpus trace) (first_cpu trace) no_cpu refl (λ n. refl) (λ i c. told_by t c ≡ []) (λ i. refl) (λ i. refl) trace.cpus (task_cpu trace t))
-      ∙ ap to_write (numbered_at (first_tasks trace) (λ k. first_task trace (works_of trace k trace.actions)) no_task refl (λ n. refl) (length trace.tasks) t less)
+      ∙ ap to_write (numbered_at (first_tasks trace) (λ k. first_task trace (pace_of trace k) (works_of trace k trace.actions)) no_task refl (λ n. refl) (length trace.tasks) t less)
       ∙ all_actions t trace.actions
 
   module _ (fits : (moves : ℕ) → WritesFit trace (state_at trace moves).cpus (state_at trace moves).tasks) where

@@ -14,9 +14,11 @@ abbrev pub written_in : (task : ℕ) (entry : Entry) → List ℕ
 written_in task (entry.Write by page fresh) = if by == task then page ∷ [] else []
 written_in task other = []
 
+-- the pages that a task has written in a state, in order, by the entries of its CPU
 abbrev pub written_by : (task : ℕ) (s : State) (trace : Trace) → List ℕ
 written_by task s trace = flat_map (written_in task) (cpu_of (task_cpu trace task) s).entries
 
+-- the run left no page dirty or under writeback, and each task wrote all its pages in order
 pub record IsComplete (trace : Trace) : Type 0 where
   pub left : (journal_of trace).left ≡ []
   pub written : (task : ℕ) → task < length trace.tasks → written_by task (last_state trace) trace ≡ pages_of_task trace task

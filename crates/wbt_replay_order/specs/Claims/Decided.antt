@@ -30,8 +30,8 @@ pub record IsNamed (trace : Trace) (s : State) (check : CheckEntry) (estimate : 
   pub told : (estimate ≡ first_estimate trace check.context opening_moment) ⊎ IsPublished s trace.cpus check.context estimate
 
 -- The run was once where the check was made: the CPU had told just the checks before its place, and came to a decision in a turn of the
--- check's task, of its context, which had loaded what the check prints. The check was due, the shares and the clock were those of the check, and the context's estimate
--- and the writer's numbers were these.
+-- check's task, of its context, which had loaded what the check prints. The check was due, the shares and the clock were those of the
+-- check, and the context's estimate and the writer's numbers were these.
 pub record WasAsked (trace : Trace) (cpu place : ℕ) (check : CheckEntry) (estimate : Estimate) (numbers : Task) : Type 0 where
   pub moves : ℕ
   pub checks_before : length (cpu_of cpu (state_at trace moves)).checks ≡ place

@@ -15,6 +15,7 @@ use Rattle.wbt_replay_order.specs.declared.chance.Ahead.TheVariants as ahead
 abbrev pub is_over : (s : State) → Bool
 is_over s = s.stopped == length s.cpus || (s.running == 0 && s.working == 0)
 
+-- whether a step was made by the CPU
 abbrev pub is_made_by : (cpu : ℕ) (step : StepEntry) → Bool
 is_made_by cpu step = step.who == cpu
 

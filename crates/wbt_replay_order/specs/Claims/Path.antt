@@ -60,10 +60,11 @@ number_of set (Writer w) = set.seat w
 number_of set (Cpu i) = i
 number_of set Timer = set.cpus
 
--- an entry of a step that changes no count, and of one that changes that of a context
+-- an entry of a step that changes no count
 abbrev pub plain_entry : (who : ℕ) (kind : StepKind) → StepEntry
 plain_entry who kind = record { who = who; kind = kind; context = 0; change = pos 0; domain = 0; peak = 0 }
 
+-- an entry of a step that changes a context's count, by so many pages
 abbrev pub change_entry : (who : ℕ) (kind : StepKind) (context : ℕ) (change : ℤ) → StepEntry
 change_entry who kind context change = record { who = who; kind = kind; context = context; change = change; domain = 0; peak = 0 }
 
@@ -107,6 +108,7 @@ events_with (entry.Done flusher page) older = event.Complete page ∷ older
 events_with (entry.Back flusher page absorbed) older = cond absorbed (event.Absorb page) (event.Redirty page) ∷ older
 events_with other older = older
 
+-- the events of the book that entries tell, the newest first, before older ones
 abbrev pub events_told : (older : List Event) (entries : List Entry) → List Event
 events_told older [] = older
 events_told older (e ∷ entries) = events_told (events_with e older) entries
@@ -116,6 +118,7 @@ abbrev pub folds_with : (entry : Entry) (older : List Fold) → List Fold
 folds_with (entry.Folded made) older = made ∷ older
 folds_with other older = older
 
+-- the folds that entries tell, the newest first, before older ones
 abbrev pub folds_told : (older : List Fold) (entries : List Entry) → List Fold
 folds_told older [] = older
 folds_told older (e ∷ entries) = folds_told (folds_with e older) entries
@@ -125,22 +128,26 @@ abbrev pub founds_with : (entry : Entry) (older : List ℕ) → List ℕ
 founds_with (entry.Write task page false) older = page ∷ older
 founds_with other older = older
 
+-- the pages that writes found dirty, the newest first, before older ones
 abbrev pub founds_told : (older : List ℕ) (entries : List Entry) → List ℕ
 founds_told older [] = older
 founds_told older (e ∷ entries) = founds_told (founds_with e older) entries
 
--- the loads of a check, the newest first
+-- one load of a counter, with the version and the value that it found
 abbrev pub reading_of : (x : Counter) (told : Count) → Reading
 reading_of x told = record { counter = x; version = told.version; value = told.value }
 
+-- the load of a domain's count, if there is one
 abbrev pub line_readings : (line : Option DomainLine) → List Reading
 line_readings None = []
 line_readings (Some line) = reading_of (Domain line.domain) line.count ∷ []
 
+-- a check's loads, the newest first, before older ones
 abbrev pub readings_with : (check : CheckEntry) (older : List Reading) → List Reading
 readings_with check older =
     reading_of (Context check.context) check.count ∷ line_readings check.cgroup ++ line_readings (Some check.global) ++ older
 
+-- the loads of checks, the newest first, before older ones
 abbrev pub readings_told : (older : List Reading) (checks : List CheckEntry) → List Reading
 readings_told older [] = older
 readings_told older (c ∷ checks) = readings_told (readings_with c older) checks
@@ -172,18 +179,22 @@ pub record LinesArePublished (trace : Trace) (entries : List TimerEntry) (publis
 
 -- ---- what a check under way keeps
 
+-- whether the item is a check's decision
 abbrev pub is_decide : (t : Todo) → Bool
 is_decide (todo.Silent silent.Decide) = true
 is_decide other = false
 
+-- whether the item is the last of the three loads of the domain's limits
 abbrev pub is_limits_of : (domain : ℕ) (t : Todo) → Bool
 is_limits_of domain (todo.Step (item.Limits d)) = d == domain
 is_limits_of domain other = false
 
+-- whether the item is a load of the domain's count
 abbrev pub is_count_of : (domain : ℕ) (t : Todo) → Bool
 is_count_of domain (todo.Step (item.Count (Domain d))) = d == domain
 is_count_of domain other = false
 
+-- whether the item is a load of a context's count
 abbrev pub is_context_count : (t : Todo) → Bool
 is_context_count (todo.Step (item.Count (Context k))) = true
 is_context_count other = false

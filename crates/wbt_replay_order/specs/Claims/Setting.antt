@@ -18,6 +18,7 @@ abbrev pub inode_from : (page number : ℕ) (inodes : List Inode) → ℕ
 inode_from page number [] = number
 inode_from page number (i ∷ inodes) = if nat_lt page (i.first + i.pages) then number else inode_from page (number + 1) inodes
 
+-- the number of the inode that has a page of the trace
 abbrev pub inode_with : (trace : Trace) (page : ℕ) → ℕ
 inode_with trace page = inode_from page 0 trace.inodes
 
@@ -25,9 +26,11 @@ inode_with trace page = inode_from page 0 trace.inodes
 abbrev pub writers_in : (trace : Trace) → List Writer
 writers_in trace = writers_of trace.inodes trace.actions
 
+-- a writer by its number
 abbrev pub writer_at : (trace : Trace) (w : ℕ) → Writer
 writer_at trace w = get_or (writers_in trace) w (record { task = 0; context = 0 })
 
+-- the setting of the step relation that a trace gives
 unfoldable pub setting_of : (trace : Trace) → Setting
 setting_of trace = record {
   cpus = trace.cpus;

@@ -8,6 +8,7 @@ use Rattle.wbt_journal.specs.Told.{Told, told}
 use Rattle.wbt_replay_order.specs.Definition.Run.{part_of, state_at}
 use Rattle.wbt_replay_moves.specs.Definition.State.{cpu_of}
 
+-- whether a move gives a page back
 abbrev pub is_return : (move : Move) → Bool
 is_return (gives_back page absorbed) = true
 is_return other = false
@@ -16,6 +17,7 @@ is_return other = false
 abbrev pub is_back : (entry : Told) → Bool
 is_back entry = of_part false (λ (flight : Flight). is_return flight.move) (effect entry).flight
 
+-- an entry tells no fault and no page that was given back
 abbrev pub TellsNoFailure : (entry : Told) → Type 0
 TellsNoFailure entry = (is_fault entry ≡ false) × (is_back entry ≡ false)
 

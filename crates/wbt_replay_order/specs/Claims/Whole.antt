@@ -10,6 +10,7 @@ use Rattle.wbt_journal.specs.declared.step.StepEntry.{StepEntry}
 abbrev pub IsAtHome : (homes bases : ℕ) (step : StepEntry) → Type 0
 IsAtHome homes bases step = ((step.change ≡ pos 0) ⊎ (step.context < homes)) × (step.domain < bases)
 
+-- a journal whose parts, steps, homes and left pages name only what is there
 pub record IsWhole (journal : Journal) : Type 0 where
   -- the pages that are left stand in order, each once, and are dirty or under writeback
   pub left : LeftFrom 0 journal.left

@@ -8,6 +8,7 @@ use Rattle.wbt_trace.specs.declared.trace.Context.{Context}
 use Rattle.wbt_trace.specs.declared.trace.FlusherLine.{FlusherLine}
 use Rattle.wbt_trace.specs.declared.trace.Order.{Order}
 use Rattle.wbt_trace.specs.declared.trace.Order.TheVariants as order
+use Rattle.wbt_trace.specs.declared.trace.Pace.{Pace}
 use Rattle.wbt_trace.specs.declared.trace.TaskLine.{TaskLine}
 use Rattle.wbt_trace.specs.declared.trace.Trace.{Trace}
 use Rattle.wbt_book.specs.Book.{clean}
@@ -19,6 +20,7 @@ use Rattle.wbt_task.specs.History.{new_writer}
 use Rattle.wbt_replay_moves.specs.Definition.Cpu.{turn_of}
 use Rattle.wbt_replay_moves.specs.Definition.State.{State, no_count, no_half, no_limits}
 use Rattle.wbt_rules.specs.First.{first_estimate}
+use Rattle.wbt_rules.specs.Pace.{pace_of}
 use Rattle.wbt_rules.specs.Strict.{is_strict}
 use Rattle.wbt_rules.specs.Things.{inode_of, flusher_device, leads}
 use Rattle.wbt_rules.specs.declared.moments.TheConstants.{TIMER_REST, PERIOD_TICKS}
@@ -52,6 +54,7 @@ opening_moment = 1
 abbrev pub first_limits : (trace : Trace) (domain : ℕ) → Limits
 first_limits trace domain = limits_at trace opening_moment domain
 
+-- a domain at the opening, with its first limits
 abbrev pub first_domain : (limits : Limits) → Domain
 first_domain limits = record { limits = limits; sequence = 0; peak = limits.hard; count = no_count; events = record { period = 0; events = 1 } }
 
@@ -60,6 +63,7 @@ abbrev pub first_domains : (trace : Trace) (n : ℕ) → List Domain
 first_domains trace zero = []
 first_domains trace (suc n) = first_domains trace n ++ first_domain (first_limits trace n) ∷ []
 
+-- a context at the opening: it has no page, and the estimate that a context begins with
 abbrev pub first_context : (trace : Trace) (context : ℕ) → Writeback
 first_context trace context =
     record { count = no_count; written = 0; estimate = first_estimate trace context opening_moment; part = no_half; cgroup_part = no_half }
@@ -77,23 +81,26 @@ work_of trace task (action.Write writer inode from pages) =
     if writer == task then work.Write inode ((inode_of trace inode).first + from) pages ∷ [] else []
 work_of trace task (action.Rest sleeper ticks) = if sleeper == task then work.Rest ticks ∷ [] else []
 
+-- what actions are to a task, in order
 abbrev pub works_of : (trace : Trace) (task : ℕ) (actions : List Action) → List ReplayWork
 works_of trace task actions = flat_map (work_of trace task) actions
 
 -- A task without actions has ended.
-abbrev pub first_task : (trace : Trace) (works : List ReplayWork) → ReplayTask
-first_task trace works = record {
+abbrev pub first_task : (trace : Trace) (pace : Option Pace) (works : List ReplayWork) → ReplayTask
+first_task trace pace works = record {
   works = works;
   rest = 0;
   ended = length works == 0;
   context = 0;
   writers = replicate (length trace.contexts) (new_writer trace.cap);
+  pace = pace;
+  since = 0;
 }
 
 -- so many tasks
 abbrev pub first_tasks : (trace : Trace) (n : ℕ) → List ReplayTask
 first_tasks trace zero = []
-first_tasks trace (suc n) = first_tasks trace n ++ first_task trace (works_of trace n trace.actions) ∷ []
+first_tasks trace (suc n) = first_tasks trace n ++ first_task trace (pace_of trace n) (works_of trace n trace.actions) ∷ []
 
 -- ---- flushers
 
@@ -127,6 +134,7 @@ first_wheel trace flusher =
     then Some (record { pairs = []; told = opening_moment; inodes = length trace.inodes })
     else None
 
+-- a flusher at the opening: it is idle and may take a turn at once
 abbrev pub first_flusher : (trace : Trace) (flusher : ℕ) → Flusher
 first_flusher trace flusher = record {
   phase = phase.Idle 0 false;
@@ -135,6 +143,7 @@ first_flusher trace flusher = record {
   measures = measures_of trace flusher;
   weighs = weighs_of trace flusher;
   wheel = first_wheel trace flusher;
+  places = replicate (length trace.inodes) 0;
 }
 
 -- so many flushers
@@ -169,6 +178,7 @@ abbrev pub first_held : (trace : Trace) (n : ℕ) → List Held
 first_held trace zero = []
 first_held trace (suc n) = first_held trace n ++ held_first (first_limits trace n) ∷ []
 
+-- a CPU at the opening, with its tasks
 abbrev pub cpu_with : (trace : Trace) (cpu : ℕ) (tasks : List ℕ) → Cpu
 cpu_with trace cpu tasks = record {
   jobs = jobs_with trace cpu tasks;
@@ -188,6 +198,7 @@ cpu_with trace cpu tasks = record {
   stopped = false;
 }
 
+-- a CPU at the opening, by its number
 abbrev pub first_cpu : (trace : Trace) (cpu : ℕ) → Cpu
 first_cpu trace cpu = cpu_with trace cpu (tasks_from cpu 0 trace.tasks [])
 
@@ -198,6 +209,7 @@ first_cpus trace (suc n) = first_cpus trace n ++ first_cpu trace n ∷ []
 
 -- ---- order lines, and the timer
 
+-- what an order line asks for
 abbrev pub stretch_of : (trace : Trace) (order : Order) → Stretch
 stretch_of trace (order.Steps cpu steps) = stretch.Steps (actor.Cpu cpu) steps
 stretch_of trace (order.Timer steps) = stretch.Steps actor.Timer steps
@@ -208,6 +220,7 @@ abbrev pub first_entries : (trace : Trace) (n : ℕ) → List TimerEntry
 first_entries trace zero = []
 first_entries trace (suc n) = first_entries trace n ++ entry.Limits n opening_moment (first_limits trace n) ∷ []
 
+-- the timer at the opening: its first turn is due after its first wait
 abbrev pub first_timer : (trace : Trace) → Timer
 first_timer trace = record {
   todo = [];
@@ -225,6 +238,7 @@ first_timer trace = record {
 abbrev pub running_of : (tasks : List ReplayTask) → ℕ
 running_of tasks = count_by (λ t. not t.ended) tasks
 
+-- the state of a trace's run before its first step
 unfoldable pub opening : (trace : Trace) → State
 opening trace = record {
   now = opening_moment;

@@ -37,11 +37,13 @@ after count n = if nat_lt (n + 1) count then n + 1 else 0
 
 -- ---- what comes next in a turn
 
+-- what comes next in a turn of a CPU: a step, a silent move, or nothing
 abbrev pub todo_ahead : (todos : List Todo) → Ahead
 todo_ahead [] = ahead.Nothing
 todo_ahead (todo.Step step ∷ more) = ahead.Step
 todo_ahead (todo.Silent item ∷ more) = ahead.Silent
 
+-- what comes next in the timer's turn
 abbrev pub timer_todo_ahead : (todos : List TimerTodo) → Ahead
 timer_todo_ahead [] = ahead.Nothing
 timer_todo_ahead (timer_todo.Step step ∷ more) = ahead.Step
@@ -51,9 +53,11 @@ timer_todo_ahead (timer_todo.Silent item ∷ more) = ahead.Silent
 abbrev pub cpu_ahead : (c : Cpu) → Ahead
 cpu_ahead c = if c.stopped then ahead.Nothing else todo_ahead c.todo
 
+-- what the timer does next
 abbrev pub timer_ahead : (s : State) → Ahead
 timer_ahead s = if is_drained s then ahead.Nothing else timer_todo_ahead s.timer.todo
 
+-- what an actor does next in its turn
 abbrev pub ahead_of : (actor : Actor) (s : State) → Ahead
 ahead_of (actor.Cpu cpu) s = cpu_ahead (cpu_of cpu s)
 ahead_of actor.Timer s = timer_ahead s
@@ -87,9 +91,11 @@ job_turn c s place job.Writer = task_turn place c.tasks s (length c.tasks) c.nex
 job_turn c s place (job.Flusher flusher) =
     if is_phase_ready (flusher_of flusher s).phase (is_drained s) s.now then chance.Begins place 0 else chance.Nothing
 
+-- a CPU's job by its place
 abbrev pub job_at : (n : ℕ) (c : Cpu) → ReplayJob
 job_at n c = get_or c.jobs n job.Writer
 
+-- whether an actor can do nothing
 abbrev pub is_nothing : (chance : Chance) → Bool
 is_nothing chance.Nothing = true
 is_nothing chance.GoesOn = false
@@ -109,9 +115,11 @@ seek_job c s (suc tries) place =
 abbrev pub cpu_turn : (c : Cpu) (s : State) → Chance
 cpu_turn c s = if c.stopped then chance.Nothing else seek_job c s (length c.jobs) c.next
 
+-- the timer can begin a turn once its wait is over, but not in the drain
 abbrev pub timer_turn : (s : State) → Chance
 timer_turn s = if not (is_drained s) && nat_le s.timer.next s.now then chance.TimerBegins else chance.Nothing
 
+-- the turn that an actor can begin
 abbrev pub turn_at : (actor : Actor) (s : State) → Chance
 turn_at (actor.Cpu cpu) s = cpu_turn (cpu_of cpu s) s
 turn_at actor.Timer s = timer_turn s
@@ -122,6 +130,7 @@ turn_at actor.Timer s = timer_turn s
 abbrev pub is_full : (s : State) → Bool
 is_full s = nat_le MOST_STEPS (length s.steps)
 
+-- the run's steps are spent
 abbrev pub spend : (s : State) → State
 spend s = record s { spent = true }
 
@@ -130,6 +139,7 @@ abbrev pub is_halted : (halt : Option ℕ) (made : ℕ) → Bool
 is_halted None made = false
 is_halted (Some most) made = nat_le most made
 
+-- whether a flusher is finished
 abbrev pub is_finished : (phase : ReplayPhase) → Bool
 is_finished phase.Finished = true
 is_finished (phase.Idle until kept) = false
@@ -149,21 +159,25 @@ stop cpu s = record (with_cpu cpu (record (cpu_of cpu s) { stopped = true }) s) 
   working = s.working - count_by (is_working s) (cpu_of cpu s).jobs;
 }
 
+-- a CPU makes its next step; it stops instead at its halt number, and where no step is left the run is spent
 abbrev pub step_or_stop : (trace : Trace) (cpu : ℕ) (step : Step) (rest : List Todo) (s : State) → State
 step_or_stop trace cpu step rest s =
     if is_halted trace.halt (cpu_of cpu s).made then stop cpu s
     else (if is_full s then spend s
     else make_step trace cpu step (with_cpu cpu (record (cpu_of cpu s) { todo = rest; made = (cpu_of cpu s).made + 1 }) s))
 
+-- a CPU makes the next move of its turn, a step or a silent move
 abbrev pub cpu_on : (trace : Trace) (cpu : ℕ) (todos : List Todo) (s : State) → State
 cpu_on trace cpu [] s = s
 cpu_on trace cpu (todo.Step step ∷ rest) s = step_or_stop trace cpu step rest s
 cpu_on trace cpu (todo.Silent item ∷ rest) s = make_move trace cpu item (with_cpu cpu (record (cpu_of cpu s) { todo = rest }) s)
 
+-- the timer makes its next step; where no step is left the run is spent
 abbrev pub timer_step_or_end : (trace : Trace) (step : TimerStep) (rest : List TimerTodo) (s : State) → State
 timer_step_or_end trace step rest s =
     if is_full s then spend s else make_timer_step trace step (with_timer (record s.timer { todo = rest }) s)
 
+-- the timer makes the next move of its turn, a step or a silent move
 abbrev pub timer_on : (trace : Trace) (todos : List TimerTodo) (s : State) → State
 timer_on trace [] s = s
 timer_on trace (timer_todo.Step step ∷ rest) s = timer_step_or_end trace step rest s
@@ -189,6 +203,7 @@ begin trace actor.Timer job place s = s
 
 -- ---- the order lines
 
+-- the state with these order lines still to follow
 abbrev pub with_orders : (orders : List Stretch) (s : State) → State
 with_orders orders s = record s { orders = orders }
 
@@ -218,6 +233,7 @@ sooner now (Some moment) until = if nat_lt now until then Some (min until moment
 abbrev pub task_sooner : (now : ℕ) (found : Option ℕ) (t : ReplayTask) → Option ℕ
 task_sooner now found t = if t.ended then found else sooner now found t.rest
 
+-- the sooner of a moment that was found and the end of a flusher's rest or flight
 abbrev pub phase_sooner : (now : ℕ) (found : Option ℕ) (phase : ReplayPhase) → Option ℕ
 phase_sooner now found (phase.Idle until kept) = sooner now found until
 phase_sooner now found (phase.Taken inode) = found
@@ -225,17 +241,21 @@ phase_sooner now found (phase.Scanning scan) = found
 phase_sooner now found (phase.Flying inode pages until) = sooner now found until
 phase_sooner now found phase.Finished = found
 
+-- the sooner of a moment that was found and the ends of the tasks' rests
 unfoldable pub tasks_sooner : (now : ℕ) (found : Option ℕ) (tasks : List ReplayTask) → Option ℕ
 tasks_sooner now found [] = found
 tasks_sooner now found (t ∷ ts) = tasks_sooner now (task_sooner now found t) ts
 
+-- the sooner of a moment that was found and the ends of the flushers' rests and flights
 unfoldable pub flushers_sooner : (now : ℕ) (found : Option ℕ) (flushers : List Flusher) → Option ℕ
 flushers_sooner now found [] = found
 flushers_sooner now found (f ∷ fs) = flushers_sooner now (phase_sooner now found f.phase) fs
 
+-- the sooner of a moment that was found and the end of the timer's wait
 abbrev pub timer_sooner : (s : State) (found : Option ℕ) → Option ℕ
 timer_sooner s found = if is_drained s then found else sooner s.now found s.timer.next
 
+-- the next moment at which a rest, a flight or the timer's wait ends; none where nothing is waited for
 abbrev pub next_moment : (s : State) → Option ℕ
 next_moment s = timer_sooner s (flushers_sooner s.now (tasks_sooner s.now None s.tasks) s.flushers)
 
@@ -244,6 +264,7 @@ abbrev pub at_moment : (found : Option ℕ) (s : State) → State
 at_moment None s = s
 at_moment (Some moment) s = record s { now = moment; rotation = None }
 
+-- the clock moves to the next moment at which something ends, if there is one
 abbrev pub move_clock : (s : State) → State
 move_clock s = at_moment (next_moment s) s
 
@@ -265,9 +286,11 @@ chance_by ahead.Step actor s = chance.GoesOn
 chance_by ahead.Silent actor s = chance.GoesOn
 chance_by ahead.Nothing actor s = turn_at actor s
 
+-- what an actor can do now
 abbrev pub chance_of : (actor : Actor) (s : State) → Chance
 chance_of actor s = chance_by (ahead_of actor s) actor s
 
+-- an actor does what it can
 abbrev pub take : (trace : Trace) (actor : Actor) (found : Chance) (s : State) → State
 take trace actor chance.Nothing s = s
 take trace actor chance.GoesOn s = go_on trace actor s
@@ -288,6 +311,7 @@ seek_turn trace (suc tries) place s =
       | false ↦ take_turn trace (actor_at place s) s
     ]
 
+-- the next actor in the rotation has its turn, or the clock moves
 abbrev pub next_turn : (trace : Trace) (s : State) → State
 next_turn trace s = seek_turn trace (length s.cpus + 1) (place_after s.rotation s) s
 
@@ -297,10 +321,12 @@ finish_turn trace actor ahead.Step s = go_on trace actor s
 finish_turn trace actor ahead.Silent s = go_on trace actor s
 finish_turn trace actor ahead.Nothing s = next_turn trace s
 
+-- the rotation goes on: the actor whose turn it is finishes it, or the next one has its turn
 abbrev pub rotate_from : (trace : Trace) (turn : Option Actor) (s : State) → State
 rotate_from trace None s = next_turn trace s
 rotate_from trace (Some actor) s = finish_turn trace actor (ahead_of actor s) s
 
+-- a move by rotation
 abbrev pub rotate : (trace : Trace) (s : State) → State
 rotate trace s = rotate_from trace s.rotation s
 
@@ -310,6 +336,7 @@ rotate trace s = rotate_from trace s.rotation s
 abbrev pub tick : (ticks : ℕ) (more : List Stretch) (s : State) → State
 tick ticks more s = record s { now = s.now + ticks; orders = more }
 
+-- one move by the first order line, or by rotation where no line is left
 abbrev pub advance_by : (trace : Trace) (orders : List Stretch) (s : State) → State
 advance_by trace [] s = rotate trace s
 advance_by trace (stretch.Tick ticks ∷ more) s = tick ticks more s

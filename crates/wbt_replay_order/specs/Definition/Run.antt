@@ -27,6 +27,7 @@ most_moves = 2 ^ 40
 abbrev pub state_at : (trace : Trace) (moves : ℕ) → State
 state_at trace moves = run trace moves (opening trace)
 
+-- the state in which a trace's run ends
 abbrev pub last_state : (trace : Trace) → State
 last_state trace = state_at trace most_moves
 
@@ -61,6 +62,7 @@ left_from (suc pages) page book =
     then left_from pages (page + 1) book
     else (record { page = page; word = page_word (book page) }) ∷ left_from pages (page + 1) book
 
+-- a CPU's part of the journal
 abbrev pub part_of : (c : Cpu) → CpuJournal
 part_of c = record { entries = c.entries; checks = c.checks; estimates = c.estimates }
 

@@ -29,10 +29,11 @@ most_pages context steps = most_from context (pos 0) steps
 
 -- ---- the greatest threshold
 
--- the greatest that any of these checks reads for the context; 0 where none is of it
+-- the greatest part that the check reads for the context, in pages; 0 where it is of another context
 abbrev pub part_in : (trace : Trace) (context : ℕ) (check : CheckEntry) → ℕ
 part_in trace context check = if check.context == context then greatest_part (reads_by trace check) else 0
 
+-- the greatest part that any of these checks reads for the context, in pages
 abbrev pub part_among : (trace : Trace) (context : ℕ) (checks : List CheckEntry) → ℕ
 part_among trace context [] = 0
 part_among trace context (check ∷ checks) = max (part_in trace context check) (part_among trace context checks)
@@ -48,6 +49,7 @@ part_used trace context (c ∷ cpus) = max (part_among trace context c.checks) (
 abbrev pub writer_contexts : (trace : Trace) → List ℕ
 writer_contexts trace = map (λ w. w.context) (writers_of trace.inodes trace.actions)
 
+-- the number of the context's writers
 abbrev pub writers_with : (trace : Trace) (context : ℕ) → ℕ
 writers_with trace context = count_by (λ c. c == context) (writer_contexts trace)
 
@@ -55,6 +57,7 @@ writers_with trace context = count_by (λ c. c == context) (writer_contexts trac
 abbrev pub bound_with : (trace : Trace) (context part : ℕ) → ℕ
 bound_with trace context part = strict_bound part trace.cpus (writers_with trace context) trace.cap
 
+-- the line of a context: the most pages that it had, and its bound
 abbrev pub line_for : (trace : Trace) (steps : List StepEntry) (cpus : List Cpu) (context : ℕ) → StrictLine
 line_for trace steps cpus context = record { context = context; most = most_pages context steps; bound = bound_with trace context (part_used trace context cpus) }
 
@@ -63,5 +66,6 @@ abbrev pub lines_of : (trace : Trace) (steps : List StepEntry) (cpus : List Cpu)
 lines_of trace steps cpus zero = []
 lines_of trace steps cpus (suc n) = if is_strict trace n then lines_of trace steps cpus n ++ line_for trace steps cpus n ∷ [] else lines_of trace steps cpus n
 
+-- the lines of the contexts of strict devices, in order
 abbrev pub strict_lines : (trace : Trace) (steps : List StepEntry) (cpus : List Cpu) → List StrictLine
 strict_lines trace steps cpus = lines_of trace steps cpus (length trace.contexts)

@@ -1,6 +1,6 @@
 -- What a run still has to do, as one sum that falls with every move, and what is kept for it and for the ending. Each step that may still be made is
 -- worth as much as what it may leave to be done without steps.
-use Rattle.std.specs.Prelude.{◌≡◌, ℕ, ◌+◌, ◌-◌, ◌*◌, ◌<◌, ◌≤◌, Bool, true, false, if◌then◌else◌, nat_lt, List, [], ◌∷◌, length, get_or, sum_by, count_by, Option, Some, None}
+use Rattle.std.specs.Prelude.{◌≡◌, ℕ, ◌+◌, ◌-◌, ◌*◌, ◌<◌, ◌≤◌, Bool, true, false, if◌then◌else◌, ◌==◌, nat_lt, List, [], ◌∷◌, length, get_or, sum_by, count_by, Option, Some, None}
 use Rattle.wbt_num.specs.declared.most.TheConstants.{MOST_STEPS}
 use Rattle.wbt_journal.specs.Machine.{domains}
 use Rattle.wbt_journal.specs.declared.step.StepEntry.{StepEntry}
@@ -109,9 +109,15 @@ is_last tasks (whose.Flusher flusher) = false
 abbrev pub cpu_cost : (tasks : List ReplayTask) (c : Cpu) → ℕ
 cpu_cost tasks c = ahead_cost (is_last tasks c.turn.whose) c.todo + (if c.stopped then 0 else 1)
 
-abbrev pub task_cost : (now : ℕ) (t : ReplayTask) → ℕ
-task_cost now t = 4 * length t.works + (if t.ended then 0 else 8 + wait now t.rest)
+-- a rest that the task's pace may ask for, which the first page before it pays
+abbrev pub pause_cost : (t : ReplayTask) → ℕ
+pause_cost t = if t.since == 0 then 0 else 4
 
+-- what a task still has to do: its works, the rest for its pace, its end and the rest under way
+abbrev pub task_cost : (now : ℕ) (t : ReplayTask) → ℕ
+task_cost now t = 4 * length t.works + pause_cost t + (if t.ended then 0 else 8 + wait now t.rest)
+
+-- what a flusher's phase still has to do
 abbrev pub phase_cost : (now : ℕ) (phase : ReplayPhase) → ℕ
 phase_cost now (phase.Idle until kept) = 1 + wait now until
 phase_cost now (phase.Taken inode) = 1
@@ -119,14 +125,17 @@ phase_cost now (phase.Scanning scan) = 1
 phase_cost now (phase.Flying inode pages until) = 1 + wait now until
 phase_cost now phase.Finished = 0
 
+-- what a flusher still has to do
 abbrev pub flusher_cost : (now : ℕ) (f : Flusher) → ℕ
 flusher_cost now f = phase_cost now f.phase
 
+-- what the timer's turn does up to its next step, and its wait
 abbrev pub timer_cost : (now : ℕ) (timer : Timer) → ℕ
 timer_cost now timer = timer_ahead_cost timer.todo + wait now timer.next
 
 -- ---- the sum
 
+-- how many steps the run may still make
 abbrev pub steps_left : (s : State) → ℕ
 steps_left s = MOST_STEPS - length s.steps
 
@@ -156,11 +165,13 @@ pub record IsPaced (halt : Option ℕ) (steps : List StepEntry) (i : ℕ) (c : C
   pub within : IsWithin halt c.made
   pub stopped : c.stopped ≡ true → (is_halted halt c.made ≡ true) × (todo_ahead c.todo ≡ ahead.Step)
 
+-- each CPU has made as many steps as it counts, and no more than the halt line allows
 abbrev pub ArePaced : (halt : Option ℕ) (steps : List StepEntry) (cpus : List Cpu) → Type 0
 ArePaced halt steps cpus = (i : ℕ) → i < length cpus → IsPaced halt steps i (get_or cpus i no_cpu)
 
 -- ---- what is kept
 
+-- what is kept for the ending at each moment of a run
 pub record Ending (trace : Trace) (s : State) : Type 0 where
   pub paid : (i : ℕ) → IsPaid (cpu_of i s).todo
   pub timer_paid : timer_silent_cost s.timer.todo ≤ 2 + domains trace

@@ -1,12 +1,13 @@
 -- What a lawful trace says of its things by number.
 use Rattle.std.specs.Prelude.{◌≡◌, ℕ, ◌+◌, ◌^◌, ◌<◌, ◌≤◌, Bool, true, false, ◌==◌, length, count_by, All, IfSome}
 use Rattle.wbt_num.specs.declared.most.TheConstants.{MOST_CPUS, MOST_CAP, MOST_PAGES, MOST_TASKS, MOST_FLUSHERS, MOST_CONTEXTS, MOST_CGROUPS, MOST_DEVICES, MOST_ORDER_LINES, MOST_ACTIONS, MOST_WRITERS}
-use Rattle.wbt_trace.specs.Lawful.{IsChunk, IsFirstEstimate}
+use Rattle.wbt_trace.specs.Lawful.{IsChunk, IsFirstEstimate, IsPace}
 use Rattle.wbt_trace.specs.Sofar.{least_shares, pages_in}
 use Rattle.wbt_trace.specs.WriterList.{is_writer}
 use Rattle.wbt_trace.specs.declared.ranges.TheConstants.{MOST_PERCENT}
 use Rattle.wbt_trace.specs.declared.trace.Trace.{Trace}
 use Rattle.wbt_rules.specs.Things.{inode_of, context_of, context_at, group_of, device_of, device_at, end_of, flusher_cpu, flusher_device, rate_of}
+use Rattle.wbt_rules.specs.Pace.{pace_of}
 use Rattle.wbt_rules.specs.Thresholds.{cgroup_of}
 use Rattle.wbt_replay_moves.specs.declared.state.ReplayJob.{ReplayJob}
 use Rattle.wbt_replay_moves.specs.declared.state.ReplayJob.TheVariants as job
@@ -33,14 +34,17 @@ pub record IsTaskOn (trace : Trace) (cpu task : ℕ) : Type 0 where
   pub there : task < length trace.tasks
   pub cpu_is : task_cpu trace task ≡ cpu
 
+-- the job is one of the CPU's
 abbrev pub IsJobOn : (trace : Trace) (cpu : ℕ) (job : ReplayJob) → Type 0
 IsJobOn trace cpu job.Writer = 1 ≤ length (first_cpu trace cpu).tasks
 IsJobOn trace cpu (job.Flusher flusher) = IsFlusherOn trace cpu flusher
 
+-- whether the job is this flusher
 abbrev pub is_job_of : (flusher : ℕ) (job : ReplayJob) → Bool
 is_job_of flusher job.Writer = false
 is_job_of flusher (job.Flusher g) = g == flusher
 
+-- the bounds of a lawful trace, and what its lines name is there
 pub record Facts (trace : Trace) : Type 0 where
   pub some_cpu : 1 ≤ trace.cpus
   pub few_cpus : trace.cpus ≤ MOST_CPUS
@@ -68,9 +72,10 @@ pub record Facts (trace : Trace) : Type 0 where
   pub context_group : (k : ℕ) → k < length trace.contexts → group_of trace k ≤ length trace.cgroups
   pub shares : (d : ℕ) → d < length trace.devices → ((device_at trace d).min ≤ (device_at trace d).max) × ((device_at trace d).max ≤ MOST_PERCENT)
   pub rate : (d : ℕ) → d < length trace.devices → 1 ≤ rate_of trace d
-  -- what lines say of scans and of first estimates is in range; a device or a context that isn't there has no such line
+  -- what lines say of scans, of first estimates and of paces is in range; a thing that isn't there has no such line
   pub chunks : (d : ℕ) → IfSome (device_at trace d).chunk IsChunk
   pub firsts : (k : ℕ) → IfSome (context_at trace k).estimate IsFirstEstimate
+  pub paces : (t : ℕ) → IfSome (pace_of trace t) IsPace
   pub flusher_cpu_is : (f : ℕ) → f < length trace.flushers → flusher_cpu trace f < trace.cpus
   pub flusher_device_is : (f : ℕ) → f < length trace.flushers → flusher_device trace f < length trace.devices
   -- each device has a flusher

@@ -39,6 +39,7 @@ use Rattle.wbt_num.specs.declared.limits.TheConstants.{MAX_LIMIT}
 use Rattle.wbt_task.specs.declared.allowance.Due.TheVariants as due
 use Rattle.wbt_replay_moves.specs.Definition.Check.{writer_in, writer_of}
 use Rattle.wbt_replay_moves.specs.Definition.State.{State, no_task, no_flusher, no_domain, no_context, cpu_of, domain_of}
+use Rattle.wbt_rules.specs.Places.{page_of as next_page}
 use Rattle.wbt_rules.specs.Strict.{is_strict}
 use Rattle.wbt_rules.specs.Things.{context_of, group_of, flusher_cpu}
 use Rattle.wbt_replay_moves.specs.declared.state.Cpu.{Cpu}
@@ -68,6 +69,7 @@ use Rattle.wbt_replay_order.specs.Kept.Facts.{IsPageOf, IsTaskOn, IsFlusherOn}
 
 -- ---- what of a setting is needed of the trace's
 
+-- the setting is the trace's in all that the run's steps need of it
 pub record Suits (trace : Trace) (set : Setting) : Type 0 where
   pub cpus : set.cpus ≡ trace.cpus
   pub cap : set.cap ≡ trace.cap
@@ -94,12 +96,14 @@ pub record Suits (trace : Trace) (set : Setting) : Type 0 where
 
 -- ---- debts, without the numbers that are to be cleared, which a list of what to do doesn't name
 
+-- a debt without the number that is to be cleared
 abbrev pub bare : (debt : Debt) → Debt
 bare Free = Free
 bare (OwesEvent a) = OwesEvent a
 bare FoldDue = FoldDue
 bare (ClearDue d) = ClearDue (pos 0)
 
+-- debts without the numbers that are to be cleared
 abbrev pub bared : (debts : List Owed) → List Owed
 bared [] = []
 bared (owed ∷ rest) = record { counter = owed.counter; debt = bare owed.debt } ∷ bared rest
@@ -153,6 +157,7 @@ IsMiddleNext d (todo.Step (item.Middle e) ∷ more) = e ≡ d
 IsMiddleNext d (todo.Step step ∷ more) = ⊥
 IsMiddleNext d (todo.Silent move ∷ more) = ⊥
 
+-- the last of the three loads of the domain's limits comes next
 abbrev pub IsLastNext : (d : ℕ) (todos : List Todo) → Type 0
 IsLastNext d [] = ⊥
 IsLastNext d (todo.Step (item.Limits e) ∷ more) = e ≡ d
@@ -179,7 +184,7 @@ Tidy (todo.Silent move ∷ more) = OwesNothing more × Tidy more
 abbrev pub page_in : (phase : ReplayPhase) → ℕ
 page_in (phase.Idle until kept) = 0
 page_in (phase.Taken inode) = 0
-page_in (phase.Scanning scan) = scan.page
+page_in (phase.Scanning scan) = next_page scan
 page_in (phase.Flying inode pages until) = 0
 page_in phase.Finished = 0
 
@@ -188,16 +193,18 @@ abbrev pub page_of : (whose : Whose) (flushers : List Flusher) → ℕ
 page_of (whose.Flusher flusher) flushers = page_in (get_or flushers flusher no_flusher).phase
 page_of (whose.Task task) flushers = 0
 
+-- the CPU's last step looked at the page, found this word, and the page can be claimed by it
 pub record HasLooked (page word : ℕ) (last : List LastStep) : Type 0 where
   pub at : IsLookAt page last
   pub found : last_found last ≡ word
   pub claimable : is_claimable (bits_at word page) ≡ true
 
--- The sequence word that was found, and after it a thresh word.
+-- the sequence word was found; two loads of the limits are left
 pub record HasFirst (set : Setting) (d : ℕ) (found : Found) (loading : List Loading) : Type 0 where
   pub first : found_of d loading ≡ finding.Sequence (set.coding.sequence_word found.sequence found.hard)
   pub hard : found.hard ≤ MAX_LIMIT
 
+-- the sequence word was found, and after it a thresh word: the last load of the limits is left
 pub record HasMiddle (set : Setting) (d : ℕ) (found : Found) (loading : List Loading) : Type 0 where
   pub thresh : ℕ
   pub both : found_of d loading ≡ finding.Words (set.coding.sequence_word found.sequence found.hard) thresh
@@ -216,17 +223,18 @@ Looked set page found (todo.Silent move ∷ more) r = Unit {0}
 abbrev pub ScansInside : (trace : Trace) (phase : ReplayPhase) → Type 0
 ScansInside trace (phase.Idle until kept) = Unit {0}
 ScansInside trace (phase.Taken inode) = Unit {0}
-ScansInside trace (phase.Scanning scan) = IsPageOf trace scan.inode scan.page
+ScansInside trace (phase.Scanning scan) = IsPageOf trace scan.inode (next_page scan)
 ScansInside trace (phase.Flying inode pages until) = Unit {0}
 ScansInside trace phase.Finished = Unit {0}
 
 -- ---- pages that are held
 
--- how often a page stands in the batches of the CPU's flushers
+-- how often a page stands in one flusher's batch; 0 where the flusher isn't the CPU's
 abbrev pub batch_on : (trace : Trace) (cpu : ℕ) (flushers : List Flusher) (page flusher : ℕ) → ℕ
 batch_on trace cpu flushers page flusher =
     cond (flusher_cpu trace flusher == cpu) (times_in page (get_or flushers flusher no_flusher).batch) 0
 
+-- how often a page stands in the batches of all the CPU's flushers
 abbrev pub batched : (trace : Trace) (cpu : ℕ) (flushers : List Flusher) (page : ℕ) → ℕ
 batched trace cpu flushers page = total (length trace.flushers) (batch_on trace cpu flushers page)
 
@@ -257,10 +265,12 @@ AreLoads context group (todo.Silent move ∷ more) = ⊥
 abbrev pub one_reading : (ahead : Bool) (x : Counter) (count : Count) → List Reading
 one_reading ahead x count = cond ahead [] (reading_of x count ∷ [])
 
+-- the load of the cgroup's count, once it was made
 abbrev pub group_readings : (group : ℕ) (turn : ReplayTurn) (todos : List Todo) → List Reading
 group_readings zero turn todos = []
 group_readings (suc cgroup) turn todos = one_reading (list_any (is_count_of (suc cgroup)) todos) (Domain (suc cgroup)) turn.cgroup.count
 
+-- the loads that a check under way has made, the newest first, before older ones
 abbrev pub turn_readings : (context group : ℕ) (turn : ReplayTurn) (todos : List Todo) (older : List Reading) → List Reading
 turn_readings context group turn todos older =
     one_reading (list_any is_context_count todos) (Context context) turn.context
@@ -289,16 +299,19 @@ pub record InCheck (trace : Trace) (set : Setting) (task context : ℕ) (c : Cpu
 
 -- ---- own numbers and shared counts, by the lists that have them
 
+-- a CPU's own number of a counter, by its lists of domains and contexts
 abbrev pub own_in : (x : Counter) (own_domains own_contexts : List ℤ) → ℤ
 own_in (Domain d) own_domains own_contexts = get_or own_domains d (pos 0)
 own_in (Context k) own_domains own_contexts = get_or own_contexts k (pos 0)
 
+-- the shared count of a counter, by the lists of domains and contexts
 abbrev pub count_in : (x : Counter) (all_domains : List DomainState) (contexts : List Writeback) → Count
 count_in (Domain d) all_domains contexts = (get_or all_domains d no_domain).count
 count_in (Context k) all_domains contexts = (get_or contexts k no_context).count
 
 -- ---- a CPU
 
+-- what a CPU of the run and its record in the relation have in common
 pub record FollowsCpu (trace : Trace) (set : Setting) (i : ℕ) (c : Cpu) (tasks : List ReplayTask) (flushers : List Flusher) (r : CpuRecord)
     (own : Counter → ℤ) : Type 0 where
   pub own_is : (x : Counter) → own x ≡ own_in x c.own_domains c.own_contexts
@@ -336,18 +349,21 @@ PublishesNext domain (timer_todo.Step (timer_item.Publish d) ∷ more) = ⊥
 PublishesNext domain (timer_todo.Step step ∷ more) = Unit {0}
 PublishesNext domain (timer_todo.Silent move ∷ more) = Unit {0}
 
+-- the second of the three steps that publish the domain's limits comes next
 abbrev pub IsThreshNext : (domain : ℕ) (todos : List TimerTodo) → Type 0
 IsThreshNext domain [] = ⊥
 IsThreshNext domain (timer_todo.Step (timer_item.Thresh d) ∷ more) = d ≡ domain
 IsThreshNext domain (timer_todo.Step step ∷ more) = ⊥
 IsThreshNext domain (timer_todo.Silent move ∷ more) = ⊥
 
+-- the last of the three steps that publish the domain's limits comes next
 abbrev pub IsPublishedNext : (domain : ℕ) (todos : List TimerTodo) → Type 0
 IsPublishedNext domain [] = ⊥
 IsPublishedNext domain (timer_todo.Step (timer_item.Publish d) ∷ more) = d ≡ domain
 IsPublishedNext domain (timer_todo.Step step ∷ more) = ⊥
 IsPublishedNext domain (timer_todo.Silent move ∷ more) = ⊥
 
+-- none of the three steps that publish limits comes next
 abbrev pub PublishesLater : (todos : List TimerTodo) → Type 0
 PublishesLater [] = Unit {0}
 PublishesLater (timer_todo.Step (timer_item.Unseal d) ∷ more) = ⊥
@@ -405,6 +421,7 @@ core s = record s {
 abbrev pub heights_of : (d : DomainState) → ℕ × ℕ
 heights_of d = (d.peak, d.sequence)
 
+-- what the run's state and that of the relation have in common
 pub record FollowsIn (trace : Trace) (set : Setting) (s : State) (t : throttle.State) : Type 0 where
   pub book : t.book ≡ s.book
   pub marks : (n : ℕ) → n < length trace.inodes → t.marked n ≡ get_or s.marks n false
@@ -418,9 +435,11 @@ pub record FollowsIn (trace : Trace) (set : Setting) (s : State) (t : throttle.S
   pub stages : (d : ℕ) → stage_of d t.timer.drafts ≡ stage_in d s.timer.todo s.timer.limits
   pub lines : LinesArePublished trace s.timer.entries t.timer.published
 
+-- the relation's state follows the run's
 abbrev pub Follows : (trace : Trace) (set : Setting) (s : State) (t : throttle.State) → Type 0
 Follows trace set s t = FollowsIn trace set (core s) t
 
+-- whether a step of the relation is a grant, which the run doesn't count as a step
 abbrev pub is_grant : (step : Step) → Bool
 is_grant (grant w pages) = true
 is_grant other = false

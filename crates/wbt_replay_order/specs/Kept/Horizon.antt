@@ -1,6 +1,8 @@
 -- No moment of a run is too late: what is still to come would not lead past the latest one.
-use Rattle.std.specs.Prelude.{ℕ, ◌+◌, ◌-◌, ◌*◌, ◌^◌, ◌≤◌, List, [], ◌∷◌, length, get_or, sum_by}
+use Rattle.std.specs.Prelude.{ℕ, ◌+◌, ◌-◌, ◌*◌, ◌^◌, ◌≤◌, ◌==◌, if◌then◌else◌, List, [], ◌∷◌, length, get_or, sum_by, Option, None, Some}
 use Rattle.wbt_num.specs.declared.most.TheConstants.{MOST_STEPS}
+use Rattle.wbt_trace.specs.declared.ranges.TheConstants.{MOST_COUNT}
+use Rattle.wbt_trace.specs.declared.trace.Pace.{Pace}
 use Rattle.wbt_replay_moves.specs.Definition.State.{State, no_task, no_flusher}
 use Rattle.wbt_replay_moves.specs.declared.state.Cpu.{Cpu}
 use Rattle.wbt_replay_moves.specs.declared.state.Flusher.{Flusher}
@@ -20,26 +22,34 @@ use Rattle.wbt_replay_moves.specs.declared.todo.Todo.TheVariants as todo
 
 -- no moment of a run is later
 abbrev pub latest : ℕ
-latest = 2 ^ 58
+latest = 31 * 2 ^ 57
 
--- by how much a step, and a silent move, may put a moment later
+-- by how many ticks a step, which may bring a rest for a pace nearer, may put a moment later
 abbrev pub step_ticks : ℕ
-step_ticks = 2 ^ 32
+step_ticks = 2 ^ 32 + MOST_COUNT
 
+-- by how many ticks a silent move may put a moment later
 abbrev pub silent_ticks : ℕ
 silent_ticks = 2 ^ 31
 
--- ticks of order lines, and of rests that tasks still have to take
+-- the ticks of an order line
 abbrev pub ticks_of : (o : Stretch) → ℕ
 ticks_of (stretch.Steps actor steps) = 0
 ticks_of (stretch.Tick ticks) = ticks
 
+-- the ticks of a rest; a write has none of its own
 abbrev pub rest_of : (w : ReplayWork) → ℕ
 rest_of (work.Write inode page pages) = 0
 rest_of (work.Rest ticks) = ticks
 
+-- the rest for its pace that comes next, which the first page before it pays
+abbrev pub pause_ticks : (pace : Option Pace) (since : ℕ) → ℕ
+pause_ticks None since = 0
+pause_ticks (Some pace) since = if since == 0 then 0 else pace.ticks
+
+-- the ticks of all rests that a task still takes, with the rest for its pace that comes next
 abbrev pub rests_of : (t : ReplayTask) → ℕ
-rests_of t = sum_by rest_of t.works
+rests_of t = sum_by rest_of t.works + pause_ticks t.pace t.since
 
 -- The next silent move was paid by a step before it.
 abbrev pub silent_credit : (item : Silent) → ℕ
@@ -52,14 +62,17 @@ silent_credit silent.Close = silent_ticks
 silent_credit silent.HandOver = silent_ticks
 silent_credit silent.Land = silent_ticks
 
+-- what was paid for the next silent move, in ticks
 abbrev pub credit_in : (todos : List Todo) → ℕ
 credit_in [] = 0
 credit_in (todo.Step item ∷ more) = 0
 credit_in (todo.Silent item ∷ more) = silent_credit item
 
+-- what was paid for a CPU's next silent move, in ticks
 abbrev pub credit_of : (c : Cpu) → ℕ
 credit_of c = credit_in c.todo
 
+-- what was paid for the timer's next silent move, in ticks
 abbrev pub timer_credit : (todos : List TimerTodo) → ℕ
 timer_credit [] = 0
 timer_credit (timer_todo.Step item ∷ more) = 0
@@ -70,6 +83,7 @@ abbrev pub reserve_in : (steps : ℕ) (orders : List Stretch) (tasks : List Repl
 reserve_in steps orders tasks cpus timer =
     step_ticks * (MOST_STEPS - steps) + sum_by ticks_of orders + sum_by rests_of tasks + sum_by credit_of cpus + timer_credit timer
 
+-- by how many ticks the moments of a state may still grow
 abbrev pub reserve : (s : State) → ℕ
 reserve s = reserve_in (length s.steps) s.orders s.tasks s.cpus s.timer.todo
 

@@ -13,6 +13,7 @@ use Rattle.wbt_replay_order.specs.Definition.Run.{part_of}
 abbrev pub IsNamed : (c : Cpu) → Type 0
 IsNamed c = NamesInOrder (part_of c)
 
+-- at this moment each part names its checks and estimates in order, and each step a context and a domain of the trace
 pub record Naming (trace : Trace) (s : State) : Type 0 where
   pub named : (i : ℕ) → IsNamed (cpu_of i s)
   -- each step that changes a count names a context of the trace, and each names a domain of it

@@ -1,5 +1,5 @@
 -- What of a state's ranges is needed to follow the step relation.
-use Rattle.std.specs.Prelude.{◌≡◌, ℕ, ◌<◌, ◌≤◌, true, List, [], ◌∷◌, length, All}
+use Rattle.std.specs.Prelude.{◌≡◌, ℕ, ◌<◌, ◌≤◌, true, List, [], ◌∷◌, length, get_or, All}
 use Rattle.wbt_num.specs.Limits.{IsLawful}
 use Rattle.wbt_num.specs.declared.most.TheConstants.{MOST_STEPS}
 use Rattle.wbt_trace.specs.WriterList.{is_writer}
@@ -23,6 +23,7 @@ use Rattle.wbt_replay_moves.specs.declared.todo.Todo.TheVariants as todo
 use Rattle.wbt_replay_order.specs.Claims.Setting.{writers_in}
 use Rattle.wbt_replay_order.specs.Kept.Facts.{IsPageOf, IsTaskOn, IsFlusherOn}
 
+-- the turn is of a task or a flusher of the CPU
 abbrev pub IsTurnOf : (trace : Trace) (cpu : ℕ) (whose : Whose) → Type 0
 IsTurnOf trace cpu (whose.Task task) = IsTaskOn trace cpu task
 IsTurnOf trace cpu (whose.Flusher flusher) = IsFlusherOn trace cpu flusher
@@ -34,6 +35,7 @@ WritesInside trace task (work.Rest ticks ∷ more) = Unit {0}
 WritesInside trace task (work.Write inode page pages ∷ more) =
     IsPageOf trace inode page × (is_writer task (context_of trace inode) (writers_in trace) ≡ true)
 
+-- a task's works and writers fit the trace
 pub record IsWorker (trace : Trace) (task : ℕ) (t : ReplayTask) : Type 0 where
   pub works : WritesInside trace task t.works
   pub writers : length t.writers ≡ length trace.contexts
@@ -44,14 +46,18 @@ pub record IsWorker (trace : Trace) (task : ℕ) (t : ReplayTask) : Type 0 where
 abbrev pub IsInside : (trace : Trace) (batch : List ℕ) (phase : ReplayPhase) → Type 0
 IsInside trace batch (phase.Idle until kept) = Unit {0}
 IsInside trace batch (phase.Taken inode) = inode < length trace.inodes
-IsInside trace batch (phase.Scanning scan) = (scan.inode < length trace.inodes) × ((inode_of trace scan.inode).first ≤ scan.page)
+IsInside trace batch (phase.Scanning scan) =
+    (scan.inode < length trace.inodes) × (scan.first ≡ (inode_of trace scan.inode).first) × (scan.pages ≡ (inode_of trace scan.inode).pages)
+    × (scan.start < scan.pages)
 IsInside trace batch (phase.Flying inode pages until) = All (IsPageOf trace inode) batch
 IsInside trace batch phase.Finished = Unit {0}
 
+-- the limits that a turn has loaded are lawful
 pub record HasLimits (turn : ReplayTurn) : Type 0 where
   pub global : IsLawful turn.global.limits
   pub cgroup : IsLawful turn.cgroup.limits
 
+-- each list of the state has one item for each thing of the trace, and what its items name is there
 pub record Ranges (trace : Trace) (s : State) : Type 0 where
   pub domains_are : length s.domains ≡ domains trace
   pub contexts : length s.contexts ≡ length trace.contexts
@@ -70,6 +76,7 @@ pub record Ranges (trace : Trace) (s : State) : Type 0 where
       → (cpu_of i s).todo ≡ todo.Step item.Dirty ∷ more → (writer_of (task_of task s)).due ≡ due.No
   pub task : (k : ℕ) → k < length trace.tasks → IsWorker trace k (task_of k s)
   pub flusher : (f : ℕ) → f < length trace.flushers → IsInside trace (flusher_of f s).batch (flusher_of f s).phase
+  pub places : (f : ℕ) → f < length trace.flushers → (n : ℕ) → n < length trace.inodes → get_or (flusher_of f s).places n 0 < (inode_of trace n).pages
   pub limits : (d : ℕ) → d < domains trace → IsLawful (domain_of d s).limits
   pub sequences : (d : ℕ) → d < domains trace → (domain_of d s).sequence ≤ MOST_STEPS
   pub timer_limits : IsLawful s.timer.limits

@@ -16,6 +16,7 @@ abbrev pub HasJob : (s : State) (j : ReplayJob) → Type 0
 HasJob s job.Writer = Unit {0}
 HasJob s (job.Flusher flusher) = flusher < length s.flushers
 
+-- the task is there
 abbrev pub HasTask : (s : State) (task : ℕ) → Type 0
 HasTask s task = task < length s.tasks
 

@@ -1,5 +1,5 @@
 -- What is in range at each moment of a run, and what its numbers count.
-use Rattle.std.specs.Prelude.{◌≡◌, ◌≢◌, ℕ, ◌+◌, ◌-◌, ◌*◌, ◌^◌, ◌<◌, ◌≤◌, Bool, true, false, not, if◌then◌else◌, unsigned_abs, List, [], ◌∷◌, length, get_or, count_by, sum_by, All, Option, None, Some}
+use Rattle.std.specs.Prelude.{◌≡◌, ◌≢◌, ℕ, ◌+◌, ◌-◌, ◌*◌, ◌^◌, ◌<◌, ◌≤◌, Bool, true, false, not, if◌then◌else◌, unsigned_abs, List, [], ◌∷◌, length, get_or, count_by, sum_by, All, Option, None, Some, IfSome}
 use Rattle.wbt_num.specs.Limits.{IsLawful}
 use Rattle.wbt_num.specs.declared.limits.TheConstants.{MAX_LIMIT}
 use Rattle.wbt_num.specs.declared.most.TheConstants.{MOST_STEPS}
@@ -10,8 +10,10 @@ use Rattle.wbt_flex.specs.declared.half.TheConstants.{LAST_PERIOD}
 use Rattle.wbt_journal.specs.Machine.{domains, rests_last}
 use Rattle.wbt_task.specs.declared.allowance.Due.TheVariants as due
 use Rattle.wbt_task.specs.declared.history.Writer.{Writer}
+use Rattle.wbt_trace.specs.Lawful.{IsPace}
 use Rattle.wbt_trace.specs.Sofar.{pages_in}
 use Rattle.wbt_trace.specs.WriterList.{is_writer}
+use Rattle.wbt_trace.specs.declared.trace.Pace.{Pace}
 use Rattle.wbt_trace.specs.declared.trace.Trace.{Trace}
 use Rattle.wbt_replay_moves.specs.Definition.Check.{writer_in}
 use Rattle.wbt_journal.specs.Machine.{batch_of}
@@ -20,7 +22,7 @@ use Rattle.wbt_replay_moves.specs.Definition.State.{State, cpu_of, no_cpu, no_ta
 use Rattle.wbt_rules.specs.Flusher.{IsWithinChunk, chunk_at}
 use Rattle.wbt_rules.specs.declared.moments.TheConstants.{PERIOD_TICKS}
 use Rattle.wbt_rules.specs.declared.scan.Scan.{Scan}
-use Rattle.wbt_rules.specs.Things.{inode_of, context_of, device_of, end_of, group_of}
+use Rattle.wbt_rules.specs.Things.{inode_of, context_of, device_of, group_of}
 use Rattle.wbt_replay_moves.specs.declared.state.Actor.{Actor}
 use Rattle.wbt_replay_moves.specs.declared.state.Actor.TheVariants as actor
 use Rattle.wbt_replay_moves.specs.declared.state.Cpu.{Cpu}
@@ -59,6 +61,7 @@ pub record IsCount (steps : ℕ) (count : Count) : Type 0 where
   pub version : count.version ≤ steps
   pub value : unsigned_abs count.value ≤ 512 * count.version
 
+-- a domain after so many steps: its limits are lawful and under its peak, and its sequence, count and period are in range
 pub record IsDomain (steps : ℕ) (d : Domain) : Type 0 where
   pub limits : IsLawful d.limits
   pub sequence : d.sequence ≤ steps
@@ -67,6 +70,7 @@ pub record IsDomain (steps : ℕ) (d : Domain) : Type 0 where
   pub count : IsCount steps d.count
   pub period : d.events.period ≤ LAST_PERIOD
 
+-- all domains of the trace, each in range
 pub record AreDomains (trace : Trace) (steps : ℕ) (ds : List Domain) : Type 0 where
   pub many : length ds ≡ domains trace
   pub each : (d : ℕ) → IsDomain steps (get_or ds d no_domain)
@@ -79,6 +83,7 @@ pub record IsContext (trace : Trace) (steps now : ℕ) (ds : List Domain) (k : �
   pub part : w.part.period ≤ (get_or ds 0 no_domain).events.period
   pub cgroup_part : w.cgroup_part.period ≤ (get_or ds (group_of trace k) no_domain).events.period
 
+-- all contexts of the trace, each in range
 pub record AreContexts (trace : Trace) (steps now : ℕ) (ds : List Domain) (cs : List Writeback) : Type 0 where
   pub many : length cs ≡ length trace.contexts
   pub each : (k : ℕ) → k < length trace.contexts → IsContext trace steps now ds k (get_or cs k no_context)
@@ -93,9 +98,11 @@ flown_at batch (phase.Scanning scan) = 0
 flown_at batch (phase.Flying inode pages until) = pages - length batch
 flown_at batch phase.Finished = 0
 
+-- pages of a flusher's flight that were completed
 abbrev pub flown_of : (f : Flusher) → ℕ
 flown_of f = flown_at f.batch f.phase
 
+-- pages that a context has written
 abbrev pub written_of : (w : Writeback) → ℕ
 written_of w = w.written
 
@@ -109,10 +116,12 @@ pub record AreWritten (trace : Trace) (steps spare : ℕ) (ds : List Domain) (cs
 
 -- ---- inodes
 
+-- the inode is one of the device's
 pub record AreQueued (trace : Trace) (device : ℕ) (inode : ℕ) : Type 0 where
   pub there : inode < length trace.inodes
   pub ours : device_of trace inode ≡ device
 
+-- each device has a queue, of its own inodes alone
 pub record AreQueues (trace : Trace) (qs : List (List ℕ)) : Type 0 where
   pub many : length qs ≡ length trace.devices
   pub each : (d : ℕ) → All (AreQueued trace d) (get_or qs d [])
@@ -126,6 +135,7 @@ pub record IsWriteOf (trace : Trace) (task inode page pages : ℕ) : Type 0 wher
   pub last : IsPageOf trace inode (page + (pages - 1))
   pub writer : is_writer task (context_of trace inode) (writers_in trace) ≡ true
 
+-- a task's work fits the trace; a rest is at most 2 ^ 40 ticks
 abbrev pub WorkFits : (trace : Trace) (task : ℕ) (w : ReplayWork) → Type 0
 WorkFits trace task (work.Write inode page pages) = IsWriteOf trace task inode page pages
 WorkFits trace task (work.Rest ticks) = ticks ≤ 2 ^ 40
@@ -136,12 +146,19 @@ rests_at_end none [] = none
 rests_at_end none (work.Write inode page pages ∷ more) = rests_at_end false more
 rests_at_end none (work.Rest ticks ∷ more) = rests_at_end true more
 
+-- a writer's counts after so many steps, with what it may still dirty before its next check
 pub record WriterFits (trace : Trace) (steps : ℕ) (w : Writer) : Type 0 where
   pub dirtied : w.task.nr_dirtied ≤ steps
   pub allowance : w.task.nr_dirtied_pause ≤ 2 ^ 42
   pub left : w.left ≤ trace.cap
   pub some_left : w.due ≡ due.No → 1 ≤ w.left
 
+-- A task has written at most as many pages since it began or rested for its pace as the pace says; it counts none without a pace.
+abbrev pub SinceFits : (pace : Option Pace) (since : ℕ) → Type 0
+SinceFits None since = since ≡ 0
+SinceFits (Some pace) since = since ≤ pace.pages
+
+-- a task after so many steps: its works, writers and pace are in range
 pub record IsTask (trace : Trace) (steps task : ℕ) (t : ReplayTask) : Type 0 where
   pub works : All (WorkFits trace task) t.works
   pub context : 1 ≤ length trace.contexts → t.context < length trace.contexts
@@ -152,18 +169,23 @@ pub record IsTask (trace : Trace) (steps task : ℕ) (t : ReplayTask) : Type 0 w
   pub ended : t.ended ≡ true → t.works ≡ []
   -- its last work is a write, but for a task that rests last
   pub last : rests_last trace task ≡ false → rests_at_end false t.works ≡ false
+  pub pace : IfSome t.pace IsPace
+  pub since : SinceFits t.pace t.since
 
+-- all tasks of the trace, each in range
 pub record AreTasks (trace : Trace) (steps : ℕ) (ts : List ReplayTask) : Type 0 where
   pub many : length ts ≡ length trace.tasks
   pub each : (t : ℕ) → t < length trace.tasks → IsTask trace steps t (get_or ts t no_task)
 
--- pages that the task's writers count, and those that its CPU has of tasks that ended
+-- pages that one of a task's writers counts
 abbrev pub dirtied_by : (w : Writer) → ℕ
 dirtied_by w = w.task.nr_dirtied
 
+-- pages that the writers of a task count; none once it has ended
 abbrev pub dirtied_of : (t : ReplayTask) → ℕ
 dirtied_of t = if t.ended then 0 else sum_by dirtied_by t.writers
 
+-- pages that a CPU has of tasks that ended
 abbrev pub leaks_of : (c : Cpu) → ℕ
 leaks_of c = c.local.leaks
 
@@ -173,21 +195,26 @@ AreDirtied steps spare ts cs = sum_by dirtied_of ts + sum_by leaks_of cs + spare
 
 -- ---- flushers
 
--- the place of a scan, and the pages that are claimed of its inode
+-- the place of a scan within its inode, and the pages of it that are claimed
 pub record IsScanAt (trace : Trace) (batch : List ℕ) (scan : Scan) : Type 0 where
   pub there : scan.inode < length trace.inodes
-  pub behind : (inode_of trace scan.inode).first + length batch ≤ scan.page
-  pub within : scan.page ≤ end_of trace scan.inode
+  pub first_is : scan.first ≡ (inode_of trace scan.inode).first
+  pub pages_is : scan.pages ≡ (inode_of trace scan.inode).pages
+  pub start : scan.start < scan.pages
+  pub behind : length batch ≤ scan.passed
+  pub within : scan.passed ≤ scan.pages
   pub some : 1 ≤ scan.quota
   pub few : length batch ≤ scan.quota
   pub ours : All (IsPageOf trace scan.inode) batch
 
+-- a flight's pages that aren't completed yet are of one inode, and no more than it handed over
 pub record IsFlightOf (trace : Trace) (batch : List ℕ) (inode pages : ℕ) : Type 0 where
   pub there : inode < length trace.inodes
   pub rest : length batch ≤ pages
   pub few : pages ≤ pages_in trace.inodes
   pub ours : All (IsPageOf trace inode) batch
 
+-- a flusher's batch holds what its phase says
 abbrev pub IsAt : (trace : Trace) (batch : List ℕ) (phase : ReplayPhase) → Type 0
 IsAt trace batch (phase.Idle until kept) = batch ≡ []
 IsAt trace batch (phase.Taken inode) = (batch ≡ []) × (inode < length trace.inodes)
@@ -200,6 +227,7 @@ pub record IsListOf (trace : Trace) (list : Wheel) : Type 0 where
   pub inodes : list.inodes ≡ length trace.inodes
   pub each : Each (λ pair. pair.inode < length trace.inodes) list.pairs
 
+-- the list of a flusher, where it has one, fits the trace
 abbrev pub WheelFits : (trace : Trace) (wheel : Option Wheel) → Type 0
 WheelFits trace None = Unit {0}
 WheelFits trace (Some list) = IsListOf trace list
@@ -212,6 +240,12 @@ IsQuotaOf trace flusher (phase.Scanning scan) = IsWithinChunk (chunk_at trace fl
 IsQuotaOf trace flusher (phase.Flying inode pages until) = Unit {0}
 IsQuotaOf trace flusher phase.Finished = Unit {0}
 
+-- A flusher has a place for each inode, which is one of the inode's pages.
+pub record ArePlaces (trace : Trace) (places : List ℕ) : Type 0 where
+  pub many : length places ≡ length trace.inodes
+  pub below : (n : ℕ) → n < length trace.inodes → get_or places n 0 < (inode_of trace n).pages
+
+-- a flusher's phase, batch, contexts, list and places fit the trace
 pub record IsFlusher (trace : Trace) (flusher : ℕ) (f : Flusher) : Type 0 where
   pub phase : IsAt trace f.batch f.phase
   pub quota : IsQuotaOf trace flusher f.phase
@@ -219,17 +253,21 @@ pub record IsFlusher (trace : Trace) (flusher : ℕ) (f : Flusher) : Type 0 wher
   pub measures : All (λ k. k < length trace.contexts) f.measures
   pub weighs : All (λ k. k < length trace.contexts) f.weighs
   pub wheel : WheelFits trace f.wheel
+  pub places : flusher < length trace.flushers → ArePlaces trace f.places
 
+-- all flushers of the trace, each in range
 pub record AreFlushers (trace : Trace) (fs : List Flusher) : Type 0 where
   pub many : length fs ≡ length trace.flushers
   pub each : (f : ℕ) → IsFlusher trace f (get_or fs f no_flusher)
 
 -- ---- CPUs
 
+-- a turn is of a task or a flusher of its CPU
 abbrev pub IsWhose : (trace : Trace) (cpu : ℕ) (whose : Whose) → Type 0
 IsWhose trace cpu (whose.Task task) = IsTaskOn trace cpu task
 IsWhose trace cpu (whose.Flusher flusher) = IsFlusherOn trace cpu flusher
 
+-- what a turn has loaded is in range: limits are lawful, and counts at most 2 ^ 31 pages in absolute value
 pub record IsTurn (now : ℕ) (turn : ReplayTurn) : Type 0 where
   pub began : turn.began ≤ now
   pub global : IsLawful turn.global.limits
@@ -238,6 +276,7 @@ pub record IsTurn (now : ℕ) (turn : ReplayTurn) : Type 0 where
   pub cgroup_count : unsigned_abs turn.cgroup.count.value ≤ 2 ^ 31
   pub context_count : unsigned_abs turn.context.value ≤ 2 ^ 31
 
+-- a CPU after so many steps: the trace's jobs and tasks, a turn in range, an own number for each counter, and held limits for each domain
 pub record IsCpu (trace : Trace) (steps now cpu : ℕ) (c : Cpu) : Type 0 where
   pub jobs : c.jobs ≡ (first_cpu trace cpu).jobs
   pub tasks : c.tasks ≡ (first_cpu trace cpu).tasks
@@ -254,6 +293,7 @@ pub record IsCpu (trace : Trace) (steps now cpu : ℕ) (c : Cpu) : Type 0 where
   pub since : c.local.since_check ≤ steps
   pub made : c.made ≤ steps
 
+-- all CPUs of the trace, each in range
 pub record AreCpus (trace : Trace) (steps now : ℕ) (cs : List Cpu) : Type 0 where
   pub many : length cs ≡ trace.cpus
   pub each : (i : ℕ) → i < trace.cpus → IsCpu trace steps now i (get_or cs i no_cpu)
@@ -263,6 +303,7 @@ pub record IsAgreed (trace : Trace) (ts : List ReplayTask) (fs : List Flusher) (
   pub items : All (Agrees trace ts fs c.turn.whose) c.todo
   pub others : (f : ℕ) → IsFlusherOn trace cpu f → c.turn.whose ≢ whose.Flusher f → IsOpen trace (get_or fs f no_flusher)
 
+-- what each CPU still has to do agrees with its tasks and flushers
 abbrev pub AreAgreed : (trace : Trace) (ts : List ReplayTask) (fs : List Flusher) (cs : List Cpu) → Type 0
 AreAgreed trace ts fs cs = (i : ℕ) → i < trace.cpus → IsAgreed trace ts fs i (get_or cs i no_cpu)
 
@@ -272,6 +313,7 @@ IsClosed trace fs cpu c = (f : ℕ) → IsFlusherOn trace cpu f → c.turn.whose
 
 -- ---- who runs
 
+-- whether a task hasn't ended
 abbrev pub is_running : (t : ReplayTask) → Bool
 is_running t = not t.ended
 
@@ -284,9 +326,11 @@ is_at_work fs (job.Flusher flusher) = not (is_finished (get_or fs flusher no_flu
 abbrev pub working_on : (fs : List Flusher) (c : Cpu) → ℕ
 working_on fs c = if c.stopped then 0 else count_by (is_at_work fs) c.jobs
 
+-- whether a CPU is stopped
 abbrev pub is_stopped : (c : Cpu) → Bool
 is_stopped c = c.stopped
 
+-- the state's three counts are those of running tasks, working flushers and stopped CPUs
 pub record AreCounted (running working stopped : ℕ) (ts : List ReplayTask) (fs : List Flusher) (cs : List Cpu) : Type 0 where
   pub tasks : running ≡ count_by is_running ts
   pub flushers : working ≡ sum_by (working_on fs) cs
@@ -299,10 +343,12 @@ abbrev pub IsActor : (trace : Trace) (a : Actor) → Type 0
 IsActor trace (actor.Cpu cpu) = cpu < trace.cpus
 IsActor trace actor.Timer = Unit {0}
 
+-- the actor of an order line is the trace's; its ticks are at most 2 ^ 40
 abbrev pub IsStretch : (trace : Trace) (o : Stretch) → Type 0
 IsStretch trace (stretch.Steps actor steps) = IsActor trace actor
 IsStretch trace (stretch.Tick ticks) = ticks ≤ 2 ^ 40
 
+-- the domain that an item of the timer's turn names is there
 abbrev pub TimerItemFits : (trace : Trace) (t : TimerTodo) → Type 0
 TimerItemFits trace (timer_todo.Step (timer_step.Count domain)) = domain < domains trace
 TimerItemFits trace (timer_todo.Step (timer_step.Peak domain)) = domain < domains trace
@@ -333,6 +379,7 @@ AreTimerItems (timer_todo.Step (timer_step.Publish domain) ∷ more) = Publishes
 AreTimerItems (timer_todo.Silent (timer_silent.Period domain) ∷ more) = PublishesNext (λ d. ⊥) more × AreTimerItems more
 AreTimerItems (timer_todo.Silent timer_silent.Rest ∷ more) = more ≡ []
 
+-- the timer's turn and its moments are in range
 pub record IsTimer (trace : Trace) (now : ℕ) (ds : List Domain) (timer : Timer) : Type 0 where
   pub todo : All (TimerItemFits trace) timer.todo
   pub in_order : AreTimerItems timer.todo
@@ -362,6 +409,7 @@ pub record Holds (trace : Trace) (steps ticks : ℕ) (s : State) : Type 0 where
   pub timer : IsTimer trace s.now s.domains s.timer
   pub horizon : horizon ticks s
 
+-- what holds at each moment of a run, between moves
 pub record Sound (trace : Trace) (s : State) : Type 0 where
   pub holds : Holds trace 0 0 s
   pub closed : (i : ℕ) → i < trace.cpus → IsClosed trace s.flushers i (cpu_of i s)
@@ -372,5 +420,6 @@ pub record IsRoom (trace : Trace) (c : Cpu) : Type 0 where
   pub most : (x : Counter) → unsigned_abs (own_of x c) ≤ batch_of trace x
   pub room : (x : Counter) → settles_next x c.todo ≡ false → unsigned_abs (own_of x c) < batch_of trace x
 
+-- no own number of a CPU is full, but where its fold or its clear comes next
 pub record HasRoom (trace : Trace) (s : State) : Type 0 where
   pub own : (i : ℕ) → i < trace.cpus → IsRoom trace (cpu_of i s)

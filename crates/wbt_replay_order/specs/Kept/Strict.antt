@@ -11,16 +11,19 @@ use Rattle.wbt_replay_order.specs.Definition.Strict.{most_from, most_pages, part
 
 -- ---- what checks read
 
+-- a check's context is there, and what it read of its domains is in range
 pub record CheckFits (trace : Trace) (check : CheckEntry) : Type 0 where
   pub context : check.context < length trace.contexts
   pub global : IsLine check.global
   pub cgroup : IfSome check.cgroup IsLine
 
+-- each check of each CPU fits
 abbrev pub ChecksFit : (trace : Trace) (cpus : List Cpu) → Type 0
 ChecksFit trace cpus = All (λ c. All (CheckFits trace) c.checks) cpus
 
 -- ---- tallies
 
+-- the tally of a context before the first step
 abbrev pub no_tally : Tally
 no_tally = record { pages = pos 0; most = 0 }
 
@@ -34,6 +37,7 @@ pub record IsTally (context : ℕ) (steps : List StepEntry) (made : ℕ) (tally 
   pub had : at_least_zero tally.pages ≤ tally.most
   pub near : unsigned_abs tally.pages ≤ 128 * made
 
+-- the tallies of so many contexts after so many of these steps
 abbrev pub AreTallies : (contexts : ℕ) (steps : List StepEntry) (made : ℕ) (tallies : List Tally) → Type 0
 AreTallies contexts steps made tallies = (length tallies ≡ contexts) × ((k : ℕ) → k < contexts → IsTally k steps made (get_or tallies k no_tally))
 

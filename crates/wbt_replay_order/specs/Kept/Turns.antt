@@ -1,5 +1,5 @@
 -- What a turn still has to do: what each item names is there, in which order items may stand, and what the task or the flusher is at.
-use Rattle.std.specs.Prelude.{◌≡◌, ℕ, ◌<◌, ◌≤◌, Bool, true, false, ◌||◌, ◌==◌, unsigned_abs, List, [], ◌∷◌, length, get_or}
+use Rattle.std.specs.Prelude.{◌≡◌, ℕ, ◌<◌, ◌≤◌, Bool, true, false, ◌||◌, ◌==◌, unsigned_abs, List, [], ◌∷◌, length, get_or, None}
 use Rattle.std.specs.List.{list_any}
 use Rattle.wbt_counter.specs.declared.counter.Counter.{Counter}
 use Rattle.wbt_counter.specs.declared.counter.Counter.TheVariants.{Domain, Context}
@@ -9,7 +9,7 @@ use Rattle.wbt_task.specs.declared.allowance.Due.TheVariants as due
 use Rattle.wbt_trace.specs.declared.trace.Trace.{Trace}
 use Rattle.wbt_replay_moves.specs.Definition.Check.{writer_of}
 use Rattle.wbt_replay_moves.specs.Definition.State.{no_task, no_flusher}
-use Rattle.wbt_rules.specs.Things.{end_of}
+use Rattle.wbt_replay_moves.specs.Definition.Writer.{pause_in}
 use Rattle.wbt_replay_moves.specs.declared.state.Flusher.{Flusher}
 use Rattle.wbt_replay_moves.specs.declared.state.ReplayPhase.{ReplayPhase}
 use Rattle.wbt_replay_moves.specs.declared.state.ReplayPhase.TheVariants as phase
@@ -27,6 +27,7 @@ use Rattle.wbt_replay_moves.specs.declared.todo.Todo.TheVariants as todo
 
 -- ---- what items name
 
+-- the counter's domain or context is there
 abbrev pub IsCounter : (trace : Trace) (counter : Counter) → Type 0
 IsCounter trace (Domain domain) = domain < domains trace
 IsCounter trace (Context context) = context < length trace.contexts
@@ -47,6 +48,7 @@ StepFits trace step.Look = Unit {0}
 StepFits trace (step.Claim word) = Unit {0}
 StepFits trace step.Complete = Unit {0}
 
+-- the context that a silent move names is there
 abbrev pub SilentFits : (trace : Trace) (item : Silent) → Type 0
 SilentFits trace (silent.Estimate context) = context < length trace.contexts
 SilentFits trace silent.Decide = Unit {0}
@@ -57,14 +59,15 @@ SilentFits trace silent.Close = Unit {0}
 SilentFits trace silent.HandOver = Unit {0}
 SilentFits trace silent.Land = Unit {0}
 
+-- what an item of a turn names is there
 abbrev pub ItemFits : (trace : Trace) (t : Todo) → Type 0
 ItemFits trace (todo.Step item) = StepFits trace item
 ItemFits trace (todo.Silent item) = SilentFits trace item
 
 -- ---- in which order
 
--- Items that any may follow, and any may precede, come to 0 and 3; estimates and tests of contexts may repeat; of the items that change what their task
--- or flusher is at there is one, and after it a task may end.
+-- Items that any may follow, and any may precede, come to 0 and 3; estimates and tests of contexts may repeat; of the items that change
+-- what their task or flusher is at there is one, and after it a task may end.
 abbrev pub floor_of : (t : Todo) → ℕ
 floor_of (todo.Step step.Dirty) = 2
 floor_of (todo.Step (step.Add counter change)) = 0
@@ -88,6 +91,7 @@ floor_of (todo.Silent silent.Close) = 2
 floor_of (todo.Silent silent.HandOver) = 2
 floor_of (todo.Silent silent.Land) = 2
 
+-- the rank of an item, by which the items of a turn are in order: 0 to 3
 abbrev pub rank_of : (t : Todo) → ℕ
 rank_of (todo.Step step.Dirty) = 1
 rank_of (todo.Step (step.Add counter change)) = 3
@@ -116,6 +120,7 @@ abbrev pub AreFrom : (least : ℕ) (todos : List Todo) → Type 0
 AreFrom least [] = Unit {0}
 AreFrom least (t ∷ more) = (least ≤ rank_of t) × AreFrom least more
 
+-- the items after each one come to no less than it asks for
 abbrev pub AreInOrder : (todos : List Todo) → Type 0
 AreInOrder [] = Unit {0}
 AreInOrder (t ∷ more) = AreFrom (floor_of t) more × AreInOrder more
@@ -137,10 +142,12 @@ is_settling (todo.Step (step.Claim word)) = false
 is_settling (todo.Step step.Complete) = false
 is_settling (todo.Silent item) = false
 
+-- none of the items is a fold or a clear
 abbrev pub AreOthers : (todos : List Todo) → Type 0
 AreOthers [] = Unit {0}
 AreOthers (t ∷ more) = (is_settling t ≡ false) × AreOthers more
 
+-- the counter's own number is cleared first, and no fold or clear follows
 abbrev pub Clears : (x : Counter) (todos : List Todo) → Type 0
 Clears x [] = ⊥
 Clears x (t ∷ more) = (t ≡ todo.Step (step.Clear x)) × AreOthers more
@@ -179,6 +186,7 @@ settles_step x step.Look = false
 settles_step x (step.Claim word) = false
 settles_step x step.Complete = false
 
+-- whether the counter's own number is folded or cleared next
 abbrev pub settles_next : (x : Counter) (todos : List Todo) → Bool
 settles_next x [] = false
 settles_next x (todo.Step item ∷ more) = settles_step x item
@@ -186,13 +194,15 @@ settles_next x (todo.Silent item ∷ more) = false
 
 -- ---- what the task is at
 
+-- the task's next work is a write
 abbrev pub WritesNext : (works : List ReplayWork) → Type 0
 WritesNext [] = ⊥
 WritesNext (work.Rest ticks ∷ more) = ⊥
 WritesNext (work.Write inode page pages ∷ more) = Unit {0}
 
+-- the step is one that the task is at: it dirties a page only before a write, with no check due and no rest for its pace
 abbrev pub TaskStepAgrees : (t : ReplayTask) (item : Step) → Type 0
-TaskStepAgrees t step.Dirty = WritesNext t.works × ((writer_of t).due ≡ due.No)
+TaskStepAgrees t step.Dirty = WritesNext t.works × ((writer_of t).due ≡ due.No) × (pause_in t ≡ None)
 TaskStepAgrees t (step.Add counter change) = Unit {0}
 TaskStepAgrees t (step.Fold counter) = Unit {0}
 TaskStepAgrees t (step.Clear counter) = Unit {0}
@@ -206,6 +216,7 @@ TaskStepAgrees t step.Look = ⊥
 TaskStepAgrees t (step.Claim word) = ⊥
 TaskStepAgrees t step.Complete = ⊥
 
+-- the item is one that the task is at
 abbrev pub TaskAgrees : (t : ReplayTask) (item : Todo) → Type 0
 TaskAgrees t (todo.Step item) = TaskStepAgrees t item
 TaskAgrees t (todo.Silent silent.Decide) = (writer_of t).due ≡ due.Check
@@ -219,6 +230,7 @@ TaskAgrees t (todo.Silent silent.Land) = ⊥
 
 -- ---- what the flusher is at
 
+-- the flusher is idle
 abbrev pub IsIdle : (phase : ReplayPhase) → Type 0
 IsIdle (phase.Idle until kept) = Unit {0}
 IsIdle (phase.Taken inode) = ⊥
@@ -226,6 +238,7 @@ IsIdle (phase.Scanning scan) = ⊥
 IsIdle (phase.Flying inode pages until) = ⊥
 IsIdle phase.Finished = ⊥
 
+-- the flusher has taken an inode
 abbrev pub IsTaken : (phase : ReplayPhase) → Type 0
 IsTaken (phase.Idle until kept) = ⊥
 IsTaken (phase.Taken inode) = Unit {0}
@@ -233,6 +246,7 @@ IsTaken (phase.Scanning scan) = ⊥
 IsTaken (phase.Flying inode pages until) = ⊥
 IsTaken phase.Finished = ⊥
 
+-- the flusher scans
 abbrev pub IsScanning : (phase : ReplayPhase) → Type 0
 IsScanning (phase.Idle until kept) = ⊥
 IsScanning (phase.Taken inode) = ⊥
@@ -240,6 +254,7 @@ IsScanning (phase.Scanning scan) = Unit {0}
 IsScanning (phase.Flying inode pages until) = ⊥
 IsScanning phase.Finished = ⊥
 
+-- the flusher's pages are with its disk
 abbrev pub IsFlying : (phase : ReplayPhase) → Type 0
 IsFlying (phase.Idle until kept) = ⊥
 IsFlying (phase.Taken inode) = ⊥
@@ -251,13 +266,15 @@ IsFlying phase.Finished = ⊥
 abbrev pub IsOpenAt : (trace : Trace) (batch : List ℕ) (phase : ReplayPhase) → Type 0
 IsOpenAt trace batch (phase.Idle until kept) = Unit {0}
 IsOpenAt trace batch (phase.Taken inode) = Unit {0}
-IsOpenAt trace batch (phase.Scanning scan) = (scan.page < end_of trace scan.inode) × (length batch < scan.quota)
+IsOpenAt trace batch (phase.Scanning scan) = (scan.passed < scan.pages) × (length batch < scan.quota)
 IsOpenAt trace batch (phase.Flying inode pages until) = 1 ≤ length batch
 IsOpenAt trace batch phase.Finished = Unit {0}
 
+-- the flusher's scan or flight isn't over
 abbrev pub IsOpen : (trace : Trace) (f : Flusher) → Type 0
 IsOpen trace f = IsOpenAt trace f.batch f.phase
 
+-- the step is one that the flusher's phase allows
 abbrev pub FlusherStepAgrees : (trace : Trace) (f : Flusher) (item : Step) → Type 0
 FlusherStepAgrees trace f step.Dirty = ⊥
 FlusherStepAgrees trace f (step.Add counter change) = Unit {0}
@@ -277,6 +294,7 @@ FlusherStepAgrees trace f step.Complete = IsFlying f.phase × IsOpen trace f
 abbrev pub is_measured : (context : ℕ) (measures : List ℕ) → Bool
 is_measured context measures = list_any (λ k. k == context) measures
 
+-- the item is one that the flusher is at
 abbrev pub FlusherAgrees : (trace : Trace) (f : Flusher) (item : Todo) → Type 0
 FlusherAgrees trace f (todo.Step item) = FlusherStepAgrees trace f item
 FlusherAgrees trace f (todo.Silent silent.Decide) = ⊥
@@ -288,6 +306,7 @@ FlusherAgrees trace f (todo.Silent silent.Close) = IsScanning f.phase
 FlusherAgrees trace f (todo.Silent silent.HandOver) = IsScanning f.phase
 FlusherAgrees trace f (todo.Silent silent.Land) = IsFlying f.phase
 
+-- the item is one that the turn's task or flusher is at
 abbrev pub Agrees : (trace : Trace) (tasks : List ReplayTask) (flushers : List Flusher) (whose : Whose) (item : Todo) → Type 0
 Agrees trace tasks flushers (whose.Task task) item = TaskAgrees (get_or tasks task no_task) item
 Agrees trace tasks flushers (whose.Flusher flusher) item = FlusherAgrees trace (get_or flushers flusher no_flusher) item
@@ -304,6 +323,7 @@ closes (todo.Silent silent.Close) = true
 closes (todo.Silent silent.HandOver) = true
 closes (todo.Silent silent.Land) = true
 
+-- the scan or the flight ends in the rest of this turn
 abbrev pub closes_in : (todos : List Todo) → Bool
 closes_in [] = false
 closes_in (t ∷ more) = closes t || closes_in more

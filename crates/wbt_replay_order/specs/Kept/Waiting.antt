@@ -9,6 +9,7 @@ use Rattle.wbt_expiry.specs.Waiting.{Each, has_inode}
 use Rattle.wbt_expiry.specs.declared.due.Due.{Due}
 use Rattle.wbt_replay_moves.specs.Definition.State.{State, no_waiting, cpu_of, flusher_of, waiting_of, queue_of}
 use Rattle.wbt_rules.specs.declared.scan.Scan.{Scan}
+use Rattle.wbt_rules.specs.Places.{IsAhead}
 use Rattle.wbt_rules.specs.Things.{device_of, flusher_cpu, flusher_device}
 use Rattle.wbt_replay_moves.specs.declared.state.Cpu.{Cpu}
 use Rattle.wbt_replay_moves.specs.declared.state.Flusher.{Flusher}
@@ -90,7 +91,7 @@ pub data IsTakeable (trace : Trace) (s : State) (inode : ℕ) : Type 0 where
 pub data IsAwaited (trace : Trace) (s : State) (inode page : ℕ) : Type 0 where
   takeable : IsTakeable trace s inode → IsAwaited trace s inode page
   scanned : (flusher : ℕ) (scan : Scan) → flusher < length trace.flushers
-      → (flusher_of flusher s).phase ≡ phase.Scanning scan → scan.inode ≡ inode → (scan.page ≤ page) ⊎ (scan.noted ≡ true)
+      → (flusher_of flusher s).phase ≡ phase.Scanning scan → scan.inode ≡ inode → IsAhead scan page ⊎ (scan.noted ≡ true)
       → IsStillOpen flusher (cpu_of (flusher_cpu trace flusher) s) → IsAwaited trace s inode page
   owed : (cpu : ℕ) → cpu < trace.cpus → owes_mark inode (cpu_of cpu s) ≡ true → IsAwaited trace s inode page
 

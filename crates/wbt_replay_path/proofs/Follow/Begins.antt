@@ -1,5 +1,5 @@
 -- A turn that a CPU begins leaves the step relation where it is.
-use Rattle.std.proofs.Common.{◌≡◌, ◌≢◌, ℕ, zero, suc, ◌+◌, ◌<◌, inl, inr, Bool, true, false, cond, eqb, List, [], ◌∷◌, ◌++◌, length, get_or, All, refl, sym, ◌∙◌, ap, subst, arith, eq-eqb, Some}
+use Rattle.std.proofs.Common.{◌≡◌, ◌≢◌, ℕ, zero, suc, ◌+◌, ◌<◌, inl, inr, Bool, true, false, cond, eqb, List, [], ◌∷◌, ◌++◌, length, get_or, All, refl, sym, ◌∙◌, ap, subst, arith, eq-eqb, Some, Option, None}
 use Rattle.std.proofs.lemmas.List.Elements.{All-nil}
 use Rattle.std.proofs.Math.ListN.{set}
 use Rattle.std.proofs.lemmas.Bool.{or_left, or_right}
@@ -24,7 +24,7 @@ use Rattle.wbt_replay_moves.specs.Definition.Idle.{finish, take, take_or_finish,
 use Rattle.wbt_replay_moves.specs.Definition.Perform.{begin_phase, begin_turn}
 use Rattle.wbt_replay_moves.specs.Definition.State.{State, no_cpu, no_task, no_flusher, cpu_of, with_cpu, task_of, flusher_of, queue_of, is_drained, waiting_of, in_phase}
 use Rattle.wbt_rules.specs.Things.{flusher_device, group_of}
-use Rattle.wbt_replay_moves.specs.Definition.Writer.{check_items, begin_check, begin_rest, begin_work, begin_due}
+use Rattle.wbt_replay_moves.specs.Definition.Writer.{check_items, begin_check, begin_rest, pause_in, begin_pause, begin_page, begin_work, begin_due}
 use Rattle.wbt_replay_moves.specs.declared.state.Cpu.{Cpu}
 use Rattle.wbt_replay_moves.specs.declared.state.Flusher.{Flusher}
 use Rattle.wbt_replay_moves.specs.declared.state.ReplayPhase.{ReplayPhase}
@@ -234,9 +234,21 @@ module _ (trace : Trace) (setting : Setting) (suits : Suits trace setting) (i : 
         subst (λ (m : ℕ). InCheck trace setting m (get_or s.tasks m no_task).context (base (whose.Task task) l) (t.cpu i)) (same_task task n same)
         (subst (λ (q : List Todo). InCheck trace setting task k (base (whose.Task task) q) (t.cpu i)) (sym items_are) checked)))
 
+    -- it writes a page next, or rests right before it
+    page_on : (pause : Option ℕ) → Moves trace setting s.steps (begin_page i task pause (s1 (whose.Task task))) t
+    page_on None = begins_with (whose.Task task) (todo.Step item.Dirty ∷ todo.Silent silent.End ∷ []) write_first
+    page_on (Some ticks) =
+        let items : List Todo = todo.Silent silent.End ∷ [] in
+        let v : ReplayTask = record (task_of task s) { since = 0; rest = s.now + ticks } in
+        let s2 : State = begin_pause i task ticks (s1 (whose.Task task)) in
+        begins (whose.Task task) (items ++ (cpu_of i s).todo) (subst Harmless (sym (alone (whose.Task task) items)) only_end) s2
+        (thrice (at_turn (whose.Task task) s.now) (do_next items) s.cpus i c0 no_cpu there) (same_shared s s2 refl) refl refl
+        (λ j other. record { same_tasks = tasks_elsewhere trace i j task s.tasks v on.cpu_is other; same_flushers = λ n at. refl })
+        (one_task s.tasks task v (omega (arith, on.there, ranges.tasks)) refl refl) (inside (whose.Task task)) (λ p. refl)
+
     works_on : (works : List ReplayWork) → Moves trace setting s.steps (begin_work i task works (s1 (whose.Task task))) t
     works_on [] = begins_with (whose.Task task) (todo.Silent silent.End ∷ []) only_end
-    works_on (work.Write inode page pages ∷ works) = begins_with (whose.Task task) (todo.Step item.Dirty ∷ todo.Silent silent.End ∷ []) write_first
+    works_on (work.Write inode page pages ∷ works) = page_on (pause_in (task_of task s))
     works_on (work.Rest ticks ∷ works) =
         let items : List Todo = todo.Silent silent.End ∷ [] in
         let v : ReplayTask = record (task_of task s) { works = works; rest = s.now + ticks } in

@@ -31,6 +31,7 @@ use Rattle.wbt_task.specs.declared.history.Writer.{Writer}
 use Rattle.wbt_replay_moves.specs.Definition.Check.{writer_in, writer_of}
 use Rattle.wbt_replay_moves.specs.Definition.Cpu.{do_next, logged, log_at, owed_to}
 use Rattle.wbt_replay_moves.specs.Definition.State.{State, no_cpu, no_task, cpu_of, task_of, with_task, plain_step}
+use Rattle.wbt_rules.specs.Pace.{since_after}
 use Rattle.wbt_rules.specs.Things.{context_of, group_of}
 use Rattle.wbt_replay_moves.specs.Definition.Writer.{without_page, counted_page, counted_local, dirty_fresh, dirty_page, dirty_next, dirty_by, dirty}
 use Rattle.wbt_replay_moves.specs.declared.state.Cpu.{Cpu}
@@ -75,7 +76,7 @@ module _ (trace : Trace) (setting : Setting) (suits : Suits trace setting) (i : 
     module _ (task inode page pages : ℕ) (works : List ReplayWork) (on : IsTaskOn trace i task) (turn : (cpu_of i s).turn.whose ≡ whose.Task task)
         (inside : IsPageOf trace inode page) (writer : is_writer task (context_of trace inode) (writers_in trace) ≡ true) (free : (writer_of (task_of task s)).due ≡ due.No)
         (w : ℕ) (known : w < setting.writers) (task_is : (writer_at trace w).task ≡ task) (context_is : (writer_at trace w).context ≡ context_of trace inode)
-        (left_works : List ReplayWork) where
+        (left_works : List ReplayWork) (since : ℕ) where
       seat : setting.seat w ≡ i
       seat = suits.seat w ∙ (ap (task_cpu trace) task_is ∙ on.cpu_is)
 
@@ -86,7 +87,7 @@ module _ (trace : Trace) (setting : Setting) (suits : Suits trace setting) (i : 
       old = task_of task s
 
       abbrev t1 : ReplayTask
-      t1 = record old { works = left_works }
+      t1 = record old { works = left_works; since = since }
 
       task_there : task < length s.tasks
       task_there = omega (arith, on.there, ranges.tasks)
@@ -260,6 +261,7 @@ module _ (trace : Trace) (setting : Setting) (suits : Suits trace setting) (i : 
         let fits : WritesInside trace task (work.Write inode page pages ∷ works) = subst (WritesInside trace task) works_are (ranges.task task on.there).works in
         let w = suits.writer_is task (context_of trace inode) fits.1 in
         page_moves task inode page pages works on turn fits.0 fits.1 (ranges.writes i less task turn ts is) w.0 w.1 w.2 w.3 (without_page inode page pages works)
+        (since_after (task_of task s).pace (task_of task s).since)
 
     by_moves : (whose : Whose) → (cpu_of i s).turn.whose ≡ whose → IsTurnOf trace i whose → Moves trace setting s.steps (dirty_by trace i whose s1) t
     by_moves (whose.Flusher f) turn on = skipped

@@ -13,9 +13,10 @@ use Rattle.wbt_grant.specs.Setting.{Setting}
 use Rattle.wbt_grant.specs.State as throttle
 use Rattle.wbt_grant.specs.Kinds as relation
 use Rattle.wbt_grant.specs.Record as made
-use Rattle.wbt_replay_moves.specs.Definition.Idle.{scan_of, unmark_of, unmark_in, unmark_by, unmark}
+use Rattle.wbt_replay_moves.specs.Definition.Idle.{start_of, scan_of, unmark_of, unmark_in, unmark_by, unmark}
 use Rattle.wbt_replay_moves.specs.Definition.State.{State, cpu_of, flusher_of, plain_step, queued}
-use Rattle.wbt_rules.specs.Things.{inode_of, device_of}
+use Rattle.wbt_rules.specs.Things.{inode_of, device_of, device_at, flusher_device}
+use Rattle.wbt_rules.proofs.Places.{page_inside}
 use Rattle.wbt_replay_moves.specs.Definition.Writer.{mark}
 use Rattle.wbt_replay_moves.specs.declared.state.Cpu.{Cpu}
 use Rattle.wbt_replay_moves.specs.declared.state.Flusher.{Flusher}
@@ -26,8 +27,8 @@ use Rattle.wbt_replay_moves.specs.declared.state.Whose.TheVariants as whose
 use Rattle.wbt_replay_moves.specs.declared.todo.Step.TheVariants as item
 use Rattle.wbt_replay_moves.specs.declared.todo.Todo.{Todo}
 use Rattle.wbt_replay_moves.specs.declared.todo.Todo.TheVariants as todo
-use Rattle.wbt_replay_order.specs.Kept.Facts.{Facts, IsPageOf, IsFlusherOn}
-use Rattle.wbt_replay_order.specs.Kept.Following.{Suits, FollowsCpu, Follows, Moves, by}
+use Rattle.wbt_replay_order.specs.Kept.Facts.{Facts, IsFlusherOn}
+use Rattle.wbt_replay_order.specs.Kept.Following.{Suits, ScansInside, FollowsCpu, Follows, Moves, by}
 use Rattle.wbt_replay_order.specs.Kept.Ranges.{Ranges, IsTurnOf, IsInside}
 use Rattle.wbt_replay_order.proofs.Facts.Lists.{either}
 use Rattle.wbt_replay_order.proofs.Frames.Others.{stepping}
@@ -117,7 +118,11 @@ module _ (trace : Trace) (setting : Setting) (suits : Suits trace setting) (i : 
           let s2 : State = unmark_of trace i f n s1 in
           let v : Flusher = record (flusher_of f s) { phase = scan_of trace f n s1 } in
           let f_there : f < length s.flushers = omega (arith, on.there, ranges.flushers) in
-          let first : IsPageOf trace n (inode_of trace n).first = record { there = known; after_first = omega arith; before_end = facts.inode_some n known } in
+          let below = ranges.places f on.there n known in
+          let low : start_of trace f n s1 < (inode_of trace n).pages =
+          either (λ (k : ℕ). k < (inode_of trace n).pages) (device_at trace (flusher_device trace f)).cyclic (get_or (flusher_of f s).places n 0) 0 (λ goes. below) (λ stays. omega (arith, below)) in
+          let at_first = page_inside (inode_of trace n).first (inode_of trace n).pages (start_of trace f n s1) 0 low in
+          let first : ScansInside trace v.phase = record { there = known; after_first = at_first.0; before_end = at_first.1 } in
           by (relation.unmark i n) refl (record { cpu_is = next.on_cpu }) refl
           (plainly trace setting suits i c1 r2 s t s2 (relation.after setting (relation.unmark i n) t) next.there next.turns h
           refl (same_shared s s2 refl) refl (put_changes t.cpu i r2) (λ j x m. refl)

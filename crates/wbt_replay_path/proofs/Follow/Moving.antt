@@ -203,6 +203,7 @@ moved_fits trace now orders turn s fits =
         writes = ranges.writes;
         task = ranges.task;
         flusher = ranges.flusher;
+        places = ranges.places;
         limits = ranges.limits;
         sequences = ranges.sequences;
         timer_limits = ranges.timer_limits;

@@ -29,6 +29,7 @@ use Rattle.wbt_replay_moves.specs.declared.state.Writeback.{Writeback}
 use Rattle.wbt_run_laws.proofs.Lists.{longer_none}
 use Rattle.wbt_replay_order.specs.Claims.Path.{held_as}
 use Rattle.wbt_replay_order.specs.Claims.Setting.{writers_in, writer_at, setting_of}
+use Rattle.wbt_rules.specs.Pace.{pace_of}
 use Rattle.wbt_replay_order.specs.Definition.Opening.{opening, first_limits, first_domain, first_domains, first_context, first_contexts, works_of, first_task, first_tasks, first_flusher, first_flushers, first_cpu, first_cpus, first_held, first_entries}
 use Rattle.wbt_replay_order.specs.Kept.Facts.{Facts}
 use Rattle.wbt_replay_order.specs.Kept.Following.{Suits, heights_of, ScansInside, batch_on, batched, own_in, count_in, FollowsCpu, Follows}
@@ -77,7 +78,7 @@ new_left most = refl
 
 module _ (trace : Trace) where
   abbrev task_at : (k : ℕ) → ReplayTask
-  task_at k = first_task trace (works_of trace k trace.actions)
+  task_at k = first_task trace (pace_of trace k) (works_of trace k trace.actions)
 
   tasks_are : (k : ℕ) → k < length trace.tasks → get_or (first_tasks trace (length trace.tasks)) k no_task ≡ task_at k
   tasks_are k less = numbered task_at (first_tasks trace) refl (λ n. refl) (length trace.tasks) k no_task less

@@ -28,6 +28,7 @@ use Rattle.wbt_journal.specs.declared.entry.Entry.TheVariants as entry
 use Rattle.wbt_replay_moves.specs.Definition.Cpu.{do_next, logged}
 use Rattle.wbt_replay_moves.specs.Definition.Scan.{looked_at, look_in, look_by, look, claim_now, claim_in, claim_by, claim}
 use Rattle.wbt_replay_moves.specs.Definition.State.{State, no_cpu, no_flusher, cpu_of, flusher_of, plain_step}
+use Rattle.wbt_rules.specs.Places.{page_of as next_page}
 use Rattle.wbt_rules.specs.Things.{flusher_cpu}
 use Rattle.wbt_rules.specs.declared.scan.Scan.{Scan}
 use Rattle.wbt_replay_moves.specs.declared.state.Cpu.{Cpu}
@@ -92,24 +93,24 @@ module _ (trace : Trace) (setting : Setting) (suits : Suits trace setting) (i : 
       flusher_there : f < length s.flushers
       flusher_there = omega (arith, on.there, ranges.flushers)
 
-      inside : IsPageOf trace scan.inode scan.page
+      inside : IsPageOf trace scan.inode (next_page scan)
       inside = subst (ScansInside trace) at (f0.scanning f on (λ e. f0.tidy.1))
 
-      page_is : page_of (cpu_of i s).turn.whose s.flushers ≡ scan.page
+      page_is : page_of (cpu_of i s).turn.whose s.flushers ≡ next_page scan
       page_is = ap (λ (w : Whose). page_of w s.flushers) turn ∙ ap page_in at
 
       abbrev r2 : CpuRecord
-      r2 = made.stepped kind.Look (word.Page scan.page) (page_now setting scan.page t) (made.looked setting scan.page (t.book scan.page) (t.cpu i))
+      r2 = made.stepped kind.Look (word.Page (next_page scan)) (page_now setting (next_page scan) t) (made.looked setting (next_page scan) (t.book (next_page scan)) (t.cpu i))
 
-      look_moves : Moves trace setting s.steps (plain_step i kind.Look (looked_at i f scan (s.book scan.page) s1)) t
-      look_moves = either (λ q. Moves trace setting s.steps (plain_step i kind.Look q) t) (is_claimable (s.book scan.page)) _ _
+      look_moves : Moves trace setting s.steps (plain_step i kind.Look (looked_at i f scan (s.book (next_page scan)) s1)) t
+      look_moves = either (λ q. Moves trace setting s.steps (plain_step i kind.Look q) t) (is_claimable (s.book (next_page scan))) _ _
           (λ found.
           let s2 : State = plain_step i kind.Look (looked_at i f scan (record { dirty = true; writeback = false }) s1) in
-          let w : ℕ = shared_word s.book scan.page in
+          let w : ℕ = shared_word s.book (next_page scan) in
           let write : Cpu → Cpu = λ c. do_next (todo.Step (item.Claim w) ∷ []) c in
-          let kept = looked_kept setting scan.page (t.book scan.page) (t.cpu i) in
-          by (relation.look i scan.page) refl (record { cpu_is = next.on_cpu; page_is = suits.page scan.inode scan.page inside }) refl
-          (plainly trace setting suits i (write c1) r2 s t s2 (relation.after setting (relation.look i scan.page) t) next.there next.turns h
+          let kept = looked_kept setting (next_page scan) (t.book (next_page scan)) (t.cpu i) in
+          by (relation.look i (next_page scan)) refl (record { cpu_is = next.on_cpu; page_is = suits.page scan.inode (next_page scan) inside }) refl
+          (plainly trace setting suits i (write c1) r2 s t s2 (relation.after setting (relation.look i (next_page scan)) t) next.there next.turns h
           (twice write s.cpus i c1 no_cpu next.there) (same_shared s s2 refl) refl (put_changes t.cpu i r2) (λ j x n. refl) (λ j n. all_same trace j s.tasks s.flushers) h.marks
           (record {
             own_is = f0.own_is;
@@ -121,7 +122,7 @@ module _ (trace : Trace) (setting : Setting) (suits : Suits trace setting) (i : 
             debts = ap bared kept.debts ∙ f0.debts;
             tidy = f0.tidy;
             looked = subst (λ (p : ℕ). HasLooked p w r2.last) (sym page_is)
-                (record { at = (refl, refl); found = suits.word t.book scan.page ∙ ap (λ (b : Book). shared_word b scan.page) h.book; claimable = ap is_claimable (word_holds_page s.book scan.page) ∙ found });
+                (record { at = (refl, refl); found = suits.word t.book (next_page scan) ∙ ap (λ (b : Book). shared_word b (next_page scan)) h.book; claimable = ap is_claimable (word_holds_page s.book (next_page scan)) ∙ found });
             scanning = f0.scanning;
             held = λ p. ap (times_in p) kept.held ∙ f0.held p;
             paced = omega (arith, f0.paced, kept.page_steps);
@@ -130,13 +131,13 @@ module _ (trace : Trace) (setting : Setting) (suits : Suits trace setting) (i : 
             check = λ n same decides. absurd (no_check trace setting i (cpu_of i s) s.tasks s.flushers (t.cpu i) (λ y. t.own y i) (h.cpu i less) (todo.Step item.Look) ts is (λ a b none. none) n same decides);
           })))
           (λ missed.
-          let b : Bits = s.book scan.page in
-          let v : Flusher = record (flusher_of f s) { phase = phase.Scanning (record scan { page = scan.page + 1; noted = scan.noted || (b.dirty && b.writeback) }) } in
+          let b : Bits = s.book (next_page scan) in
+          let v : Flusher = record (flusher_of f s) { phase = phase.Scanning (record scan { passed = scan.passed + 1; noted = scan.noted || (b.dirty && b.writeback) }) } in
           let write : Cpu → Cpu = λ c. do_next (todo.Silent silent.Close ∷ []) c in
           let s2 : State = plain_step i kind.Look (record s { cpus = set (set s.cpus i c1) i (write (get_or (set s.cpus i c1) i no_cpu)); flushers = set s.flushers f v }) in
-          let kept = looked_kept setting scan.page (t.book scan.page) (t.cpu i) in
-          by (relation.look i scan.page) refl (record { cpu_is = next.on_cpu; page_is = suits.page scan.inode scan.page inside }) refl
-          (plainly trace setting suits i (write c1) r2 s t s2 (relation.after setting (relation.look i scan.page) t) next.there next.turns h
+          let kept = looked_kept setting (next_page scan) (t.book (next_page scan)) (t.cpu i) in
+          by (relation.look i (next_page scan)) refl (record { cpu_is = next.on_cpu; page_is = suits.page scan.inode (next_page scan) inside }) refl
+          (plainly trace setting suits i (write c1) r2 s t s2 (relation.after setting (relation.look i (next_page scan)) t) next.there next.turns h
           (twice write s.cpus i c1 no_cpu next.there) (same_shared s s2 refl) refl (put_changes t.cpu i r2) (λ j x n. refl)
           (λ j other. record { same_tasks = λ k e. refl; same_flushers = flushers_elsewhere trace i j f s.flushers v on.cpu_is other }) h.marks
           (record {
@@ -186,32 +187,32 @@ module _ (trace : Trace) (setting : Setting) (suits : Suits trace setting) (i : 
       claims_on : f < length s.flushers
       claims_on = omega (arith, on.there, ranges.flushers)
 
-      claims_inside : IsPageOf trace scan.inode scan.page
+      claims_inside : IsPageOf trace scan.inode (next_page scan)
       claims_inside = subst (ScansInside trace) at (k0.scanning f on (λ e. k0.tidy.1))
 
-      has_looked : HasLooked scan.page w (t.cpu i).last
+      has_looked : HasLooked (next_page scan) w (t.cpu i).last
       has_looked = subst (λ (p : ℕ). HasLooked p w (t.cpu i).last) (ap (λ (x : Whose). page_of x s.flushers) turn ∙ ap page_in at) k0.looked
 
-      may_claim : MayClaim setting i scan.page (t.cpu i)
+      may_claim : MayClaim setting i (next_page scan) (t.cpu i)
       may_claim = record {
         cpu_is = next.on_cpu;
-        page_is = suits.page scan.inode scan.page claims_inside;
+        page_is = suits.page scan.inode (next_page scan) claims_inside;
         looked = has_looked.at;
-        found_claimable = ap is_claimable (suits.bits (last_found (t.cpu i).last) scan.page)
-            ∙ (ap (λ (n : ℕ). is_claimable (bits_at n scan.page)) has_looked.found ∙ has_looked.claimable);
+        found_claimable = ap is_claimable (suits.bits (last_found (t.cpu i).last) (next_page scan))
+            ∙ (ap (λ (n : ℕ). is_claimable (bits_at n (next_page scan))) has_looked.found ∙ has_looked.claimable);
       }
 
-      claim_test : eqb (page_now setting scan.page t) (last_found (t.cpu i).last) ≡ eqb (shared_word s.book scan.page) w
-      claim_test = ap (λ (n : ℕ). eqb n (last_found (t.cpu i).last)) (suits.word t.book scan.page ∙ ap (λ (b : Book). shared_word b scan.page) h.book)
-          ∙ ap (eqb (shared_word s.book scan.page)) has_looked.found
+      claim_test : eqb (page_now setting (next_page scan) t) (last_found (t.cpu i).last) ≡ eqb (shared_word s.book (next_page scan)) w
+      claim_test = ap (λ (n : ℕ). eqb n (last_found (t.cpu i).last)) (suits.word t.book (next_page scan) ∙ ap (λ (b : Book). shared_word b (next_page scan)) h.book)
+          ∙ ap (eqb (shared_word s.book (next_page scan))) has_looked.found
 
-      missed_moves : eqb (shared_word s.book scan.page) w ≡ false → Moves trace setting s.steps (plain_step i kind.Claim s1) t
+      missed_moves : eqb (shared_word s.book (next_page scan)) w ≡ false → Moves trace setting s.steps (plain_step i kind.Claim s1) t
       missed_moves missed =
           let s2 : State = plain_step i kind.Claim s1 in
-          let q2 : CpuRecord = claim_step setting scan.page t (t.cpu i) in
+          let q2 : CpuRecord = claim_step setting (next_page scan) t (t.cpu i) in
           let t2 : throttle.State = relation.with_record i q2 t in
-          by (relation.claim i scan.page) refl may_claim refl
-          (subst (Follows trace setting s2) (sym (cond-false (eqb (page_now setting scan.page t) (last_found (t.cpu i).last)) _ t2 (claim_test ∙ missed)))
+          by (relation.claim i (next_page scan)) refl may_claim refl
+          (subst (Follows trace setting s2) (sym (cond-false (eqb (page_now setting (next_page scan) t) (last_found (t.cpu i).last)) _ t2 (claim_test ∙ missed)))
           (plainly trace setting suits i c1 q2 s t s2 t2 next.there next.turns h
           refl (same_shared s s2 refl) refl (put_changes t.cpu i q2) (λ j x n. refl) (λ j n. all_same trace j s.tasks s.flushers) h.marks
           (record {
@@ -232,16 +233,16 @@ module _ (trace : Trace) (setting : Setting) (suits : Suits trace setting) (i : 
             check = λ n same decides. absurd (no_check trace setting i (cpu_of i s) s.tasks s.flushers (t.cpu i) (λ y. t.own y i) (h.cpu i less) (todo.Step (item.Claim w)) ts is (λ a b none. none) n same decides);
           })))
 
-      hit_moves : eqb (shared_word s.book scan.page) w ≡ true → Moves trace setting s.steps (plain_step i kind.Claim (claim_now i f scan s1)) t
+      hit_moves : eqb (shared_word s.book (next_page scan)) w ≡ true → Moves trace setting s.steps (plain_step i kind.Claim (claim_now i f scan s1)) t
       hit_moves found =
           let s2 : State = plain_step i kind.Claim (claim_now i f scan s1) in
-          let q2 : CpuRecord = claim_step setting scan.page t (made.claimed scan.page (t.cpu i)) in
-          let t2 : throttle.State = relation.with_event (event.Claim scan.page) scan.page (relation.with_record i q2 t) in
-          let v : Flusher = record (flusher_of f s) { phase = phase.Scanning (record scan { page = scan.page + 1 }); batch = (flusher_of f s).batch ++ scan.page ∷ [] } in
-          let log : Cpu → Cpu = λ c. logged (entry.Claimed f scan.page) c in
+          let q2 : CpuRecord = claim_step setting (next_page scan) t (made.claimed (next_page scan) (t.cpu i)) in
+          let t2 : throttle.State = relation.with_event (event.Claim (next_page scan)) (next_page scan) (relation.with_record i q2 t) in
+          let v : Flusher = record (flusher_of f s) { phase = phase.Scanning (record scan { passed = scan.passed + 1 }); batch = (flusher_of f s).batch ++ next_page scan ∷ [] } in
+          let log : Cpu → Cpu = λ c. logged (entry.Claimed f (next_page scan)) c in
           let then : Cpu → Cpu = λ c. do_next (todo.Silent silent.Close ∷ []) c in
-          by (relation.claim i scan.page) refl may_claim refl
-          (subst (Follows trace setting s2) (sym (cond-true (eqb (page_now setting scan.page t) (last_found (t.cpu i).last)) t2 _ (claim_test ∙ found)))
+          by (relation.claim i (next_page scan)) refl may_claim refl
+          (subst (Follows trace setting s2) (sym (cond-true (eqb (page_now setting (next_page scan) t) (last_found (t.cpu i).last)) t2 _ (claim_test ∙ found)))
           (one_cpu trace setting suits i (then (log c1)) q2 s s2 t t2 next.there next.turns h (record {
             cpus = thrice log then s.cpus i c1 no_cpu next.there;
             record_is = put_changes t.cpu i q2;
@@ -249,9 +250,9 @@ module _ (trace : Trace) (setting : Setting) (suits : Suits trace setting) (i : 
             others = λ j other. record { same_tasks = λ k e. refl; same_flushers = flushers_elsewhere trace i j f s.flushers v on.cpu_is other };
             here = record {
               own_is = k0.own_is;
-              events = ap (λ (l : List Event). event.Claim scan.page ∷ l) k0.events ∙ sym (events_more [] (cpu_of i s).entries (entry.Claimed f scan.page));
-              folds = k0.folds ∙ sym (folds_more [] (cpu_of i s).entries (entry.Claimed f scan.page));
-              founds = k0.founds ∙ sym (founds_more [] (cpu_of i s).entries (entry.Claimed f scan.page));
+              events = ap (λ (l : List Event). event.Claim (next_page scan) ∷ l) k0.events ∙ sym (events_more [] (cpu_of i s).entries (entry.Claimed f (next_page scan)));
+              folds = k0.folds ∙ sym (folds_more [] (cpu_of i s).entries (entry.Claimed f (next_page scan)));
+              founds = k0.founds ∙ sym (founds_more [] (cpu_of i s).entries (entry.Claimed f (next_page scan)));
               readings = k0.readings;
               triples = k0.triples;
               debts = k0.debts;
@@ -260,14 +261,14 @@ module _ (trace : Trace) (setting : Setting) (suits : Suits trace setting) (i : 
               scanning = scans_on trace setting i _ (then (log c1)) s.tasks s.flushers (t.cpu i) (λ x. t.own x i) f v k0 turn claims_on (λ closing. absurd (cc (closing turn)));
               held = λ q.
                   let change = batched_here trace s.flushers f v i q on.cpu_is on.there claims_on in
-                  let grown = one_more_in scan.page q (flusher_of f s).batch in
+                  let grown = one_more_in (next_page scan) q (flusher_of f s).batch in
                   omega (arith, k0.held q, change, grown);
               paced = omega (arith, k0.paced);
               left = k0.left;
               checked = k0.checked;
               check = λ n same decides. absurd (no_check trace setting i (cpu_of i s) s.tasks s.flushers (t.cpu i) (λ y. t.own y i) (h.cpu i less) (todo.Step (item.Claim w)) ts is (λ a b none. none) n same decides);
             };
-            book = ap (λ (book : Book). put book scan.page (bits_after (event.Claim scan.page) (book scan.page))) h.book;
+            book = ap (λ (book : Book). put book (next_page scan) (bits_after (event.Claim (next_page scan)) (book (next_page scan)))) h.book;
             marks = h.marks;
             versions = h.versions;
             values = h.values;
@@ -278,7 +279,7 @@ module _ (trace : Trace) (setting : Setting) (suits : Suits trace setting) (i : 
           })))
 
       claim_moves : Moves trace setting s.steps (claim_in i f w (phase.Scanning scan) s1) t
-      claim_moves = either (λ q. Moves trace setting s.steps (plain_step i kind.Claim q) t) (eqb (shared_word s.book scan.page) w) _ _ hit_moves missed_moves
+      claim_moves = either (λ q. Moves trace setting s.steps (plain_step i kind.Claim q) t) (eqb (shared_word s.book (next_page scan)) w) _ _ hit_moves missed_moves
 
     claim_skipped : (w : ℕ) (is : (cpu_of i s).todo ≡ todo.Step (item.Claim w) ∷ ts) → Moves trace setting s.steps s1 t
     claim_skipped w is = let f = subst Tidy is (h.cpu i less).tidy in next.skipped (todo.Step (item.Claim w)) ts is (λ a b none. none) refl f.0.claims f.2 refl

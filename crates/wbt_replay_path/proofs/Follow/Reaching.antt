@@ -42,7 +42,7 @@ worker trace steps task t its = record {
 inside : (trace : Trace) (batch : List ℕ) (p : ReplayPhase) → IsAt trace batch p → IsInside trace batch p
 inside trace batch (phase.Idle until kept) at = tt
 inside trace batch (phase.Taken inode) at = at.1
-inside trace batch (phase.Scanning scan) at = (at.there, omega (arith, at.behind))
+inside trace batch (phase.Scanning scan) at = (at.there, at.first_is, at.pages_is, at.start)
 inside trace batch (phase.Flying inode pages until) at = at.ours
 inside trace batch phase.Finished at = tt
 
@@ -75,6 +75,7 @@ module _ (trace : Trace) (s : State) (sound : Sound trace s) where
     writes = free;
     task = λ k less. worker trace (length s.steps) k (task_of k s) (sound.holds.tasks.each k less);
     flusher = λ f less. inside trace (flusher_of f s).batch (flusher_of f s).phase (sound.holds.flushers.each f).phase;
+    places = λ f less. ((sound.holds.flushers.each f).places less).below;
     limits = λ d less. (sound.holds.domains.each d).limits;
     sequences = λ d less. (let was = (sound.holds.domains.each d).sequence in let few = sound.holds.few in omega (arith, was, few));
     timer_limits = sound.holds.timer.limits;

@@ -1,7 +1,6 @@
 -- Silent moves of a turn leave the step relation where it is.
-use Rattle.std.proofs.Common.{◌≡◌, ℕ, ◌+◌, ◌<◌, ◌≤◌, true, false, ◌||◌, ltb, leb, List, [], ◌∷◌, ◌++◌, length, get_or, fold, Option, Some, None, refl, sym, ◌∙◌, ap, subst, arith, Bool, unwrap_or}
+use Rattle.std.proofs.Common.{◌≡◌, ℕ, ◌+◌, ◌<◌, true, false, ◌||◌, ltb, List, [], ◌∷◌, ◌++◌, length, get_or, fold, Option, Some, None, refl, sym, ◌∙◌, ap, subst, arith, Bool, unwrap_or}
 use Rattle.std.proofs.Math.ListN.{set}
-use Rattle.std.proofs.lemmas.Bool.{or_parts, leb-false}
 use Rattle.std.proofs.lemmas.List.{get_or-set_same, set-get_or}
 use Rattle.std.specs.List.{list_any}
 use Rattle.wbt_trace.specs.declared.trace.Trace.{Trace}
@@ -17,9 +16,9 @@ use Rattle.wbt_replay_moves.specs.Definition.Cpu.{do_next, then_do, estimated, l
 use Rattle.wbt_replay_moves.specs.Definition.Estimates.{sample_of, estimate_to, estimate}
 use Rattle.wbt_replay_moves.specs.Definition.Idle.{rest_until, take, take_or_rest, with_hard, test_by, test, take_now, with_pairs, told_by, waits, noticed, age, tested_by}
 use Rattle.wbt_rules.specs.declared.moments.TheConstants.{FLUSHER_REST}
-use Rattle.wbt_replay_moves.specs.Definition.Scan.{is_over, close_in, close_by, close}
+use Rattle.wbt_replay_moves.specs.Definition.Scan.{is_over, places_after, keep_place, close_in, close_by, close}
 use Rattle.wbt_replay_moves.specs.Definition.State.{State, no_cpu, no_task, no_flusher, cpu_of, task_of, flusher_of, writeback_of, queue_of, no_waiting, waiting_of, with_waiting, with_queue, in_phase}
-use Rattle.wbt_rules.specs.Things.{inode_of, end_of, flusher_device}
+use Rattle.wbt_rules.specs.Things.{flusher_device}
 use Rattle.wbt_replay_moves.specs.Definition.Weigh.{is_over_by_itself, over_noted, weigh, weighed_by}
 use Rattle.wbt_replay_moves.specs.Definition.Writer.{leaked, end_now, has_nothing, end_by, end}
 use Rattle.wbt_rules.specs.declared.scan.Scan.{Scan}
@@ -41,6 +40,7 @@ use Rattle.wbt_replay_order.specs.Kept.Facts.{IsFlusherOn, IsTaskOn}
 use Rattle.wbt_replay_order.specs.Kept.Following.{Suits, Tidy, Looked, ScansInside, AreLoads, is_closing, debts_in, batched, FollowsCpu, Follows, Moves}
 use Rattle.wbt_replay_order.specs.Kept.Ranges.{Ranges, IsTurnOf, IsInside}
 use Rattle.wbt_replay_order.proofs.Facts.Lists.{either, twice}
+use Rattle.wbt_replay_order.proofs.Facts.Scans.{scan_page}
 use Rattle.wbt_replay_path.proofs.Follow.Alike.{Alike, alike_context, alike_moves, TellsNothing, alike_log, alike_lists, alike_push}
 use Rattle.wbt_replay_order.proofs.Frames.Others.{IsTurnOn, popped}
 use Rattle.wbt_replay_path.proofs.Follow.Held.{batched_same}
@@ -351,26 +351,27 @@ module _ (trace : Trace) (setting : Setting) (suits : Suits trace setting) (i : 
         (record { becomes = record (cpu_of i s) { todo = ts }; cpus = refl; same = refl; shared = same_shared s (popped i ts s) refl; marks = refl; steps = refl }) refl
         (sym (set-get_or s.flushers f no_flusher)) refl refl z0.tidy.1 (λ p found r. calm setting p found ts r z0.tidy.0.claims) (λ closing. inside)
 
-    closes : (f : ℕ) → IsFlusherOn trace i f → (cpu_of i s).turn.whose ≡ whose.Flusher f → (items : List Todo) → debts_in (items ++ ts) ≡ debts_in ts → Tidy (items ++ ts)
+    -- the flusher keeps the place of its scan, and hands over
+    closes : (f : ℕ) → IsFlusherOn trace i f → (cpu_of i s).turn.whose ≡ whose.Flusher f → (scan : Scan) (items : List Todo) → debts_in (items ++ ts) ≡ debts_in ts → Tidy (items ++ ts)
         → ((p : ℕ) (found : Found) (r : CpuRecord) → Looked setting p found (items ++ ts) r) → list_any is_closing (items ++ ts) ≡ true
-        → Moves trace setting s.steps (then_do i items (popped i ts s)) t
-    closes f on turn items debts tidy looked closing =
-        let s2 : State = then_do i items (popped i ts s) in
-        turn_moves silent.Close ts is (λ a b none. none) f on turn (items ++ ts) (flusher_of f s) s2
+        → Moves trace setting s.steps (then_do i items (keep_place trace f scan (popped i ts s))) t
+    closes f on turn scan items debts tidy looked closing =
+        let v : Flusher = record (flusher_of f s) { places = places_after trace f scan (flusher_of f s).places } in
+        let s2 : State = then_do i items (keep_place trace f scan (popped i ts s)) in
+        turn_moves silent.Close ts is (λ a b none. none) f on turn (items ++ ts) v s2
         (record { becomes = record (cpu_of i s) { todo = items ++ ts }; cpus = twice (do_next items) s.cpus i (record (cpu_of i s) { todo = ts }) no_cpu there; same = refl; shared = same_shared s s2 refl; marks = refl; steps = refl }) refl
-        (sym (set-get_or s.flushers f no_flusher)) refl debts tidy looked (λ closed. absurd (cc (sym closed ∙ closing)))
+        refl refl debts tidy looked (λ closed. absurd (cc (sym closed ∙ closing)))
 
     close_at_moves : (f : ℕ) → IsFlusherOn trace i f → (cpu_of i s).turn.whose ≡ whose.Flusher f → (scan : Scan)
         → (flusher_of f s).phase ≡ phase.Scanning scan → Moves trace setting s.steps (close_in trace i f (phase.Scanning scan) (popped i ts s)) t
     close_at_moves f on turn scan at =
-        let inside : (scan.inode < length trace.inodes) × ((inode_of trace scan.inode).first ≤ scan.page) = subst (IsInside trace (flusher_of f s).batch) at (ranges.flusher f on.there) in
-        either (λ r. Moves trace setting s.steps r t) (is_over trace scan (length (flusher_of f s).batch)) _ _
-        (λ over. either (λ items. Moves trace setting s.steps (then_do i items (popped i ts s)) t) (scan.noted || ltb scan.page (end_of trace scan.inode)) _ _
-        (λ again. closes f on turn (todo.Step (item.Mark scan.inode) ∷ todo.Silent silent.HandOver ∷ []) refl (record { debts = z0.tidy.0.debts; claims = refl }, (z0.tidy.0, z0.tidy.1)) (λ p found r. tt) refl)
-        (λ once. closes f on turn (todo.Silent silent.HandOver ∷ []) refl (z0.tidy.0, z0.tidy.1) (λ p found r. tt) refl))
+        let inside : IsInside trace (flusher_of f s).batch (phase.Scanning scan) = subst (IsInside trace (flusher_of f s).batch) at (ranges.flusher f on.there) in
+        either (λ r. Moves trace setting s.steps r t) (is_over scan (length (flusher_of f s).batch)) _ _
+        (λ over. either (λ items. Moves trace setting s.steps (then_do i items (keep_place trace f scan (popped i ts s))) t) (scan.noted || ltb scan.passed scan.pages) _ _
+        (λ again. closes f on turn scan (todo.Step (item.Mark scan.inode) ∷ todo.Silent silent.HandOver ∷ []) refl (record { debts = z0.tidy.0.debts; claims = refl }, (z0.tidy.0, z0.tidy.1)) (λ p found r. tt) refl)
+        (λ once. closes f on turn scan (todo.Silent silent.HandOver ∷ []) refl (z0.tidy.0, z0.tidy.1) (λ p found r. tt) refl))
         (λ more.
-        let before : scan.page < end_of trace scan.inode = leb-false (end_of trace scan.inode) scan.page (or_parts (leb (end_of trace scan.inode) scan.page) (leb scan.quota (length (flusher_of f s).batch)) more).0 in
-        at_phase f on turn (subst (ScansInside trace) (sym at) (record { there = inside.0; after_first = inside.1; before_end = before })))
+        at_phase f on turn (subst (ScansInside trace) (sym at) (scan_page trace scan inside.0 inside.1 inside.2 inside.3)))
 
     close_in_moves : (f : ℕ) → IsFlusherOn trace i f → (cpu_of i s).turn.whose ≡ whose.Flusher f → (at : ReplayPhase) → (flusher_of f s).phase ≡ at
         → Moves trace setting s.steps (close_in trace i f at (popped i ts s)) t

@@ -3,6 +3,7 @@ use Rattle.std.proofs.Common.{inl, inr, ◌≡◌, ℕ, zero, suc, ◌+◌, ◌<
 use Rattle.std.proofs.lemmas.Bool.{cases_Bool, cond-true}
 use Rattle.std.proofs.lemmas.List.{get_or-replicate, length-replicate, nil_from_length}
 use Rattle.wbt_estimate.specs.declared.estimate.Estimate.{Estimate}
+use Rattle.wbt_rules.specs.Pace.{pace_of}
 use Rattle.wbt_rules.specs.First.{first_estimate}
 use Rattle.wbt_rules.specs.Things.{context_of}
 use Rattle.wbt_task.specs.Allowance.{first}
@@ -65,7 +66,7 @@ plain_writer cap = (refl, refl)
 
 module _ (trace : Trace) (fits : (t : ℕ) → All (WorkFits trace t) (works_of trace t trace.actions)) where
   abbrev first_of : (t : ℕ) → ReplayTask
-  first_of t = first_task trace (works_of trace t trace.actions)
+  first_of t = first_task trace (pace_of trace t) (works_of trace t trace.actions)
 
   abbrev first_view : (t : ℕ) → View
   first_view t = task_view (first_of t)

@@ -36,7 +36,7 @@ use Rattle.wbt_replay_moves.specs.Definition.Cpu.{do_next, at_turn, logged, log_
 use Rattle.wbt_replay_moves.specs.Definition.Perform.{make_timer_step, make_timer_move}
 use Rattle.wbt_replay_moves.specs.Definition.State.{State, no_cpu, no_task, cpu_of, with_cpu, task_of, with_task, domain_of, writeback_of, plain_step}
 use Rattle.wbt_replay_moves.specs.Definition.Timer.{with_timer, is_time, periods, period_to}
-use Rattle.wbt_replay_moves.specs.Definition.Writer.{without_page, counted_page, counted_local, dirty_fresh, leaked, end_now}
+use Rattle.wbt_replay_moves.specs.Definition.Writer.{passed_page, counted_page, counted_local, dirty_fresh, leaked, end_now}
 use Rattle.wbt_replay_moves.specs.declared.state.Actor.{Actor}
 use Rattle.wbt_replay_moves.specs.declared.state.Cpu.{Cpu}
 use Rattle.wbt_replay_moves.specs.declared.state.ReplayTask.{ReplayTask}
@@ -184,11 +184,11 @@ module _ (trace : Trace) (facts : Facts trace) (pages_there : (inode page : ℕ)
   written_there task s w works is = is_there s.tasks task no_task (λ e. absurd (cc (sym is ∙ ap (λ (t : ReplayTask). t.works) e)))
 
   knowns : (cpu task inode page pages : ℕ) (works : List ReplayWork) (c : Cpu) (s : State) → Takes trace cpu task (todo.Step step.Dirty) c s → WritesNow trace cpu task inode page pages works (with_cpu cpu c s)
-      → Goes trace s (plain_step cpu kind.Dirty (log_at cpu (entry.Write task page false) (with_task task (record (task_of task s) { works = without_page inode page pages works }) (with_cpu cpu c s))))
+      → Goes trace s (plain_step cpu kind.Dirty (log_at cpu (entry.Write task page false) (with_task task (passed_page inode page pages works (task_of task s)) (with_cpu cpu c s))))
   knowns cpu task inode page pages works c s its now h =
       let e : Entry = entry.Write task page false in
       let k : ℕ = context_of trace inode in
-      let y : ReplayTask = record (task_of task s) { works = without_page inode page pages works } in
+      let y : ReplayTask = passed_page inode page pages works (task_of task s) in
       let u : State = plain_step cpu kind.Dirty (log_at cpu e (with_task task y (with_cpu cpu c s))) in
       let d : Cpu = logged e c in
       let cpus : u.cpus ≡ set s.cpus cpu d = twice (logged e) s.cpus cpu c no_cpu its.there in
@@ -215,11 +215,11 @@ module _ (trace : Trace) (facts : Facts trace) (pages_there : (inode page : ℕ)
       )
 
   freshes : (cpu task inode page pages : ℕ) (works : List ReplayWork) (c : Cpu) (s : State) → Takes trace cpu task (todo.Step step.Dirty) c s → WritesNow trace cpu task inode page pages works (with_cpu cpu c s)
-      → Goes trace s (dirty_fresh trace cpu task inode page (with_task task (record (task_of task s) { works = without_page inode page pages works }) (with_cpu cpu c s)))
+      → Goes trace s (dirty_fresh trace cpu task inode page (with_task task (passed_page inode page pages works (task_of task s)) (with_cpu cpu c s)))
   freshes cpu task inode page pages works c s its now h =
       let e : Entry = entry.Write task page true in
       let k : ℕ = context_of trace inode in
-      let y : ReplayTask = record (task_of task s) { works = without_page inode page pages works } in
+      let y : ReplayTask = passed_page inode page pages works (task_of task s) in
       let vs : State = with_cpu cpu c s in
       let w : State = with_task task y vs in
       let u : State = dirty_fresh trace cpu task inode page w in

@@ -8,6 +8,7 @@ use Rattle.wbt_counter.specs.declared.counter.Counter.TheVariants.{Domain as ofD
 use Rattle.wbt_estimate.specs.Estimate.{update_of}
 use Rattle.wbt_estimate.specs.declared.estimate.Estimate.{Estimate}
 use Rattle.wbt_rules.specs.Things.{context_of, group_of}
+use Rattle.wbt_rules.specs.Places.{page_of}
 use Rattle.wbt_rules.specs.declared.scan.Scan.{Scan}
 use Rattle.wbt_trace.specs.declared.trace.Trace.{Trace}
 use Rattle.wbt_journal.specs.Effects.{effect, WaitMove, notices, ages, takes_first}
@@ -93,12 +94,12 @@ module _ (trace : Trace) (facts : Facts trace) where
     logs cpu (entry.Folded (record { counter = ofContext k; version = (count_of (ofContext k) s).version + 1; delta = own_of (ofContext k) (cpu_of cpu s) })) (folded_told _) s (fold_at cpu (ofContext k) s) there refl refl refl refl refl refl h.1,
   )
 
-  pub claims : (cpu f : ℕ) (scan : Scan) (s : State) → ScansNow trace cpu f scan s → IsPageOf trace scan.inode scan.page → Goes trace s (claim_now cpu f scan s)
+  pub claims : (cpu f : ℕ) (scan : Scan) (s : State) → ScansNow trace cpu f scan s → IsPageOf trace scan.inode (page_of scan) → Goes trace s (claim_now cpu f scan s)
   claims cpu f scan s now page h =
-      let v : Flusher = record (flusher_of f s) { phase = phase.Scanning (record scan { page = scan.page + 1 }); batch = (flusher_of f s).batch ++ scan.page ∷ [] } in
-      let w : State = log_at cpu (entry.Claimed f scan.page) (with_flusher f v (with_event (event.Claim scan.page) scan.page s)) in (
+      let v : Flusher = record (flusher_of f s) { phase = phase.Scanning (record scan { passed = scan.passed + 1 }); batch = (flusher_of f s).batch ++ page_of scan ∷ [] } in
+      let w : State = log_at cpu (entry.Claimed f (page_of scan)) (with_flusher f v (with_event (event.Claim (page_of scan)) (page_of scan) s)) in (
         estimated.claims trace facts cpu f scan s now page h.0,
-        pushed cpu (todo.Silent silent.Close ∷ []) w (refl, tt) (logs cpu (entry.Claimed f scan.page) (claimed_told f scan.page) s w now.there refl refl refl refl refl refl h.1),
+        pushed cpu (todo.Silent silent.Close ∷ []) w (refl, tt) (logs cpu (entry.Claimed f (page_of scan)) (claimed_told f (page_of scan)) s w now.there refl refl refl refl refl refl h.1),
       )
 
   pub flies_off : (cpu f : ℕ) (scan : Scan) (until : ℕ) (s : State) → ScansNow trace cpu f scan s → length (flusher_of f s).batch ≢ 0 → Goes trace s (fly cpu f scan.inode (length (flusher_of f s).batch) until s)

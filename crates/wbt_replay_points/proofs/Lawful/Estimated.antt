@@ -12,6 +12,7 @@ use Rattle.wbt_flex.specs.Proportions.{aged, added}
 use Rattle.wbt_flex.specs.declared.half.Half.{Half}
 use Rattle.wbt_rules.specs.Things.{context_of, context_at, first_flusher as leader}
 use Rattle.wbt_rules.specs.First.{first_estimate}
+use Rattle.wbt_rules.specs.Places.{page_of}
 use Rattle.wbt_rules.specs.declared.scan.Scan.{Scan}
 use Rattle.wbt_rules.proofs.Openings.{first_version}
 use Rattle.wbt_trace.specs.declared.trace.Trace.{Trace}
@@ -158,12 +159,12 @@ module _ (trace : Trace) (facts : Facts trace) where
   pub freshes : FreshWrites trace Goes
   freshes = over_fresh trace (alone part) quietly wrote
 
-  pub claims : (cpu f : ℕ) (scan : Scan) (s : State) → ScansNow trace cpu f scan s → IsPageOf trace scan.inode scan.page → Goes s (claim_now cpu f scan s)
+  pub claims : (cpu f : ℕ) (scan : Scan) (s : State) → ScansNow trace cpu f scan s → IsPageOf trace scan.inode (page_of scan) → Goes s (claim_now cpu f scan s)
   claims cpu f scan s now page h =
-      let v : Flusher = record (flusher_of f s) { phase = phase.Scanning (record scan { page = scan.page + 1 }); batch = (flusher_of f s).batch ++ scan.page ∷ [] } in
+      let v : Flusher = record (flusher_of f s) { phase = phase.Scanning (record scan { passed = scan.passed + 1 }); batch = (flusher_of f s).batch ++ page_of scan ∷ [] } in
       let u : State = with_flusher f v s in
-      let w : State = log_at cpu (entry.Claimed f scan.page) u in
-      quietly cpu _ w refl (logs cpu (entry.Claimed f scan.page) (claimed_told f scan.page) u now.there refl refl refl (λ k. refl) (flusher_on f v s refl h))
+      let w : State = log_at cpu (entry.Claimed f (page_of scan)) u in
+      quietly cpu _ w refl (logs cpu (entry.Claimed f (page_of scan)) (claimed_told f (page_of scan)) u now.there refl refl refl (λ k. refl) (flusher_on f v s refl h))
 
   pub flies_off : (cpu f : ℕ) (scan : Scan) (until : ℕ) (s : State) → ScansNow trace cpu f scan s → length (flusher_of f s).batch ≢ 0 → Goes s (fly cpu f scan.inode (length (flusher_of f s).batch) until s)
   flies_off cpu f scan until s now some h =

@@ -20,7 +20,8 @@ use Rattle.wbt_journal.specs.Flights.{scanning, emptied}
 use Rattle.wbt_journal.specs.Machine.{batch_of, domains}
 use Rattle.wbt_journal.specs.declared.entry.Entry.TheVariants as entry
 use Rattle.wbt_rules.specs.Flusher.{IsWithinChunk, chunk_at}
-use Rattle.wbt_rules.specs.Things.{context_of, device_of, end_of, group_of, flusher_device, max_share}
+use Rattle.wbt_rules.specs.Things.{context_of, device_of, group_of, flusher_device, max_share}
+use Rattle.wbt_rules.specs.Places.{page_of}
 use Rattle.wbt_rules.specs.declared.scan.Scan.{Scan}
 use Rattle.wbt_rules.proofs.Quotas.{within_less}
 use Rattle.wbt_task.specs.declared.allowance.Due.{Due}
@@ -32,10 +33,10 @@ use Rattle.wbt_replay_moves.specs.Definition.Estimates.{estimate, estimate_to, s
 use Rattle.wbt_replay_moves.specs.Definition.Flight.{complete_by, complete_in, complete_first, complete_page, part_in, share_now, share, share_group, with_written, landed, land_by, land_in}
 use Rattle.wbt_replay_moves.specs.Definition.Idle.{finish, begin_idle, begin_test, domain_loads, measure, measures_of, weighs_of, rest_until, take, take_or_finish, take_or_rest, tested, test_by, with_hard, scan_of, unmark_by, unmark_in, take_now, with_pairs, take_last, told_by, tell, waits, note, noticed, age, tested_by}
 use Rattle.wbt_replay_moves.specs.Definition.Perform.{make_step, make_move, begin_phase, begin_for, begin_turn}
-use Rattle.wbt_replay_moves.specs.Definition.Scan.{look_by, look_in, looked_at, claim_by, claim_in, claim_now, close_by, close_in, close_items, is_over, fly, land_empty, hand_over_by, hand_over_in}
+use Rattle.wbt_replay_moves.specs.Definition.Scan.{look_by, look_in, looked_at, claim_by, claim_in, claim_now, close_by, close_in, close_items, is_over, places_after, keep_place, fly, land_empty, hand_over_by, hand_over_in}
 use Rattle.wbt_replay_moves.specs.Definition.State.{State, no_cpu, no_flusher, cpu_of, with_cpu, task_of, with_task, flusher_of, with_flusher, domain_of, writeback_of, queue_of, with_queue, queued, count_of, plain_step, in_phase, is_drained, no_waiting, waiting_of, with_waiting}
 use Rattle.wbt_replay_moves.specs.Definition.Weigh.{is_over_by_itself, over_noted, weigh, weighed_by}
-use Rattle.wbt_replay_moves.specs.Definition.Writer.{begin_work, begin_due, check_items, marked, without_page, dirty_by, dirty_next, dirty_fresh, mark, end_by, end_now, has_nothing}
+use Rattle.wbt_replay_moves.specs.Definition.Writer.{pause_in, begin_page, begin_work, begin_due, check_items, marked, passed_page, dirty_by, dirty_next, dirty_fresh, mark, end_by, end_now, has_nothing}
 use Rattle.wbt_replay_moves.specs.declared.state.Cpu.{Cpu}
 use Rattle.wbt_replay_moves.specs.declared.state.Flusher.{Flusher}
 use Rattle.wbt_replay_moves.specs.declared.state.ReplayPhase.{ReplayPhase}
@@ -56,11 +57,12 @@ use Rattle.wbt_replay_moves.specs.declared.todo.Todo.{Todo}
 use Rattle.wbt_replay_moves.specs.declared.todo.Todo.TheVariants as todo
 use Rattle.wbt_replay_order.specs.Kept.Facts.{Facts, IsPageOf, IsFlusherOn, IsTaskOn}
 use Rattle.wbt_replay_order.specs.Kept.Sound.{Sound, IsAt, IsScanAt, IsQuotaOf, IsTurn, IsWhose, WorkFits, AreQueued, AreQueues}
-use Rattle.wbt_replay_order.specs.Kept.Turns.{Agrees, IsCounter, IsIdle, IsOpenAt, ItemFits, WritesNext}
+use Rattle.wbt_replay_order.specs.Kept.Turns.{Agrees, IsCounter, IsIdle, ItemFits, WritesNext}
 use Rattle.wbt_replay_order.specs.Kept.Waiting.{is_end}
 use Rattle.wbt_replay_points.proofs.Claims.Checks.{some_context}
 use Rattle.wbt_replay_order.proofs.Growth.Quiet.{same_at}
 use Rattle.wbt_replay_order.proofs.Facts.Lists.{either}
+use Rattle.wbt_replay_order.proofs.Facts.Scans.{scan_page}
 use Rattle.wbt_replay_order.proofs.Written.Same.{pages_of}
 use Rattle.wbt_replay_points.proofs.Lawful.Now.{Takes, HasMore, WritesNow, DecidesNow, EndsNow, ScansNow, CompletesNow, EstimatesNow, entry_of, ListsNow, Starts}
 use Rattle.wbt_replay_points.proofs.Lawful.Ranges.{check_in_range, early}
@@ -78,11 +80,11 @@ module _ (trace : Trace) (facts : Facts trace) (R : State → State → Type 0) 
     (folds : (cpu : ℕ) (x : Counter) (s : State) → cpu < length s.cpus → IsCounter trace x → R s (fold cpu x s))
     (known : (cpu task inode page pages : ℕ) (works : List ReplayWork) (c : Cpu) (s : State) → Takes trace cpu task (todo.Step step.Dirty) c s
     → WritesNow trace cpu task inode page pages works (with_cpu cpu c s)
-    → R s (plain_step cpu kind.Dirty (log_at cpu (entry.Write task page false) (with_task task (record (task_of task s) { works = without_page inode page pages works }) (with_cpu cpu c s)))))
+    → R s (plain_step cpu kind.Dirty (log_at cpu (entry.Write task page false) (with_task task (passed_page inode page pages works (task_of task s)) (with_cpu cpu c s)))))
     (fresh : (cpu task inode page pages : ℕ) (works : List ReplayWork) (c : Cpu) (s : State) → Takes trace cpu task (todo.Step step.Dirty) c s
     → WritesNow trace cpu task inode page pages works (with_cpu cpu c s)
-    → R s (dirty_fresh trace cpu task inode page (with_task task (record (task_of task s) { works = without_page inode page pages works }) (with_cpu cpu c s))))
-    (claims : (cpu f : ℕ) (scan : Scan) (s : State) → ScansNow trace cpu f scan s → IsPageOf trace scan.inode scan.page → R s (claim_now cpu f scan s))
+    → R s (dirty_fresh trace cpu task inode page (with_task task (passed_page inode page pages works (task_of task s)) (with_cpu cpu c s))))
+    (claims : (cpu f : ℕ) (scan : Scan) (s : State) → ScansNow trace cpu f scan s → IsPageOf trace scan.inode (page_of scan) → R s (claim_now cpu f scan s))
     (flies : (cpu f : ℕ) (scan : Scan) (until : ℕ) (s : State) → ScansNow trace cpu f scan s → length (flusher_of f s).batch ≢ 0
     → R s (fly cpu f scan.inode (length (flusher_of f s).batch) until s))
     (completes : (cpu f inode page : ℕ) (pages : List ℕ) (s : State) → CompletesNow trace cpu f inode page pages s
@@ -383,14 +385,14 @@ module _ (trace : Trace) (facts : Facts trace) (R : State → State → Type 0) 
 
   see_looked : (cpu f : ℕ) (scan : Scan) (bits : Bits) (s : State) → (flusher_of f s).phase ≡ phase.Scanning scan → R s (looked_at cpu f scan bits s)
   see_looked cpu f scan bits s at =
-      either (R s) (is_claimable bits) _ _ (λ can. do_quietly cpu (todo.Step (step.Claim (shared_word s.book scan.page)) ∷ []) s (refl, tt))
+      either (R s) (is_claimable bits) _ _ (λ can. do_quietly cpu (todo.Step (step.Claim (shared_word s.book (page_of scan))) ∷ []) s (refl, tt))
       (λ no.
-      let p : ReplayPhase = phase.Scanning (record scan { page = scan.page + 1; noted = scan.noted || (bits.dirty && bits.writeback) }) in
+      let p : ReplayPhase = phase.Scanning (record scan { passed = scan.passed + 1; noted = scan.noted || (bits.dirty && bits.writeback) }) in
       let u = in_phase f p s in
       thens s u (then_do cpu (todo.Silent silent.Close ∷ []) u) (phased f p s (sym (ap (phase_at (flusher_of f s).batch) at))) (do_quietly cpu (todo.Silent silent.Close ∷ []) u (refl, tt)))
 
   see_look : (cpu f : ℕ) (p : ReplayPhase) (s : State) → (flusher_of f s).phase ≡ p → R s (look_in cpu f p s)
-  see_look cpu f (phase.Scanning scan) s at = plainly kind.Look cpu s (looked_at cpu f scan (s.book scan.page) s) (see_looked cpu f scan (s.book scan.page) s at)
+  see_look cpu f (phase.Scanning scan) s at = plainly kind.Look cpu s (looked_at cpu f scan (s.book (page_of scan)) s) (see_looked cpu f scan (s.book (page_of scan)) s at)
   see_look cpu f (phase.Idle until kept) s at = none s
   see_look cpu f (phase.Taken inode) s at = none s
   see_look cpu f (phase.Flying inode pages until) s at = none s
@@ -401,16 +403,16 @@ module _ (trace : Trace) (facts : Facts trace) (R : State → State → Type 0) 
   batch_within f scan batch its quota = within_less (chunk_at trace f) (length batch) scan.quota its.few quota
 
   see_claim : (cpu f word : ℕ) (p : ReplayPhase) (s : State) → cpu < length s.cpus → IsFlusherOn trace cpu f → f < length s.flushers → (flusher_of f s).phase ≡ p → IsAt trace (flusher_of f s).batch p
-      → IsQuotaOf trace f p → IsOpenAt trace (flusher_of f s).batch p → R s (claim_in cpu f word p s)
-  see_claim cpu f word (phase.Scanning scan) s there on known at its quota is_open =
-      plainly kind.Claim cpu s (cond (eqb (shared_word s.book scan.page) word) (claim_now cpu f scan s) s)
-      (either (R s) (eqb (shared_word s.book scan.page) word) (claim_now cpu f scan s) s
+      → IsQuotaOf trace f p → R s (claim_in cpu f word p s)
+  see_claim cpu f word (phase.Scanning scan) s there on known at its quota =
+      plainly kind.Claim cpu s (cond (eqb (shared_word s.book (page_of scan)) word) (claim_now cpu f scan s) s)
+      (either (R s) (eqb (shared_word s.book (page_of scan)) word) (claim_now cpu f scan s) s
       (λ same. claims cpu f scan s (record { there = there; on = on; known = known; at = at; within = batch_within f scan (flusher_of f s).batch its quota })
-      (record { there = its.there; after_first = omega (arith, its.behind); before_end = is_open.0 })) (λ other. none s))
-  see_claim cpu f word (phase.Taken inode) s there on known at its quota is_open = none s
-  see_claim cpu f word (phase.Idle until kept) s there on known at its quota is_open = none s
-  see_claim cpu f word (phase.Flying inode pages until) s there on known at its quota is_open = none s
-  see_claim cpu f word phase.Finished s there on known at its quota is_open = none s
+      (scan_page trace scan its.there its.first_is its.pages_is its.start)) (λ other. none s))
+  see_claim cpu f word (phase.Taken inode) s there on known at its quota = none s
+  see_claim cpu f word (phase.Idle until kept) s there on known at its quota = none s
+  see_claim cpu f word (phase.Flying inode pages until) s there on known at its quota = none s
+  see_claim cpu f word phase.Finished s there on known at its quota = none s
 
   close_untold : (inode : ℕ) (again : Bool) → AreUntold (close_items inode again)
   close_untold inode true = (refl, (refl, tt))
@@ -418,7 +420,10 @@ module _ (trace : Trace) (facts : Facts trace) (R : State → State → Type 0) 
 
   see_close : (cpu f : ℕ) (p : ReplayPhase) (s : State) → R s (close_in trace cpu f p s)
   see_close cpu f (phase.Scanning scan) s =
-      either (R s) (is_over trace scan (length (flusher_of f s).batch)) _ s (λ over. do_quietly cpu _ s (close_untold scan.inode (scan.noted || ltb scan.page (end_of trace scan.inode)))) (λ more. none s)
+      let v : Flusher = record (flusher_of f s) { places = places_after trace f scan (flusher_of f s).places } in
+      let u : State = keep_place trace f scan s in
+      either (R s) (is_over scan (length (flusher_of f s).batch)) _ s
+      (λ over. thens s u _ (hide s u (hide_flusher f v s refl refl refl)) (do_quietly cpu _ u (close_untold scan.inode (scan.noted || ltb scan.passed scan.pages)))) (λ more. none s)
   see_close cpu f (phase.Taken inode) s = none s
   see_close cpu f (phase.Idle until kept) s = none s
   see_close cpu f (phase.Flying inode pages until) s = none s
@@ -509,6 +514,13 @@ module _ (trace : Trace) (facts : Facts trace) (R : State → State → Type 0) 
 
   -- ---- the beginning of a turn
 
+  see_page : (cpu task : ℕ) (pause : Option ℕ) (s : State) → R s (begin_page cpu task pause s)
+  see_page cpu task None s = pushes cpu (todo.Step step.Dirty ∷ todo.Silent silent.End ∷ []) s (λ more h. (λ told. refl, (λ told. absurd (cc told), h)))
+  see_page cpu task (Some ticks) s =
+      let t : ReplayTask = record (task_of task s) { since = 0; rest = s.now + ticks } in
+      let u = with_task task t s in
+      thens s u (then_do cpu (todo.Silent silent.End ∷ []) u) (hide s u (hide_task task t s refl)) (do_quietly cpu (todo.Silent silent.End ∷ []) u (refl, tt))
+
   see_work : (cpu task : ℕ) (works : List ReplayWork) (s : State) → (task_of task s).works ≡ works → R s (begin_work cpu task works s)
   see_work cpu task [] s is = do_quietly cpu (todo.Silent silent.End ∷ []) s (refl, tt)
   see_work cpu task (work.Rest ticks ∷ works) s is =
@@ -517,7 +529,7 @@ module _ (trace : Trace) (facts : Facts trace) (R : State → State → Type 0) 
       thens s u (then_do cpu (todo.Silent silent.End ∷ []) u)
       (hide s u (hide_task task t s (sym (ap (λ (ws : List ReplayWork). (flat_map pages_of ws, (task_of task s).writers, (task_of task s).context, (task_of task s).ended)) is))))
       (do_quietly cpu (todo.Silent silent.End ∷ []) u (refl, tt))
-  see_work cpu task (work.Write inode page pages ∷ works) s is = pushes cpu (todo.Step step.Dirty ∷ todo.Silent silent.End ∷ []) s (λ more h. (λ told. refl, (λ told. absurd (cc told), h)))
+  see_work cpu task (work.Write inode page pages ∷ works) s is = see_page cpu task (pause_in (task_of task s)) s
 
   check_later : (context group : ℕ) (more : List Todo) → EndsLater more → EndsLater (check_items context group ++ more)
   check_later context zero more h =
@@ -633,7 +645,7 @@ module _ (trace : Trace) (facts : Facts trace) (R : State → State → Type 0) 
       look_by_whose (whose.Task task) = none u
 
       claim_by_whose : (word : ℕ) (w : Whose) → IsWhose trace i w → Agrees trace s0.tasks s0.flushers w (todo.Step (step.Claim word)) → R u (claim_by i word w u)
-      claim_by_whose word (whose.Flusher f) on agree = see_claim i f word (flusher_of f s0).phase u here on (manned f on) refl (at_of f) (quota_at f) agree.1
+      claim_by_whose word (whose.Flusher f) on agree = see_claim i f word (flusher_of f s0).phase u here on (manned f on) refl (at_of f) (quota_at f)
       claim_by_whose word (whose.Task task) on agree = absurd agree
 
       complete_by_whose : (w : Whose) → IsWhose trace i w → R u (complete_by trace i w u)

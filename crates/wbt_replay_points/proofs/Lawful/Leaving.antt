@@ -14,7 +14,7 @@ use Rattle.wbt_replay_moves.specs.Definition.Cpu.{do_next, log_at, owed_to}
 use Rattle.wbt_replay_moves.specs.Definition.Perform.{make_timer_step, make_timer_move}
 use Rattle.wbt_replay_moves.specs.Definition.State.{State, cpu_of, with_cpu, task_of, with_task, domain_of, plain_step, with_event}
 use Rattle.wbt_replay_moves.specs.Definition.Timer.{with_timer, load, period_to, periods, is_time}
-use Rattle.wbt_replay_moves.specs.Definition.Writer.{without_page, count_page, dirty_fresh}
+use Rattle.wbt_replay_moves.specs.Definition.Writer.{passed_page, count_page, dirty_fresh}
 use Rattle.wbt_replay_moves.specs.declared.state.Actor.{Actor}
 use Rattle.wbt_replay_moves.specs.declared.state.Cpu.{Cpu}
 use Rattle.wbt_replay_moves.specs.declared.state.Domain.{Domain}
@@ -41,12 +41,12 @@ use Rattle.wbt_replay_points.proofs.Lawful.Walk.{turned}
 -- a law goes over the write of a page that was dirty
 abbrev pub KnownWrites : (trace : Trace) (R : State → State → Type 0) → Type 0
 KnownWrites trace R = (cpu task inode page pages : ℕ) (works : List ReplayWork) (s : State) → WritesNow trace cpu task inode page pages works s
-    → R s (plain_step cpu kind.Dirty (log_at cpu (entry.Write task page false) (with_task task (record (task_of task s) { works = without_page inode page pages works }) s)))
+    → R s (plain_step cpu kind.Dirty (log_at cpu (entry.Write task page false) (with_task task (passed_page inode page pages works (task_of task s)) s)))
 
 -- and over that of a page that was not
 abbrev pub FreshWrites : (trace : Trace) (R : State → State → Type 0) → Type 0
 FreshWrites trace R = (cpu task inode page pages : ℕ) (works : List ReplayWork) (s : State) → WritesNow trace cpu task inode page pages works s
-    → R s (dirty_fresh trace cpu task inode page (with_task task (record (task_of task s) { works = without_page inode page pages works }) s))
+    → R s (dirty_fresh trace cpu task inode page (with_task task (passed_page inode page pages works (task_of task s)) s))
 
 -- what is said of CPUs, flushers and contexts alone
 abbrev pub alone :
@@ -66,12 +66,12 @@ module _ (trace : Trace) (P : List Cpu → List Flusher → List Domain → List
       (wrote : (cpu task page : ℕ) (is_fresh : Bool) (s : State) → cpu < length s.cpus → IsTaskOn trace cpu task → Goes s (log_at cpu (entry.Write task page is_fresh) s)) where
     pub over_known : KnownWrites trace Goes
     over_known cpu task inode page pages works s now =
-        wrote cpu task page false (with_task task (record (task_of task s) { works = without_page inode page pages works }) s) now.there now.on
+        wrote cpu task page false (with_task task (passed_page inode page pages works (task_of task s)) s) now.there now.on
 
     pub over_fresh : FreshWrites trace Goes
     over_fresh cpu task inode page pages works s now h =
         let context : ℕ = context_of trace inode in
-        let s1 : State = with_task task (record (task_of task s) { works = without_page inode page pages works }) s in
+        let s1 : State = with_task task (passed_page inode page pages works (task_of task s)) s in
         let c : Cpu = counted_cpu cpu task context s1 in
         let u : State = count_page cpu task context (with_event (event.Dirty page) page s1) in
         let v : State = log_at cpu (entry.Write task page true) u in

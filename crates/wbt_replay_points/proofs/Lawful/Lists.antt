@@ -12,6 +12,7 @@ use Rattle.wbt_expiry.specs.Waiting.{Waiting as Wheel}
 use Rattle.wbt_expiry.specs.declared.due.Due.{Due}
 use Rattle.wbt_rules.specs.Age.{is_ageing}
 use Rattle.wbt_rules.specs.Things.{context_of, flusher_cpu, flusher_device}
+use Rattle.wbt_rules.specs.Places.{page_of}
 use Rattle.wbt_rules.specs.declared.scan.Scan.{Scan}
 use Rattle.wbt_trace.specs.declared.trace.Trace.{Trace}
 use Rattle.wbt_journal.specs.Each.{Each}
@@ -226,11 +227,11 @@ module _ (trace : Trace) (facts : Facts trace) where
   freshes : FreshWrites trace Goes
   freshes = over_fresh trace (alone part) quietly wrote
 
-  claims : (cpu f : ℕ) (scan : Scan) (s : State) → ScansNow trace cpu f scan s → IsPageOf trace scan.inode scan.page → Goes s (claim_now cpu f scan s)
+  claims : (cpu f : ℕ) (scan : Scan) (s : State) → ScansNow trace cpu f scan s → IsPageOf trace scan.inode (page_of scan) → Goes s (claim_now cpu f scan s)
   claims cpu f scan s now page h =
-      let v : Flusher = record (flusher_of f s) { phase = phase.Scanning (record scan { page = scan.page + 1 }); batch = (flusher_of f s).batch ++ scan.page ∷ [] } in
+      let v : Flusher = record (flusher_of f s) { phase = phase.Scanning (record scan { passed = scan.passed + 1 }); batch = (flusher_of f s).batch ++ page_of scan ∷ [] } in
       let u : State = with_flusher f v s in
-      quietly cpu _ (log_at cpu (entry.Claimed f scan.page) u) refl (logs cpu (entry.Claimed f scan.page) (claimed_told f scan.page) u now.there refl refl refl (flusher_with f v s refl h))
+      quietly cpu _ (log_at cpu (entry.Claimed f (page_of scan)) u) refl (logs cpu (entry.Claimed f (page_of scan)) (claimed_told f (page_of scan)) u now.there refl refl refl (flusher_with f v s refl h))
 
   flies_off : (cpu f : ℕ) (scan : Scan) (until : ℕ) (s : State) → ScansNow trace cpu f scan s → length (flusher_of f s).batch ≢ 0 → Goes s (fly cpu f scan.inode (length (flusher_of f s).batch) until s)
   flies_off cpu f scan until s now some h =

@@ -8,6 +8,7 @@ use Rattle.wbt_counter.specs.declared.counter.Counter.{Counter}
 use Rattle.wbt_counter.specs.declared.counter.Counter.TheVariants.{Domain as ofDomain, Context as ofContext}
 use Rattle.wbt_estimate.specs.declared.estimate.Estimate.{Estimate}
 use Rattle.wbt_rules.specs.Things.{context_of, group_of, flusher_cpu}
+use Rattle.wbt_rules.specs.Places.{page_of}
 use Rattle.wbt_rules.specs.declared.scan.Scan.{Scan}
 use Rattle.wbt_trace.specs.declared.trace.Trace.{Trace}
 use Rattle.wbt_journal.specs.Checks.{has_page}
@@ -128,18 +129,18 @@ module _ (trace : Trace) (facts : Facts trace) (pages_there : (inode page : ℕ)
       h
 
   -- the batch gets the page that was claimed
-  claims : (cpu f : ℕ) (scan : Scan) (s : State) → ScansNow trace cpu f scan s → IsPageOf trace scan.inode scan.page → Goes s (claim_now cpu f scan s)
+  claims : (cpu f : ℕ) (scan : Scan) (s : State) → ScansNow trace cpu f scan s → IsPageOf trace scan.inode (page_of scan) → Goes s (claim_now cpu f scan s)
   claims cpu f scan s now page h =
       let batch : List ℕ = (flusher_of f s).batch in
-      let v : Flusher = record (flusher_of f s) { phase = phase.Scanning (record scan { page = scan.page + 1 }); batch = batch ++ scan.page ∷ [] } in
-      let e : Entry = entry.Claimed f scan.page in
+      let v : Flusher = record (flusher_of f s) { phase = phase.Scanning (record scan { passed = scan.passed + 1 }); batch = batch ++ page_of scan ∷ [] } in
+      let e : Entry = entry.Claimed f (page_of scan) in
       let old : told_phase (flusher_of f s) ≡ scanning batch = ap (phase_at batch) now.at in
-      let w : State = log_at cpu e (with_flusher f v (with_event (event.Claim scan.page) scan.page s)) in
+      let w : State = log_at cpu e (with_flusher f v (with_event (event.Claim (page_of scan)) (page_of scan) s)) in
       quietly cpu _ w refl
-      (flight cpu f v e (claimed_told f scan.page) (takes scan.page) s now.there now.on refl refl
-      ((record { write = tt; fold = tt; check = tt; flight = record { own = own_flusher trace cpu f now.on; page = pages_there scan.inode scan.page page; chunk = tt }; share = tt; estimate = tt; wait = tt }, (refl, refl)), tt)
-      (λ g a b other_old other_new may is own apart. one_flight f g (takes scan.page) (claimed_told f scan.page) a b refl may is other_old other_new own apart)
-      (subst (MayMove (takes scan.page)) (sym old) tt) (sym (ap (λ (p : ToldPhase). moved (takes scan.page) (unfailed p)) old)) now.known h)
+      (flight cpu f v e (claimed_told f (page_of scan)) (takes (page_of scan)) s now.there now.on refl refl
+      ((record { write = tt; fold = tt; check = tt; flight = record { own = own_flusher trace cpu f now.on; page = pages_there scan.inode (page_of scan) page; chunk = tt }; share = tt; estimate = tt; wait = tt }, (refl, refl)), tt)
+      (λ g a b other_old other_new may is own apart. one_flight f g (takes (page_of scan)) (claimed_told f (page_of scan)) a b refl may is other_old other_new own apart)
+      (subst (MayMove (takes (page_of scan))) (sym old) tt) (sym (ap (λ (p : ToldPhase). moved (takes (page_of scan)) (unfailed p)) old)) now.known h)
 
   flies_off : (cpu f : ℕ) (scan : Scan) (until : ℕ) (s : State) → ScansNow trace cpu f scan s → length (flusher_of f s).batch ≢ 0 → Goes s (fly cpu f scan.inode (length (flusher_of f s).batch) until s)
   flies_off cpu f scan until s now some h =

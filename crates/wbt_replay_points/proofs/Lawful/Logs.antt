@@ -44,7 +44,7 @@ own_flusher trace cpu f on =
 
 pub own_task : (trace : Trace) (cpu task : ℕ) → IsTaskOn trace cpu task → is_own_task trace cpu task ≡ true
 own_task trace cpu task on =
-    ap (λ (o : Option TaskLine). is_on cpu (cpu_of_task o)) (slice_get-get_or trace.tasks task (record { cpu = 0 }) on.there)
+    ap (λ (o : Option TaskLine). is_on cpu (cpu_of_task o)) (slice_get-get_or trace.tasks task (record { cpu = 0; pace = None }) on.there)
     ∙ eq-eqb (tasks.task_cpu trace task) cpu on.cpu_is
 
 -- ---- what a part tells with one entry more

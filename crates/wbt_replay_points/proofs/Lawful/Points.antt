@@ -57,7 +57,7 @@ flusher_on trace cpu f own = ⊎_elim
     (λ past. absurd (true≢false (sym own ∙ ap (is_on cpu) (cond-false (ltb f (length trace.flushers)) (Some (flusher_cpu trace f)) None (le-ltb f (length trace.flushers) past)))))
     (cases_lt f (length trace.flushers))
 
-task_on_line : (cpu task : ℕ) (lines : List TaskLine) → is_on cpu (cpu_of_task (slice_get lines task)) ≡ true → (task < length lines) × ((get_or lines task (record { cpu = 0 })).cpu ≡ cpu)
+task_on_line : (cpu task : ℕ) (lines : List TaskLine) → is_on cpu (cpu_of_task (slice_get lines task)) ≡ true → (task < length lines) × ((get_or lines task (record { cpu = 0; pace = None })).cpu ≡ cpu)
 task_on_line cpu task [] own = absurd (true≢false (sym own))
 task_on_line cpu zero (line ∷ lines) own = (omega arith, eqb-true line.cpu cpu own)
 task_on_line cpu (suc task) (line ∷ lines) own = let rest = task_on_line cpu task lines own in (omega (arith, rest.0), rest.1)

@@ -12,6 +12,7 @@ use Rattle.wbt_estimate.specs.declared.estimate.Estimate.{Estimate}
 use Rattle.wbt_flex.specs.Proportions.{after_period, aged, added, may_age, fraction_of}
 use Rattle.wbt_flex.specs.declared.half.Half.{Half}
 use Rattle.wbt_rules.specs.Things.{context_of, group_of}
+use Rattle.wbt_rules.specs.Places.{page_of}
 use Rattle.wbt_rules.specs.declared.scan.Scan.{Scan}
 use Rattle.wbt_trace.specs.declared.trace.Trace.{Trace}
 use Rattle.wbt_journal.specs.Counts.{reads_of, cgroup_reads}
@@ -163,10 +164,10 @@ module _ (trace : Trace) (facts : Facts trace) where
   freshes : FreshWrites trace Goes
   freshes = over_fresh trace part quietly wrote
 
-  claims : (cpu f : ℕ) (scan : Scan) (s : State) → ScansNow trace cpu f scan s → IsPageOf trace scan.inode scan.page → Goes s (claim_now cpu f scan s)
+  claims : (cpu f : ℕ) (scan : Scan) (s : State) → ScansNow trace cpu f scan s → IsPageOf trace scan.inode (page_of scan) → Goes s (claim_now cpu f scan s)
   claims cpu f scan s now page h =
-      let w : State = log_at cpu (entry.Claimed f scan.page) s in
-      quietly cpu (do_next (todo.Silent silent.Close ∷ []) (cpu_of cpu w)) w refl (logs cpu (entry.Claimed f scan.page) (claimed_told f scan.page) s now.there refl refl refl h)
+      let w : State = log_at cpu (entry.Claimed f (page_of scan)) s in
+      quietly cpu (do_next (todo.Silent silent.Close ∷ []) (cpu_of cpu w)) w refl (logs cpu (entry.Claimed f (page_of scan)) (claimed_told f (page_of scan)) s now.there refl refl refl h)
 
   flies_off : (cpu f : ℕ) (scan : Scan) (until : ℕ) (s : State) → ScansNow trace cpu f scan s → length (flusher_of f s).batch ≢ 0 → Goes s (fly cpu f scan.inode (length (flusher_of f s).batch) until s)
   flies_off cpu f scan until s now some = logs cpu (entry.Batch f (length (flusher_of f s).batch) s.now until) (batch_told f (length (flusher_of f s).batch) s.now until) s now.there refl refl refl

@@ -1,5 +1,5 @@
 -- A task begins a turn.
-use Rattle.std.proofs.Common.{◌≡◌, ℕ, zero, suc, ◌+◌, ◌<◌, ◌≤◌, true, false, List, [], ◌∷◌, ◌++◌, length, refl, sym, ◌∙◌, ap, subst, arith}
+use Rattle.std.proofs.Common.{◌≡◌, ℕ, zero, suc, ◌+◌, ◌<◌, ◌≤◌, true, false, List, [], ◌∷◌, ◌++◌, length, Option, None, Some, refl, sym, ◌∙◌, ap, subst, arith}
 use Rattle.std.specs.List.{sum_by}
 use Rattle.std.proofs.Math.ListN.{set}
 use Rattle.std.proofs.lemmas.List.Sums.{sum_by-cons}
@@ -12,7 +12,7 @@ use Rattle.wbt_replay_moves.specs.Definition.Check.{writer_of}
 use Rattle.wbt_replay_moves.specs.Definition.Cpu.{then_do}
 use Rattle.wbt_replay_moves.specs.Definition.State.{State, cpu_of, task_of}
 use Rattle.wbt_rules.specs.Things.{group_of}
-use Rattle.wbt_replay_moves.specs.Definition.Writer.{check_items, begin_rest, begin_write, begin_work, begin_due, begin_task}
+use Rattle.wbt_replay_moves.specs.Definition.Writer.{check_items, begin_rest, begin_write, begin_pause, begin_page, pause_in, begin_work, begin_due, begin_task}
 use Rattle.wbt_replay_moves.specs.declared.state.ReplayTask.{ReplayTask}
 use Rattle.wbt_replay_moves.specs.declared.state.Whose.{Whose}
 use Rattle.wbt_replay_moves.specs.declared.state.Whose.TheVariants as whose
@@ -23,13 +23,14 @@ use Rattle.wbt_replay_moves.specs.declared.todo.Step.TheVariants as step
 use Rattle.wbt_replay_moves.specs.declared.todo.Todo.{Todo}
 use Rattle.wbt_replay_moves.specs.declared.todo.Todo.TheVariants as todo
 use Rattle.wbt_replay_order.specs.Kept.Facts.{Facts, IsTaskOn}
-use Rattle.wbt_replay_order.specs.Kept.Horizon.{credit_in, rest_of, rests_of}
+use Rattle.wbt_replay_order.specs.Kept.Horizon.{credit_in, rest_of}
 use Rattle.wbt_replay_order.specs.Kept.Sound.{WorkFits, rests_at_end}
 use Rattle.wbt_replay_order.specs.Kept.Turns.{ItemFits, Agrees, TaskAgrees, WritesNext, floor_of, rank_of, is_settling}
 use Rattle.wbt_replay_ranges.proofs.Sound.Checks.{due_there}
 use Rattle.wbt_replay_ranges.proofs.Sound.Flights.{group_inside, global_inside}
 use Rattle.wbt_replay_ranges.proofs.Sound.FlusherTurn.{turn_task}
 use Rattle.wbt_replay_ranges.proofs.Sound.Going.{Going}
+use Rattle.wbt_replay_order.proofs.Facts.Paces.{none_since, pause_paid}
 use Rattle.wbt_replay_order.proofs.Lists.Numbered.{all_rest}
 use Rattle.wbt_replay_ranges.proofs.Sound.Own.{Fits, Free, Done, push, fits_less, do_done}
 
@@ -60,9 +61,9 @@ module _ (trace : Trace) (facts : Facts trace) (i : ℕ) (less : i < trace.cpus)
   end_begins : Done trace i (then_do i (todo.Silent silent.End ∷ []) s)
   end_begins = items_done (todo.Silent silent.End ∷ []) 2 ends refl
 
-  write_begins : WritesNext (task_of k s).works → (writer_of (task_of k s)).due ≡ due.No → Done trace i (begin_write i s)
-  write_begins next none = items_done (todo.Step step.Dirty ∷ todo.Silent silent.End ∷ []) 1
-      (put 2 1 (todo.Step step.Dirty) (todo.Silent silent.End ∷ (cpu_of i s).todo) ends tt (next, none) refl (omega arith) (omega arith) (omega arith)) refl
+  write_begins : WritesNext (task_of k s).works → (writer_of (task_of k s)).due ≡ due.No → pause_in (task_of k s) ≡ None → Done trace i (begin_write i s)
+  write_begins next none going_on = items_done (todo.Step step.Dirty ∷ todo.Silent silent.End ∷ []) 1
+      (put 2 1 (todo.Step step.Dirty) (todo.Silent silent.End ∷ (cpu_of i s).todo) ends tt (next, none, going_on) refl (omega arith) (omega arith) (omega arith)) refl
 
   -- the three loads of a domain's limits
   loads_fit : (d : ℕ) (todos : List Todo) → d < domains trace → ItemsFit s 1 todos
@@ -101,10 +102,10 @@ module _ (trace : Trace) (facts : Facts trace) (i : ℕ) (less : i < trace.cpus)
       let h = g.holds.tasks.each k on.there in
       let parts = all_rest (WorkFits trace k) t.works (work.Rest ticks) works is h.works in
       let x : ReplayTask = record t { works = works; rest = s.now + ticks } in
-      let sums : rests_of t ≡ ticks + sum_by rest_of works = ap (sum_by rest_of) is ∙ sum_by-cons rest_of (work.Rest ticks) works in
+      let sums : sum_by rest_of t.works ≡ ticks + sum_by rest_of works = ap (sum_by rest_of) is ∙ sum_by-cons rest_of (work.Rest ticks) works in
       let free2 : Free trace i 2 s = record { whose = free.whose; fits = fits_less trace s.tasks s.flushers (cpu_of i s).turn.whose 2 3 (cpu_of i s).todo (omega arith) free.fits; room = free.room } in
       let m = turn_task trace facts i less k x 0 0 0 0 ticks s on turn g free2
-      (record { works = parts.1; context = h.context; writers = h.writers; fit = h.fit; due = h.due; ended = λ e. let other : true ≡ false = sym e ∙ running in absurd (cc other); last = λ e. last_rest works (sym (ap (rests_at_end false) is) ∙ h.last e) })
+      (record { works = parts.1; context = h.context; writers = h.writers; fit = h.fit; due = h.due; ended = λ e. let other : true ≡ false = sym e ∙ running in absurd (cc other); last = λ e. last_rest works (sym (ap (rests_at_end false) is) ∙ h.last e); pace = h.pace; since = h.since })
       refl (omega arith) (omega arith) (omega arith) (omega (arith, sums)) in
       let y : State = record s { tasks = set s.tasks k x } in
       do_done trace facts i less (todo.Silent silent.End ∷ []) 0 0 2 2 y m.going m.free
@@ -113,10 +114,42 @@ module _ (trace : Trace) (facts : Facts trace) (i : ℕ) (less : i < trace.cpus)
       (subst (λ (w : Whose). Agrees trace y.tasks y.flushers w (todo.Silent silent.End)) (sym turn) (subst (λ (z : ReplayTask). z.ended ≡ false) (sym m.is) running)) refl (omega arith) (omega arith) (omega arith))
       (omega arith) (λ f on' e none. absurd (not_flusher f e))
 
+  -- the task rests before its next page
+  pause_begins : (ticks : ℕ) → pause_in (task_of k s) ≡ Some ticks → Done trace i (begin_pause i k ticks s)
+  pause_begins ticks is =
+      let t : ReplayTask = task_of k s in
+      let h = g.holds.tasks.each k on.there in
+      let x : ReplayTask = record t { since = 0; rest = s.now + ticks } in
+      let paid = pause_paid t.pace t.since ticks h.pace is in
+      let free2 : Free trace i 2 s = record { whose = free.whose; fits = fits_less trace s.tasks s.flushers (cpu_of i s).turn.whose 2 3 (cpu_of i s).todo (omega arith) free.fits; room = free.room } in
+      let m = turn_task trace facts i less k x 0 0 0 0 ticks s on turn g free2
+      (record {
+        works = h.works;
+        context = h.context;
+        writers = h.writers;
+        fit = h.fit;
+        due = h.due;
+        ended = h.ended;
+        last = h.last;
+        pace = h.pace;
+        since = none_since t.pace h.pace;
+      })
+      refl (omega arith) (omega arith) (omega arith) (omega (arith, paid)) in
+      let y : State = record s { tasks = set s.tasks k x } in
+      do_done trace facts i less (todo.Silent silent.End ∷ []) 0 0 2 2 y m.going m.free
+      (push trace y.tasks y.flushers (cpu_of i y).turn.whose 3 2 (todo.Silent silent.End) (cpu_of i y).todo
+      (record { fit = m.free.fits.fit; order = m.free.fits.order; from = free.fits.from; agree = m.free.fits.agree; others = m.free.fits.others }) tt
+      (subst (λ (w : Whose). Agrees trace y.tasks y.flushers w (todo.Silent silent.End)) (sym turn) (subst (λ (z : ReplayTask). z.ended ≡ false) (sym m.is) running)) refl (omega arith) (omega arith) (omega arith))
+      (omega arith) (λ f on' e none. absurd (not_flusher f e))
+
+  page_begins : (pause : Option ℕ) → pause_in (task_of k s) ≡ pause → WritesNext (task_of k s).works → (writer_of (task_of k s)).due ≡ due.No → Done trace i (begin_page i k pause s)
+  page_begins None is next none = write_begins next none is
+  page_begins (Some ticks) is next none = pause_begins ticks is
+
   work_begins : (works : List ReplayWork) → (task_of k s).works ≡ works → (writer_of (task_of k s)).due ≡ due.No → Done trace i (begin_work i k works s)
   work_begins [] e none = end_begins
   work_begins (work.Rest ticks ∷ works) e none = rest_begins ticks works e
-  work_begins (work.Write inode page pages ∷ works) e none = write_begins (subst WritesNext (sym e) tt) none
+  work_begins (work.Write inode page pages ∷ works) e none = page_begins (pause_in (task_of k s)) refl (subst WritesNext (sym e) tt) none
 
   due_begins : (d : Due) → (writer_of (task_of k s)).due ≡ d → Done trace i (begin_due trace i k d s)
   due_begins due.Check e =

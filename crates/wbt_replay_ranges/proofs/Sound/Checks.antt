@@ -85,6 +85,8 @@ module _ (trace : Trace) (facts : Facts trace) (i : ℕ) (less : i < trace.cpus)
           due = set_all (λ j (w : Writer). w.due ≡ due.Check → j ≡ t.context) t.writers t.context (checked_writer d) (new_writer 0) (λ e. refl) h.due;
           ended = h.ended;
           last = h.last;
+          pace = h.pace;
+          since = h.since;
         }
 
     rest_small : (n now pause rest : ℕ) → pause ≤ n → cond (eqb pause 0) rest (now + pause) ≤ max rest (now + n)

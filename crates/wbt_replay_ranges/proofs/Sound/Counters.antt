@@ -22,6 +22,7 @@ use Rattle.wbt_journal.specs.declared.entry.EstEntry.{EstEntry}
 use Rattle.wbt_journal.specs.declared.step.StepEntry.{StepEntry}
 use Rattle.wbt_task.specs.declared.allowance.CpuLocal.{CpuLocal}
 use Rattle.wbt_num.specs.Limits.{IsLawful}
+use Rattle.wbt_trace.specs.declared.ranges.TheConstants.{MOST_COUNT}
 use Rattle.wbt_trace.specs.declared.trace.Trace.{Trace}
 use Rattle.wbt_replay_moves.specs.Definition.Counters.{add, fold, clear, counted, fold_of, word_of, is_whole, held_after, limits_kept, load_first, load_middle, load_limits, count_kept, load_count}
 use Rattle.wbt_journal.specs.Machine.{batch_of}
@@ -91,6 +92,13 @@ with_step x s = record s { steps = s.steps ++ x ∷ [] }
 
 abbrev pub Ready : (trace : Trace) (i : ℕ) (s : State) → Type 0
 Ready trace i s = (x : StepEntry) → Going trace i 1 silent_ticks (with_step x s)
+
+-- a written page may bring the rest for its task's pace, so it may spend more
+abbrev pub write_ticks : ℕ
+write_ticks = silent_ticks + MOST_COUNT
+
+abbrev pub ReadyToWrite : (trace : Trace) (i : ℕ) (s : State) → Type 0
+ReadyToWrite trace i s = (x : StepEntry) → Going trace i 1 write_ticks (with_step x s)
 
 -- ---- own numbers
 

@@ -63,7 +63,7 @@ module _ (trace : Trace) (facts : Facts trace) (i : ℕ) (less : i < trace.cpus)
         let at : IsFlightOf trace (page ∷ rest) inode pages = subst (λ b. IsFlightOf trace b inode pages) batch (subst (IsAt trace (flusher_of f s).batch) is (g.holds.flushers.each f).phase) in
         let flight : IsFlightOf trace rest inode pages = record { there = at.there; rest = omega (arith, at.rest); few = at.few; ours = All-tail (IsPageOf trace inode) page rest at.ours } in
         let m = turn_flusher trace facts i less f y s.working 1 0 silent_ticks silent_ticks 0 (with_step x s) on turn g (free_step trace facts i less s f on turn 2 x free)
-        (record { phase = subst (IsAt trace rest) (sym is) flight; quota = (g.holds.flushers.each f).quota; hard = (g.holds.flushers.each f).hard; measures = (g.holds.flushers.each f).measures; weighs = (g.holds.flushers.each f).weighs; wheel = (g.holds.flushers.each f).wheel })
+        (record { phase = subst (IsAt trace rest) (sym is) flight; quota = (g.holds.flushers.each f).quota; hard = (g.holds.flushers.each f).hard; measures = (g.holds.flushers.each f).measures; weighs = (g.holds.flushers.each f).weighs; wheel = (g.holds.flushers.each f).wheel; places = (g.holds.flushers.each f).places })
         (flown_one page rest batch at.rest) (omega arith) (omega arith) (omega arith) refl in
         let z : State = record (with_step x s) { flushers = set s.flushers f y; working = s.working } in
         let book : Book = put s.book page (bits_after (event.Complete page) (s.book page)) in
@@ -210,7 +210,7 @@ module _ (trace : Trace) (facts : Facts trace) (i : ℕ) (less : i < trace.cpus)
         let y : Flusher = record (flusher_of f s) { phase = phase.Idle 0 false } in
         let works' : s.working + one_if (works (flusher_of f s)) ≡ s.working + one_if (works y) = ap (λ (p : ReplayPhase). s.working + one_if (not (is_finished p))) is in
         let m = turn_flusher trace facts i less f y s.working 0 0 silent_ticks 0 0 s on turn g free
-        (record { phase = none; quota = tt; hard = (g.holds.flushers.each f).hard; measures = (g.holds.flushers.each f).measures; weighs = (g.holds.flushers.each f).weighs; wheel = (g.holds.flushers.each f).wheel })
+        (record { phase = none; quota = tt; hard = (g.holds.flushers.each f).hard; measures = (g.holds.flushers.each f).measures; weighs = (g.holds.flushers.each f).weighs; wheel = (g.holds.flushers.each f).wheel; places = (g.holds.flushers.each f).places })
         (omega arith) (omega arith) (omega arith) (omega arith) works' in
         let z : State = record s { flushers = set s.flushers f y; working = s.working } in
         let w : Writeback = writeback_of k s in

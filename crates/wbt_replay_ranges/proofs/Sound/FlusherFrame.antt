@@ -1,5 +1,5 @@
 -- What keeps a state in the midst of a move where the flusher whose turn it is changes.
-use Rattle.std.proofs.Common.{◌≡◌, ◌≢◌, ℕ, ◌+◌, ◌^◌, ◌<◌, ◌≤◌, max, length, get_or, All, sym, ◌∙◌, ap, subst, arith}
+use Rattle.std.proofs.Common.{◌≡◌, ◌≢◌, ℕ, ◌+◌, ◌<◌, ◌≤◌, max, length, get_or, All, sym, ◌∙◌, ap, subst, arith}
 use Rattle.std.proofs.Math.ListN.{set}
 use Rattle.std.proofs.lemmas.List.{length-set, get_or-set_same, get_or-set_other}
 use mathlib.Core.Logic.{dite}
@@ -12,7 +12,7 @@ use Rattle.wbt_replay_moves.specs.declared.state.Whose.{Whose}
 use Rattle.wbt_replay_moves.specs.declared.state.Whose.TheVariants as whose
 use Rattle.wbt_replay_moves.specs.declared.todo.Todo.{Todo}
 use Rattle.wbt_replay_order.specs.Kept.Facts.{Facts, IsFlusherOn}
-use Rattle.wbt_replay_order.specs.Kept.Horizon.{reserve, until_of}
+use Rattle.wbt_replay_order.specs.Kept.Horizon.{latest, reserve, until_of}
 use Rattle.wbt_replay_order.specs.Kept.Sound.{IsWhose, IsAgreed, IsFlusher, flown_of}
 use Rattle.wbt_replay_order.specs.Kept.Turns.{Agrees, FlusherAgrees, IsOpen}
 use Rattle.wbt_replay_ranges.proofs.Sound.Going.{Going}
@@ -70,7 +70,7 @@ module _ (trace : Trace) (facts : Facts trace) (i : ℕ) (less : i < trace.cpus)
             clock = omega (arith, h.horizon.clock, ticks);
             timer = omega (arith, h.horizon.timer, ticks);
             rest = λ n. omega (arith, h.horizon.rest n, ticks);
-            until = set_all (λ j (y : Flusher). until_of y.phase + (reserve s + t') ≤ 2 ^ 58) s.flushers k x no_flusher
+            until = set_all (λ j (y : Flusher). until_of y.phase + (reserve s + t') ≤ latest) s.flushers k x no_flusher
                 (omega (arith, h.horizon.clock, h.horizon.until k, ticks, until)) (λ j. omega (arith, h.horizon.until j, ticks));
           };
         };

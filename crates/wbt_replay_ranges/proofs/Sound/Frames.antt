@@ -1,5 +1,5 @@
 -- What keeps a state in the midst of a move: one CPU changes, one task, one flusher.
-use Rattle.std.proofs.Common.{◌≡◌, ◌≢◌, ℕ, ◌+◌, ◌^◌, ◌<◌, ◌≤◌, Bool, cond, max, List, length, get_or, All, sym, ◌∙◌, ap, subst, arith}
+use Rattle.std.proofs.Common.{◌≡◌, ◌≢◌, ℕ, ◌+◌, ◌<◌, ◌≤◌, Bool, cond, max, List, length, get_or, All, sym, ◌∙◌, ap, subst, arith}
 use Rattle.std.proofs.Math.ListN.{set}
 use Rattle.std.specs.List.{count_by}
 use Rattle.std.proofs.lemmas.List.{length-set, get_or-set_same, get_or-set_other}
@@ -14,7 +14,7 @@ use Rattle.wbt_replay_moves.specs.declared.state.Whose.{Whose}
 use Rattle.wbt_replay_moves.specs.declared.state.Whose.TheVariants as whose
 use Rattle.wbt_replay_moves.specs.declared.todo.Todo.{Todo}
 use Rattle.wbt_replay_order.specs.Kept.Facts.{Facts, IsTaskOn}
-use Rattle.wbt_replay_order.specs.Kept.Horizon.{reserve, credit_of, rests_of}
+use Rattle.wbt_replay_order.specs.Kept.Horizon.{latest, reserve, credit_of, rests_of}
 use Rattle.wbt_replay_order.specs.Kept.Sound.{IsClosed, IsRoom, IsTask, IsCpu, IsWhose, IsAgreed, AreDirtied, dirtied_of, leaks_of, is_running, is_at_work, working_on, is_stopped}
 use Rattle.wbt_replay_order.specs.Kept.Turns.{Agrees, TaskAgrees}
 use Rattle.wbt_replay_order.proofs.Facts.Lists.{set_each}
@@ -133,7 +133,7 @@ module _ (trace : Trace) (facts : Facts trace) (i : ℕ) (less : i < trace.cpus)
           horizon = record {
             clock = omega (arith, h.horizon.clock, spent);
             timer = omega (arith, h.horizon.timer, spent);
-            rest = set_all (λ j (y : ReplayTask). y.rest + (reserve (record s { tasks = set s.tasks k x }) + t') ≤ 2 ^ 58) s.tasks k x no_task
+            rest = set_all (λ j (y : ReplayTask). y.rest + (reserve (record s { tasks = set s.tasks k x }) + t') ≤ latest) s.tasks k x no_task
                 (omega (arith, h.horizon.clock, h.horizon.rest k, spent, rest)) (λ j. omega (arith, h.horizon.rest j, spent));
             until = λ f. omega (arith, h.horizon.until f, spent);
           };

@@ -68,6 +68,8 @@ tasks_more trace n m ts more h = record {
     due = x.due;
     ended = x.ended;
     last = x.last;
+    pace = x.pace;
+    since = x.since;
   };
 }
 

@@ -1,5 +1,5 @@
 -- Moves of a flusher that is idle, or that has taken an inode.
-use Rattle.std.proofs.Common.{◌≡◌, ℕ, ◌+◌, ◌-◌, ◌<◌, ◌≤◌, Bool, false, not, List, [], ◌∷◌, length, All, refl, sym, ◌∙◌, ap, subst, arith, ◌++◌, Option, Some, None, unwrap_or}
+use Rattle.std.proofs.Common.{◌≡◌, ℕ, ◌+◌, ◌-◌, ◌<◌, ◌≤◌, Bool, false, not, List, [], ◌∷◌, length, get_or, All, refl, sym, ◌∙◌, ap, subst, arith, ◌++◌, Option, Some, None, unwrap_or}
 use Rattle.std.proofs.Math.ListN.{set}
 use Rattle.std.proofs.lemmas.List.{length-set}
 use Rattle.std.proofs.lemmas.List.Elements.{All-nil}
@@ -7,7 +7,7 @@ use Rattle.wbt_grant.specs.declared.who.StepKind.TheVariants as kind
 use Rattle.wbt_num.specs.declared.limits.TheConstants.{MAX_LIMIT}
 use Rattle.wbt_trace.specs.declared.trace.Device.{Device}
 use Rattle.wbt_trace.specs.declared.trace.Trace.{Trace}
-use Rattle.wbt_replay_moves.specs.Definition.Idle.{finish, rest_until, take, take_or_finish, take_or_rest, with_hard, scan_of, unmark_of, unmark_in, take_now, with_pairs, take_last, told_by, waits, note, noticed, age, tested_by}
+use Rattle.wbt_replay_moves.specs.Definition.Idle.{finish, rest_until, take, take_or_finish, take_or_rest, with_hard, start_of, scan_of, unmark_of, unmark_in, take_now, with_pairs, take_last, told_by, waits, note, noticed, age, tested_by}
 use Rattle.wbt_rules.specs.declared.moments.TheConstants.{FLUSHER_REST}
 use Rattle.wbt_replay_moves.specs.Definition.State.{State, cpu_of, flusher_of, queue_of, writeback_of, no_waiting, waiting_of, with_waiting, with_queue}
 use Rattle.wbt_rules.specs.Things.{inode_of, context_of, device_at, flusher_device}
@@ -55,7 +55,7 @@ module _ (trace : Trace) (facts : Facts trace) (i : ℕ) (less : i < trace.cpus)
     rest_done later soon g free =
         let y : Flusher = record (flusher_of f s) { phase = phase.Idle later false } in
         let m = turn_flusher trace facts i less f y s.working 0 0 silent_ticks 0 silent_ticks s on turn g free
-        (record { phase = idle_batch 0 silent_ticks g; quota = tt; hard = (g.holds.flushers.each f).hard; measures = (g.holds.flushers.each f).measures; weighs = (g.holds.flushers.each f).weighs; wheel = (g.holds.flushers.each f).wheel })
+        (record { phase = idle_batch 0 silent_ticks g; quota = tt; hard = (g.holds.flushers.each f).hard; measures = (g.holds.flushers.each f).measures; weighs = (g.holds.flushers.each f).weighs; wheel = (g.holds.flushers.each f).wheel; places = (g.holds.flushers.each f).places })
         (omega arith) (omega arith) (omega (arith, soon)) (omega arith) (idle_works y refl) in
         stays_done trace facts i less s f on turn 0 0 2 (record s { flushers = set s.flushers f y; working = s.working }) m.going m.free turn (subst (IsOpen trace) (sym m.is) tt)
 
@@ -64,7 +64,7 @@ module _ (trace : Trace) (facts : Facts trace) (i : ℕ) (less : i < trace.cpus)
     taken_done t inode known g free =
         let y : Flusher = record (flusher_of f s) { phase = phase.Taken inode } in
         let m = turn_flusher trace facts i less f y s.working 0 0 t t 0 s on turn g free
-        (record { phase = (idle_batch 0 t g, known); quota = tt; hard = (g.holds.flushers.each f).hard; measures = (g.holds.flushers.each f).measures; weighs = (g.holds.flushers.each f).weighs; wheel = (g.holds.flushers.each f).wheel })
+        (record { phase = (idle_batch 0 t g, known); quota = tt; hard = (g.holds.flushers.each f).hard; measures = (g.holds.flushers.each f).measures; weighs = (g.holds.flushers.each f).weighs; wheel = (g.holds.flushers.each f).wheel; places = (g.holds.flushers.each f).places })
         (omega arith) (omega arith) (omega arith) (omega arith) (idle_works y refl) in
         let z : State = record s { flushers = set s.flushers f y; working = s.working } in
         do_done trace facts i less (todo.Step step.Unmark ∷ []) 0 t 2 1 z m.going m.free
@@ -81,7 +81,7 @@ module _ (trace : Trace) (facts : Facts trace) (i : ℕ) (less : i < trace.cpus)
         let counted = g.holds.counted.flushers in
         let one : one_if (works (flusher_of f s)) ≡ 1 = ap (λ (p : ReplayPhase). one_if (not (is_finished p))) is in
         let m = turn_flusher trace facts i less f y (s.working - 1) 0 0 t t 0 s on turn g free
-        (record { phase = idle_batch 0 t g; quota = tt; hard = (g.holds.flushers.each f).hard; measures = (g.holds.flushers.each f).measures; weighs = (g.holds.flushers.each f).weighs; wheel = (g.holds.flushers.each f).wheel })
+        (record { phase = idle_batch 0 t g; quota = tt; hard = (g.holds.flushers.each f).hard; measures = (g.holds.flushers.each f).measures; weighs = (g.holds.flushers.each f).weighs; wheel = (g.holds.flushers.each f).wheel; places = (g.holds.flushers.each f).places })
         (omega arith) (omega arith) (omega arith) (omega arith) (omega (arith, working, counted, one)) in
         stays_done trace facts i less s f on turn 0 t 2 (record s { flushers = set s.flushers f y; working = s.working - 1 }) m.going m.free turn (subst (IsOpen trace) (sym m.is) tt)
 
@@ -110,7 +110,7 @@ module _ (trace : Trace) (facts : Facts trace) (i : ℕ) (less : i < trace.cpus)
         let y : Flusher = record (flusher_of f s) { wheel = Some w } in
         let g = h.listing.going in
         let m = turn_flusher trace facts i less f y s.working 0 0 t t 0 s on h.turn g h.listing.free
-        (record { phase = (g.holds.flushers.each f).phase; quota = (g.holds.flushers.each f).quota; hard = (g.holds.flushers.each f).hard; measures = (g.holds.flushers.each f).measures; weighs = (g.holds.flushers.each f).weighs; wheel = fits })
+        (record { phase = (g.holds.flushers.each f).phase; quota = (g.holds.flushers.each f).quota; hard = (g.holds.flushers.each f).hard; measures = (g.holds.flushers.each f).measures; weighs = (g.holds.flushers.each f).weighs; wheel = fits; places = (g.holds.flushers.each f).places })
         (omega arith) (omega arith) (omega arith) (omega arith) refl in
         record {
           clock = h.clock;
@@ -222,10 +222,13 @@ module _ (trace : Trace) (facts : Facts trace) (i : ℕ) (less : i < trace.cpus)
       let g0 = ready (plain_entry i kind.Unmark) in
       let g = inodes_going trace i 1 silent_ticks s.book (set s.marks inode false) s.queues (with_step (plain_entry i kind.Unmark) s) g0 (length-set s.marks inode false) refl g0.holds.queues.each in
       let at : ((flusher_of f s).batch ≡ []) × (inode < length trace.inodes) = subst (IsAt trace (flusher_of f s).batch) is (g.holds.flushers.each f).phase in
-      let first : ℕ = (inode_of trace inode).first in
       let p : ReplayPhase = scan_of trace f inode s in
       let y : Flusher = record (flusher_of f s) { phase = p } in
       let some = facts.inode_some inode at.1 in
+      let some_pages : 0 < (inode_of trace inode).pages = omega (arith, some) in
+      let start : start_of trace f inode s < (inode_of trace inode).pages =
+      either (λ n. n < (inode_of trace inode).pages) (device_at trace (flusher_device trace f)).cyclic (get_or (flusher_of f s).places inode 0) 0
+      (λ cyclic. ((g.holds.flushers.each f).places on.there).below inode at.1) (λ straight. some_pages) in
       let device : Device = device_at trace (flusher_device trace f) in
       let avg : ℕ = (writeback_of (context_of trace inode) s).estimate.avg in
       let hard : ℕ = (flusher_of f s).hard in
@@ -234,8 +237,11 @@ module _ (trace : Trace) (facts : Facts trace) (i : ℕ) (less : i < trace.cpus)
       (record {
         phase = record {
           there = at.1;
+          first_is = refl;
+          pages_is = refl;
+          start = start;
           behind = omega (arith, ap length at.0);
-          within = omega (arith, some);
+          within = omega arith;
           some = room;
           few = omega (arith, ap length at.0);
           ours = subst (All (IsPageOf trace inode)) (sym at.0) (All-nil (IsPageOf trace inode));
@@ -245,9 +251,10 @@ module _ (trace : Trace) (facts : Facts trace) (i : ℕ) (less : i < trace.cpus)
         measures = (g.holds.flushers.each f).measures;
         weighs = (g.holds.flushers.each f).weighs;
         wheel = (g.holds.flushers.each f).wheel;
+        places = (g.holds.flushers.each f).places;
       })
       (omega arith) (omega arith) (omega arith) (omega arith) (ap (λ (q : ReplayPhase). s.working + one_if (not (is_finished q))) is) in
-      stays_done trace facts i less s f on turn 0 silent_ticks 2 (record x { flushers = set x.flushers f y; working = s.working }) m.going m.free turn (subst (IsOpen trace) (sym m.is) (some, omega (arith, ap length at.0, room)))
+      stays_done trace facts i less s f on turn 0 silent_ticks 2 (record x { flushers = set x.flushers f y; working = s.working }) m.going m.free turn (subst (IsOpen trace) (sym m.is) (some_pages, omega (arith, ap length at.0, room)))
 
   pub unmark_at : (p : ReplayPhase) → (flusher_of f s).phase ≡ p → Ready trace i s → Free trace i 2 s → IsTaken p → Done trace i (unmark_in trace i f p s)
   unmark_at (phase.Idle until kept) e ready free h = absurd h
@@ -280,7 +287,7 @@ module _ (trace : Trace) (facts : Facts trace) (i : ℕ) (less : i < trace.cpus)
   tested_done t until kept is began hard g free =
       let y : Flusher = record (flusher_of f s) { hard = t.global.limits.hard } in
       let m = turn_flusher trace facts i less f y s.working 0 0 silent_ticks silent_ticks 0 s on turn g free
-      (record { phase = (g.holds.flushers.each f).phase; quota = (g.holds.flushers.each f).quota; hard = hard; measures = (g.holds.flushers.each f).measures; weighs = (g.holds.flushers.each f).weighs; wheel = (g.holds.flushers.each f).wheel })
+      (record { phase = (g.holds.flushers.each f).phase; quota = (g.holds.flushers.each f).quota; hard = hard; measures = (g.holds.flushers.each f).measures; weighs = (g.holds.flushers.each f).weighs; wheel = (g.holds.flushers.each f).wheel; places = (g.holds.flushers.each f).places })
       (omega arith) (omega arith) (omega arith) (omega arith) refl in
       let x : State = record s { flushers = set s.flushers f y; working = s.working } in
       let idle : (flusher_of f x).phase ≡ phase.Idle until kept = ap (λ (v : Flusher). v.phase) m.is ∙ is in

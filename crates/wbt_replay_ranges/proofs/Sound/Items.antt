@@ -27,14 +27,14 @@ use Rattle.wbt_replay_order.specs.Kept.Horizon.{silent_ticks, credit_in}
 use Rattle.wbt_replay_order.specs.Kept.Sound.{Sound, HasRoom, IsClosed, IsCount, IsWhose}
 use Rattle.wbt_replay_order.specs.Kept.Turns.{IsCounter, StepFits, AreFrom, AreOthers, Settles, Clears, settles_next, is_settling, floor_of, Agrees}
 use Rattle.wbt_replay_ranges.proofs.Sound.Checks.{decide_done}
-use Rattle.wbt_replay_ranges.proofs.Sound.Counters.{Ready, credit_few, add_done, fold_done, clear_done, first_done, middle_done, limits_done, count_done}
+use Rattle.wbt_replay_ranges.proofs.Sound.Counters.{Ready, ReadyToWrite, credit_few, add_done, fold_done, clear_done, first_done, middle_done, limits_done, count_done}
 use Rattle.wbt_replay_ranges.proofs.Sound.Estimates.{estimate_done}
 use Rattle.wbt_replay_ranges.proofs.Sound.Flights.{complete_at, land_at}
 use Rattle.wbt_replay_ranges.proofs.Sound.FlusherTurn.{credit_none}
 use Rattle.wbt_replay_ranges.proofs.Sound.Going.{Going}
 use Rattle.wbt_replay_ranges.proofs.Sound.Idles.{unmark_at, test_at}
 use Rattle.wbt_replay_ranges.proofs.Sound.Own.{Free, Done, from_less}
-use Rattle.wbt_replay_ranges.proofs.Sound.Pops.{item_fits, pop_ready, pop_silent, pop_is_whose, pop_agrees, pop_since, pop_free, pop_closed, pop_room, pop_own, pop_settles, pop_todo, same}
+use Rattle.wbt_replay_ranges.proofs.Sound.Pops.{item_fits, pop_ready, pop_ready_to_write, pop_silent, pop_is_whose, pop_agrees, pop_since, pop_free, pop_closed, pop_room, pop_own, pop_settles, pop_todo, same}
 use Rattle.wbt_replay_ranges.proofs.Sound.Scans.{look_at, claim_at, close_at, hand_over_at}
 use Rattle.wbt_replay_ranges.proofs.Sound.TaskEnds.{end_done, mark_done}
 use Rattle.wbt_replay_ranges.proofs.Sound.Weighs.{weigh_done}
@@ -43,11 +43,11 @@ use Rattle.wbt_replay_ranges.proofs.Sound.Writes.{write_at}
 -- ---- by whose turn it is
 
 module _ (trace : Trace) (facts : Facts trace) (i : ℕ) (less : i < trace.cpus) (s : State) (w : Whose) (turn : (cpu_of i s).turn.whose ≡ w) (on : IsWhose trace i w) where
-  dirty_item : Ready trace i s → Free trace i 2 s → (cpu_of i s).local.since_check ≤ length s.steps → Agrees trace s.tasks s.flushers w (todo.Step step.Dirty) → Done trace i (dirty_by trace i w s)
+  dirty_item : ReadyToWrite trace i s → Free trace i 2 s → (cpu_of i s).local.since_check ≤ length s.steps → Agrees trace s.tasks s.flushers w (todo.Step step.Dirty) → Done trace i (dirty_by trace i w s)
   dirty_item ready free since agree = by_whose w turn on agree
     where
       by_whose : (v : Whose) → (cpu_of i s).turn.whose ≡ v → IsWhose trace i v → Agrees trace s.tasks s.flushers v (todo.Step step.Dirty) → Done trace i (dirty_by trace i v s)
-      by_whose (whose.Task k) e on' a = write_at trace facts i less k s on' e (task_of k s).works refl a.0 a.1 ready free since
+      by_whose (whose.Task k) e on' a = write_at trace facts i less k s on' e (task_of k s).works refl a.0 a.1 a.2 ready free since
       by_whose (whose.Flusher f) e on' a = absurd a
 
   unmark_item : Ready trace i s → Free trace i 2 s → Agrees trace s.tasks s.flushers w (todo.Step step.Unmark) → Done trace i (unmark_by trace i w s)
@@ -146,6 +146,9 @@ module _ (trace : Trace) (facts : Facts trace) (i : ℕ) (less : i < trace.cpus)
     abbrev now : State
     now = behind ts ((cpu_of i s).made + 1)
 
+    ready_to_write : ReadyToWrite trace i now
+    ready_to_write = pop_ready_to_write trace facts i less s sound room live (todo.Step item) ts first few
+
     ready : Ready trace i now
     ready = pop_ready trace facts i less s sound room live (todo.Step item) ts first few
 
@@ -170,7 +173,7 @@ module _ (trace : Trace) (facts : Facts trace) (i : ℕ) (less : i < trace.cpus)
   pub step_done : (item : Step) (ts : List Todo) → (cpu_of i s).todo ≡ todo.Step item ∷ ts → length s.steps < MOST_STEPS → Done trace i (make_step trace i item (behind ts ((cpu_of i s).made + 1)))
   unfolding make_step
   step_done step.Dirty ts first few = let x : State = behind ts ((cpu_of i s).made + 1) in
-      dirty_item trace facts i less x (cpu_of i x).turn.whose refl (on step.Dirty ts first few) (ready step.Dirty ts first few) (free step.Dirty ts first few refl) (since step.Dirty ts first few) (agrees step.Dirty ts first few)
+      dirty_item trace facts i less x (cpu_of i x).turn.whose refl (on step.Dirty ts first few) (ready_to_write step.Dirty ts first few) (free step.Dirty ts first few refl) (since step.Dirty ts first few) (agrees step.Dirty ts first few)
   step_done (step.Add counter change) ts first few = let x : State = behind ts ((cpu_of i s).made + 1) in let q : Step = step.Add counter change in
       add_done trace facts i less x (ready q ts first few) (on q ts first few) (closed q ts first few) counter change (free q ts first few refl) (fits q ts first few).0 (fits q ts first few).1
   step_done (step.Fold counter) ts first few = let x : State = behind ts ((cpu_of i s).made + 1) in let q : Step = step.Fold counter in

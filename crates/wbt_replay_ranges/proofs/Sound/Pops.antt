@@ -20,9 +20,9 @@ use Rattle.wbt_replay_order.specs.Kept.Facts.{Facts}
 use Rattle.wbt_replay_order.specs.Kept.Horizon.{silent_ticks, step_ticks, credit_in}
 use Rattle.wbt_replay_order.specs.Kept.Sound.{Sound, HasRoom, IsClosed, IsRoom, IsWhose}
 use Rattle.wbt_replay_order.specs.Kept.Turns.{ItemFits, AreInOrder, AreOthers, Settles, settles_next, is_settling, floor_of, Agrees, closes, closes_in}
-use Rattle.wbt_replay_ranges.proofs.Sound.Counters.{Ready, with_step, credit_few}
+use Rattle.wbt_replay_ranges.proofs.Sound.Counters.{Ready, ReadyToWrite, write_ticks, with_step, credit_few}
 use Rattle.wbt_replay_ranges.proofs.Sound.Frames.{cpu_going}
-use Rattle.wbt_replay_ranges.proofs.Sound.Going.{Going, step_going}
+use Rattle.wbt_replay_ranges.proofs.Sound.Going.{Going, step_going, spare_going}
 use Rattle.wbt_replay_ranges.proofs.Sound.Own.{Fits, Free, Done, is_set, changed, changed_cpu, changed_agreed}
 
 -- ---- lists
@@ -119,13 +119,16 @@ module _ (trace : Trace) (facts : Facts trace) (i : ℕ) (less : i < trace.cpus)
         refl (omega arith) (omega (arith, was, credit)) (omega arith)
 
     -- a step may be made
-    pub pop_ready : length s.steps < MOST_STEPS → Ready trace i (record s { cpus = set s.cpus i (record (cpu_of i s) { todo = ts; made = (cpu_of i s).made + 1 }) })
-    pop_ready few x =
+    pub pop_ready_to_write : length s.steps < MOST_STEPS → ReadyToWrite trace i (record s { cpus = set s.cpus i (record (cpu_of i s) { todo = ts; made = (cpu_of i s).made + 1 }) })
+    pop_ready_to_write few x =
         let one : length (s.steps ++ x ∷ []) ≡ length s.steps + 1 = length-append s.steps (x ∷ []) in
         let g = step_going trace i 0 0 (s.steps ++ x ∷ []) s (start_going s sound room live) one (omega (arith, one, few)) in
         let made = (sound.holds.cpus.each i less).made in
         let small = credit_few ts in
-        pop_going ((cpu_of i s).made + 1) 1 step_ticks silent_ticks (with_step x s) g refl refl refl (omega (arith, one, made)) (omega (arith, small))
+        pop_going ((cpu_of i s).made + 1) 1 step_ticks write_ticks (with_step x s) g refl refl refl (omega (arith, one, made)) (omega (arith, small))
+
+    pub pop_ready : length s.steps < MOST_STEPS → Ready trace i (record s { cpus = set s.cpus i (record (cpu_of i s) { todo = ts; made = (cpu_of i s).made + 1 }) })
+    pop_ready few x = spare_going trace i 1 1 write_ticks silent_ticks _ (omega arith) (omega arith) (pop_ready_to_write few x)
 
     -- a silent move is under way
     pub pop_silent : (ticks : ℕ) → credit_in ts + ticks ≤ credit_in (t ∷ ts) → Going trace i 0 ticks (record s { cpus = set s.cpus i (record (cpu_of i s) { todo = ts }) })

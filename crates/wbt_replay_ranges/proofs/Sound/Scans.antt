@@ -4,7 +4,7 @@ use Rattle.std.specs.Int.{div_ceil}
 use Rattle.std.proofs.Math.ListN.{set}
 use Rattle.std.proofs.lemmas.Nat.{mul-le}
 use Rattle.std.proofs.lemmas.Bool.Decides.{nat_tests}
-use Rattle.std.proofs.lemmas.List.{nil_from_length}
+use Rattle.std.proofs.lemmas.List.{nil_from_length, length-set}
 use Rattle.std.proofs.lemmas.List.Elements.{All-push}
 use Rattle.wbt_book.specs.Book.{is_claimable}
 use Rattle.wbt_book.specs.PageWords.{shared_word}
@@ -19,10 +19,11 @@ use Rattle.wbt_trace.specs.declared.trace.Trace.{Trace}
 use Rattle.wbt_journal.specs.declared.step.StepEntry.{StepEntry}
 use Rattle.wbt_replay_moves.specs.Definition.Cpu.{then_do}
 use Rattle.wbt_rules.specs.declared.moments.TheConstants.{FLUSHER_REST}
-use Rattle.wbt_replay_moves.specs.Definition.Scan.{look_in, claim_now, claim_in, close_items, is_over, close_in, fly, land_empty, hand_over_in}
+use Rattle.wbt_replay_moves.specs.Definition.Scan.{look_in, claim_now, claim_in, close_items, is_over, places_after, close_in, fly, land_empty, hand_over_in}
 use Rattle.wbt_io.specs.Moments.{done_at}
 use Rattle.wbt_replay_moves.specs.Definition.State.{State, cpu_of, flusher_of, in_phase}
-use Rattle.wbt_rules.specs.Things.{end_of, flusher_device, rate_of}
+use Rattle.wbt_rules.specs.Places.{place_after, page_of}
+use Rattle.wbt_rules.specs.Things.{device_at, inode_of, flusher_device, rate_of}
 use Rattle.wbt_rules.specs.declared.scan.Scan.{Scan}
 use Rattle.wbt_replay_moves.specs.declared.state.Flusher.{Flusher}
 use Rattle.wbt_replay_moves.specs.declared.state.ReplayPhase.{ReplayPhase}
@@ -36,13 +37,15 @@ use Rattle.wbt_replay_moves.specs.declared.todo.Todo.TheVariants as todo
 use Rattle.wbt_replay_order.specs.Definition.Order.{is_finished}
 use Rattle.wbt_replay_order.specs.Kept.Facts.{Facts, IsFlusherOn, IsPageOf}
 use Rattle.wbt_replay_order.specs.Kept.Horizon.{silent_ticks}
-use Rattle.wbt_replay_order.specs.Kept.Sound.{IsAt, IsScanAt, IsQuotaOf}
+use Rattle.wbt_replay_order.specs.Kept.Sound.{IsAt, IsScanAt, IsQuotaOf, ArePlaces}
 use Rattle.wbt_replay_order.specs.Kept.Turns.{Agrees, FlusherAgrees, IsScanning, IsOpen, IsOpenAt}
+use Rattle.wbt_rules.proofs.Places.{place_below}
 use Rattle.wbt_replay_order.proofs.Facts.Lists.{either}
+use Rattle.wbt_replay_order.proofs.Facts.Scans.{scan_page}
 use Rattle.wbt_replay_ranges.proofs.Sound.Counters.{Ready, with_step, plain_entry, credit_few}
 use Rattle.wbt_replay_ranges.proofs.Sound.FlusherTurn.{turn_flusher}
 use Rattle.wbt_replay_ranges.proofs.Sound.Going.{Going, spare_going}
-use Rattle.wbt_replay_order.proofs.Lists.Numbered.{one_if}
+use Rattle.wbt_replay_order.proofs.Lists.Numbered.{one_if, set_all}
 use Rattle.wbt_replay_ranges.proofs.Sound.Own.{Free, Done, push, do_done, done_free, logged_going, logged_free, logged_whose}
 use Rattle.wbt_replay_ranges.proofs.Sound.Things.{event_going}
 use Rattle.wbt_replay_ranges.proofs.Sound.Working.{works}
@@ -63,8 +66,8 @@ module _ (trace : Trace) (facts : Facts trace) (i : ℕ) (less : i < trace.cpus)
   pub agrees_now : (t : State) → (cpu_of i t).turn.whose ≡ whose.Flusher f → (item : Todo) → FlusherAgrees trace (flusher_of f t) item → Agrees trace t.tasks t.flushers (cpu_of i t).turn.whose item
   agrees_now t is item h = subst (λ (w : Whose). Agrees trace t.tasks t.flushers w item) (sym is) h
 
-  page_there : (batch : List ℕ) (scan : Scan) → IsScanAt trace batch scan → scan.page < end_of trace scan.inode → IsPageOf trace scan.inode scan.page
-  page_there batch scan at more = record { there = at.there; after_first = omega (arith, at.behind); before_end = more }
+  page_there : (batch : List ℕ) (scan : Scan) → IsScanAt trace batch scan → IsPageOf trace scan.inode (page_of scan)
+  page_there batch scan at = scan_page trace scan at.there at.first_is at.pages_is at.start
 
   -- the scan may close next
   pub put_close : (e t : ℕ) (x : State) → Going trace i e t x → Free trace i 2 x → silent_ticks ≤ t → (cpu_of i x).turn.whose ≡ whose.Flusher f → IsScanning (flusher_of f x).phase → Done trace i (then_do i (todo.Silent silent.Close ∷ []) x)
@@ -90,15 +93,15 @@ module _ (trace : Trace) (facts : Facts trace) (i : ℕ) (less : i < trace.cpus)
 
     -- ---- a look
 
-    passed_done : (b : Bool) → Ready trace i s → Free trace i 2 s → scan.page < end_of trace scan.inode
-        → Done trace i (with_step (plain_entry i kind.Look) (then_do i (todo.Silent silent.Close ∷ []) (in_phase f (phase.Scanning (record scan { page = scan.page + 1; noted = b })) s)))
+    passed_done : (b : Bool) → Ready trace i s → Free trace i 2 s → scan.passed < scan.pages
+        → Done trace i (with_step (plain_entry i kind.Look) (then_do i (todo.Silent silent.Close ∷ []) (in_phase f (phase.Scanning (record scan { passed = scan.passed + 1; noted = b })) s)))
     passed_done b ready free more =
         let x : State = with_step (plain_entry i kind.Look) s in
         let g = ready (plain_entry i kind.Look) in
         let at : IsScanAt trace (flusher_of f s).batch scan = subst (IsAt trace (flusher_of f s).batch) is (g.holds.flushers.each f).phase in
-        let y : Flusher = record (flusher_of f s) { phase = phase.Scanning (record scan { page = scan.page + 1; noted = b }) } in
+        let y : Flusher = record (flusher_of f s) { phase = phase.Scanning (record scan { passed = scan.passed + 1; noted = b }) } in
         let m = turn_flusher trace facts i less f y s.working 1 0 silent_ticks silent_ticks 0 x on turn g (free_step 2 (plain_entry i kind.Look) free)
-        (record { phase = record { there = at.there; behind = omega (arith, at.behind); within = omega (arith, more); some = at.some; few = at.few; ours = at.ours }; quota = subst (IsQuotaOf trace f) is (g.holds.flushers.each f).quota; hard = (g.holds.flushers.each f).hard; measures = (g.holds.flushers.each f).measures; weighs = (g.holds.flushers.each f).weighs; wheel = (g.holds.flushers.each f).wheel })
+        (record { phase = record { there = at.there; first_is = at.first_is; pages_is = at.pages_is; start = at.start; behind = omega (arith, at.behind); within = omega (arith, more); some = at.some; few = at.few; ours = at.ours }; quota = subst (IsQuotaOf trace f) is (g.holds.flushers.each f).quota; hard = (g.holds.flushers.each f).hard; measures = (g.holds.flushers.each f).measures; weighs = (g.holds.flushers.each f).weighs; wheel = (g.holds.flushers.each f).wheel; places = (g.holds.flushers.each f).places })
         (omega arith) (omega arith) (omega arith) (omega arith) (still_works y refl) in
         put_close 0 silent_ticks (record x { flushers = set x.flushers f y; working = s.working }) m.going m.free (omega arith) turn (subst (λ (z : Flusher). IsScanning z.phase) (sym m.is) tt)
 
@@ -106,11 +109,11 @@ module _ (trace : Trace) (facts : Facts trace) (i : ℕ) (less : i < trace.cpus)
     look_done ready free more =
         let x : State = with_step (plain_entry i kind.Look) s in
         let g = ready (plain_entry i kind.Look) in
-        let b : Bool = scan.noted || ((s.book scan.page).dirty && (s.book scan.page).writeback) in
-        let item : Todo = todo.Step (step.Claim (shared_word s.book scan.page)) in
+        let b : Bool = scan.noted || ((s.book (page_of scan)).dirty && (s.book (page_of scan)).writeback) in
+        let item : Todo = todo.Step (step.Claim (shared_word s.book (page_of scan))) in
         let opens : IsOpen trace (flusher_of f s) = subst (IsOpenAt trace (flusher_of f s).batch) (sym is) more in
         let few = credit_few (item ∷ (cpu_of i s).todo) in
-        either (λ y. Done trace i (with_step (plain_entry i kind.Look) y)) (is_claimable (s.book scan.page)) (then_do i (item ∷ []) s) (then_do i (todo.Silent silent.Close ∷ []) (in_phase f (phase.Scanning (record scan { page = scan.page + 1; noted = b })) s))
+        either (λ y. Done trace i (with_step (plain_entry i kind.Look) y)) (is_claimable (s.book (page_of scan))) (then_do i (item ∷ []) s) (then_do i (todo.Silent silent.Close ∷ []) (in_phase f (phase.Scanning (record scan { passed = scan.passed + 1; noted = b })) s))
         (λ found. do_done trace facts i less (item ∷ []) 1 silent_ticks 2 1 x g (free_step 2 (plain_entry i kind.Look) free)
         (push trace s.tasks s.flushers (cpu_of i s).turn.whose 2 1 item (cpu_of i s).todo free.fits tt (agrees_now s turn item (subst IsScanning (sym is) tt, opens)) refl (omega arith) (omega arith) (omega arith))
         (omega (arith, few)) (λ g' on' e none. own_open s turn opens g' e))
@@ -120,26 +123,37 @@ module _ (trace : Trace) (facts : Facts trace) (i : ℕ) (less : i < trace.cpus)
 
     claimed_done : Ready trace i s → Free trace i 2 s → IsOpenAt trace (flusher_of f s).batch (phase.Scanning scan) → Done trace i (with_step (plain_entry i kind.Claim) (claim_now i f scan s))
     claimed_done ready free more =
-        let book : Book = put s.book scan.page (bits_after (event.Claim scan.page) (s.book scan.page)) in
+        let book : Book = put s.book (page_of scan) (bits_after (event.Claim (page_of scan)) (s.book (page_of scan))) in
         let x : State = record (with_step (plain_entry i kind.Claim) s) { book = book } in
         let g = event_going trace i 1 silent_ticks book (with_step (plain_entry i kind.Claim) s) (ready (plain_entry i kind.Claim)) in
         let at : IsScanAt trace (flusher_of f s).batch scan = subst (IsAt trace (flusher_of f s).batch) is (g.holds.flushers.each f).phase in
-        let y : Flusher = record (flusher_of f s) { phase = phase.Scanning (record scan { page = scan.page + 1 }); batch = (flusher_of f s).batch ++ scan.page ∷ [] } in
-        let here = page_there (flusher_of f s).batch scan at more.0 in
-        let longer = length-append (flusher_of f s).batch (scan.page ∷ []) in
+        let y : Flusher = record (flusher_of f s) { phase = phase.Scanning (record scan { passed = scan.passed + 1 }); batch = (flusher_of f s).batch ++ page_of scan ∷ [] } in
+        let here = page_there (flusher_of f s).batch scan at in
+        let longer = length-append (flusher_of f s).batch (page_of scan ∷ []) in
         let free' : Free trace i 2 x = record { whose = free.whose; fits = free.fits; room = free.room } in
         let m = turn_flusher trace facts i less f y s.working 1 0 silent_ticks silent_ticks 0 x on turn g free'
         (record {
-          phase = record { there = at.there; behind = omega (arith, at.behind, longer); within = omega (arith, more.0); some = at.some; few = omega (arith, more.1, longer); ours = All-push (IsPageOf trace scan.inode) (flusher_of f s).batch scan.page at.ours here };
+          phase = record {
+            there = at.there;
+            first_is = at.first_is;
+            pages_is = at.pages_is;
+            start = at.start;
+            behind = omega (arith, at.behind, longer);
+            within = omega (arith, more.0);
+            some = at.some;
+            few = omega (arith, more.1, longer);
+            ours = All-push (IsPageOf trace scan.inode) (flusher_of f s).batch (page_of scan) at.ours here;
+          };
           quota = subst (IsQuotaOf trace f) is (g.holds.flushers.each f).quota;
           hard = (g.holds.flushers.each f).hard;
           measures = (g.holds.flushers.each f).measures;
           weighs = (g.holds.flushers.each f).weighs;
           wheel = (g.holds.flushers.each f).wheel;
+          places = (g.holds.flushers.each f).places;
         })
         (omega arith) (omega arith) (omega arith) (omega arith) (still_works y refl) in
         let z : State = record x { flushers = set x.flushers f y; working = s.working } in
-        let es : List Entry = (cpu_of i s).entries ++ entry.Claimed f scan.page ∷ [] in
+        let es : List Entry = (cpu_of i s).entries ++ entry.Claimed f (page_of scan) ∷ [] in
         let logged = logged_going trace facts i less es (cpu_of i s).checks (cpu_of i s).estimates 0 silent_ticks z m.going in
         let lfree = logged_free trace facts i less es (cpu_of i s).checks (cpu_of i s).estimates 2 0 silent_ticks z m.going m.free in
         let w : State = record z { cpus = set z.cpus i (record (cpu_of i s) { entries = es }) } in
@@ -148,31 +162,59 @@ module _ (trace : Trace) (facts : Facts trace) (i : ℕ) (less : i < trace.cpus)
         put_close 0 silent_ticks w logged lfree (omega arith) turn2 (subst (λ (v : Flusher). IsScanning v.phase) (sym m.is) tt)
 
     claim_done : (word : ℕ) → Ready trace i s → Free trace i 2 s → IsOpenAt trace (flusher_of f s).batch (phase.Scanning scan) → Done trace i (claim_in i f word (phase.Scanning scan) s)
-    claim_done word ready free more = either (λ y. Done trace i (with_step (plain_entry i kind.Claim) y)) (eqb (shared_word s.book scan.page) word) (claim_now i f scan s) s
+    claim_done word ready free more = either (λ y. Done trace i (with_step (plain_entry i kind.Claim) y)) (eqb (shared_word s.book (page_of scan)) word) (claim_now i f scan s) s
         (λ hit. claimed_done ready free more)
         (λ missed. stays_done 1 silent_ticks 2 (with_step (plain_entry i kind.Claim) s) (ready (plain_entry i kind.Claim)) (free_step 2 (plain_entry i kind.Claim) free) turn
         (subst (IsOpenAt trace (flusher_of f s).batch) (sym is) more))
 
     -- ---- the close
 
-    marks_done : (b : Bool) → Going trace i 0 silent_ticks s → Free trace i 2 s → Done trace i (then_do i (close_items scan.inode b) s)
-    marks_done b g free =
-        let at : IsScanAt trace (flusher_of f s).batch scan = scan_at 0 silent_ticks g in
-        let hand = push trace s.tasks s.flushers (cpu_of i s).turn.whose 2 1 (todo.Silent silent.HandOver) (cpu_of i s).todo free.fits tt (agrees_now s turn (todo.Silent silent.HandOver) (subst IsScanning (sym is) tt)) refl (omega arith) (omega arith) (omega arith) in
-        let few = credit_few (todo.Silent silent.HandOver ∷ (cpu_of i s).todo) in
-        either (λ items. Done trace i (then_do i items s)) b (todo.Step (step.Mark scan.inode) ∷ todo.Silent silent.HandOver ∷ []) (todo.Silent silent.HandOver ∷ [])
-        (λ again. do_done trace facts i less (todo.Step (step.Mark scan.inode) ∷ todo.Silent silent.HandOver ∷ []) 0 silent_ticks 2 1 s g free
-        (push trace s.tasks s.flushers (cpu_of i s).turn.whose 1 1 (todo.Step (step.Mark scan.inode)) (todo.Silent silent.HandOver ∷ (cpu_of i s).todo) hand at.there (agrees_now s turn (todo.Step (step.Mark scan.inode)) tt) refl (omega arith) (omega arith) (omega arith))
+    marks_done : (b : Bool) (x : State) → (cpu_of i x).turn.whose ≡ whose.Flusher f → (flusher_of f x).phase ≡ phase.Scanning scan → Going trace i 0 silent_ticks x → Free trace i 2 x
+        → scan.inode < length trace.inodes → Done trace i (then_do i (close_items scan.inode b) x)
+    marks_done b x mine at g free there =
+        let hand = push trace x.tasks x.flushers (cpu_of i x).turn.whose 2 1 (todo.Silent silent.HandOver) (cpu_of i x).todo free.fits tt (agrees_now x mine (todo.Silent silent.HandOver) (subst IsScanning (sym at) tt)) refl (omega arith) (omega arith) (omega arith) in
+        let few = credit_few (todo.Silent silent.HandOver ∷ (cpu_of i x).todo) in
+        either (λ items. Done trace i (then_do i items x)) b (todo.Step (step.Mark scan.inode) ∷ todo.Silent silent.HandOver ∷ []) (todo.Silent silent.HandOver ∷ [])
+        (λ again. do_done trace facts i less (todo.Step (step.Mark scan.inode) ∷ todo.Silent silent.HandOver ∷ []) 0 silent_ticks 2 1 x g free
+        (push trace x.tasks x.flushers (cpu_of i x).turn.whose 1 1 (todo.Step (step.Mark scan.inode)) (todo.Silent silent.HandOver ∷ (cpu_of i x).todo) hand there (agrees_now x mine (todo.Step (step.Mark scan.inode)) tt) refl (omega arith) (omega arith) (omega arith))
         (omega arith) (λ g' on' e' none. absurd (cc none)))
-        (λ once. do_done trace facts i less (todo.Silent silent.HandOver ∷ []) 0 silent_ticks 2 1 s g free hand (omega (arith, few)) (λ g' on' e' none. absurd (cc none)))
+        (λ once. do_done trace facts i less (todo.Silent silent.HandOver ∷ []) 0 silent_ticks 2 1 x g free hand (omega (arith, few)) (λ g' on' e' none. absurd (cc none)))
+
+    -- the place of the inode, which is one of its pages
+    places_kept : (places : List ℕ) → IsScanAt trace (flusher_of f s).batch scan → ArePlaces trace places → ArePlaces trace (places_after trace f scan places)
+    places_kept places at h =
+        let place : ℕ = place_after scan.pages scan.start scan.passed in
+        let below = place_below scan.pages scan.start scan.passed at.start in
+        either (ArePlaces trace) (device_at trace (flusher_device trace f)).cyclic (set places scan.inode place) places
+        (λ cyclic. record {
+          many = length-set places scan.inode place ∙ h.many;
+          below = set_all (λ n (v : ℕ). n < length trace.inodes → v < (inode_of trace n).pages) places scan.inode place 0 (λ there. omega (arith, below, at.pages_is)) h.below;
+        })
+        (λ straight. h)
 
     close_done : Going trace i 0 silent_ticks s → Free trace i 2 s → Done trace i (close_in trace i f (phase.Scanning scan) s)
-    close_done g free = either (Done trace i) (is_over trace scan (length (flusher_of f s).batch)) (then_do i (close_items scan.inode (scan.noted || ltb scan.page (end_of trace scan.inode))) s) s
-        (λ over. marks_done (scan.noted || ltb scan.page (end_of trace scan.inode)) g free)
-        (λ on'. stays_done 0 silent_ticks 2 s g free turn (subst (IsOpenAt trace (flusher_of f s).batch) (sym is) (not_over (end_of trace scan.inode) scan.page scan.quota (length (flusher_of f s).batch) on')))
+    close_done g free =
+        let at : IsScanAt trace (flusher_of f s).batch scan = scan_at 0 silent_ticks g in
+        let again : Bool = scan.noted || ltb scan.passed scan.pages in
+        let y : Flusher = record (flusher_of f s) { places = places_after trace f scan (flusher_of f s).places } in
+        let m = turn_flusher trace facts i less f y s.working 0 0 silent_ticks silent_ticks 0 s on turn g free
+        (record {
+          phase = (g.holds.flushers.each f).phase;
+          quota = (g.holds.flushers.each f).quota;
+          hard = (g.holds.flushers.each f).hard;
+          measures = (g.holds.flushers.each f).measures;
+          weighs = (g.holds.flushers.each f).weighs;
+          wheel = (g.holds.flushers.each f).wheel;
+          places = λ there. places_kept (flusher_of f s).places at ((g.holds.flushers.each f).places there);
+        })
+        (omega arith) (omega arith) (omega arith) (omega arith) refl in
+        let x : State = record s { flushers = set s.flushers f y; working = s.working } in
+        either (Done trace i) (is_over scan (length (flusher_of f s).batch)) (then_do i (close_items scan.inode again) x) s
+        (λ over. marks_done again x turn (ap (λ (v : Flusher). v.phase) m.is ∙ is) m.going m.free at.there)
+        (λ on'. stays_done 0 silent_ticks 2 s g free turn (subst (IsOpenAt trace (flusher_of f s).batch) (sym is) (not_over scan.pages scan.passed scan.quota (length (flusher_of f s).batch) on')))
       where
-        not_over : (end page quota pages : ℕ) → leb end page || leb quota pages ≡ false → (page < end) × (pages < quota)
-        not_over end page quota pages h = (grind (arith, nat_tests), grind (arith, nat_tests))
+        not_over : (all passed quota pages : ℕ) → leb all passed || leb quota pages ≡ false → (passed < all) × (pages < quota)
+        not_over all passed quota pages h = (grind (arith, nat_tests), grind (arith, nat_tests))
 
     -- ---- the batch goes to the disk
 
@@ -183,7 +225,7 @@ module _ (trace : Trace) (facts : Facts trace) (i : ℕ) (less : i < trace.cpus)
         idle_done until kept soon =
             let y : Flusher = record (flusher_of f s) { phase = phase.Idle until kept } in
             let m = turn_flusher trace facts i less f y s.working 0 0 silent_ticks 0 100 s on turn g free
-            (record { phase = none; quota = tt; hard = (g.holds.flushers.each f).hard; measures = (g.holds.flushers.each f).measures; weighs = (g.holds.flushers.each f).weighs; wheel = (g.holds.flushers.each f).wheel })
+            (record { phase = none; quota = tt; hard = (g.holds.flushers.each f).hard; measures = (g.holds.flushers.each f).measures; weighs = (g.holds.flushers.each f).weighs; wheel = (g.holds.flushers.each f).wheel; places = (g.holds.flushers.each f).places })
             (omega arith) (omega arith) (omega (arith, soon)) (omega arith) (still_works y refl) in
             stays_done 0 0 2 (record s { flushers = set s.flushers f y; working = s.working }) m.going m.free turn (subst (IsOpen trace) (sym m.is) tt)
 
@@ -194,12 +236,12 @@ module _ (trace : Trace) (facts : Facts trace) (i : ℕ) (less : i < trace.cpus)
         let rate : ℕ = rate_of trace (flusher_device trace f) in
         let until : ℕ = done_at s.now pages rate in
         let ends = facts.inode_end scan.inode at.there in
-        let few : pages ≤ pages_in trace.inodes = omega (arith, at.behind, at.within, ends) in
+        let few : pages ≤ pages_in trace.inodes = omega (arith, at.behind, at.within, at.pages_is, ends) in
         let most = facts.few_pages in
         let time = ceil_less (pages * 1000) rate (facts.rate (flusher_device trace f) (facts.flusher_device_is f on.there)) in
         let y : Flusher = record (flusher_of f s) { phase = phase.Flying scan.inode pages until } in
         let m = turn_flusher trace facts i less f y s.working 0 0 silent_ticks 0 silent_ticks s on turn g free
-        (record { phase = record { there = at.there; rest = omega arith; few = few; ours = at.ours }; quota = tt; hard = (g.holds.flushers.each f).hard; measures = (g.holds.flushers.each f).measures; weighs = (g.holds.flushers.each f).weighs; wheel = (g.holds.flushers.each f).wheel })
+        (record { phase = record { there = at.there; rest = omega arith; few = few; ours = at.ours }; quota = tt; hard = (g.holds.flushers.each f).hard; measures = (g.holds.flushers.each f).measures; weighs = (g.holds.flushers.each f).weighs; wheel = (g.holds.flushers.each f).wheel; places = (g.holds.flushers.each f).places })
         (omega arith) (omega arith) (omega (arith, time, few, most)) (omega arith) (still_works y refl) in
         let z : State = record s { flushers = set s.flushers f y; working = s.working } in
         let es : List Entry = (cpu_of i s).entries ++ entry.Batch f pages s.now until ∷ [] in

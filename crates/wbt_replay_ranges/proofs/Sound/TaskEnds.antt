@@ -62,7 +62,7 @@ module _ (trace : Trace) (facts : Facts trace) (i : ℕ) (less : i < trace.cpus)
         let some : one_if (is_running t) ≡ 1 = ap (λ (b : Bool). one_if (not b)) running in
         let counted = g.holds.counted.tasks in
         let g1 = task_ends trace facts i less k x (s.running - 1) 0 0 0 s on turn g free.fits.from free.fits.agree
-        (record { works = h.works; context = h.context; writers = h.writers; fit = h.fit; due = h.due; ended = λ e. none; last = h.last }) (omega arith) (omega arith) refl (omega arith) (omega (arith, counts, counted, some)) in
+        (record { works = h.works; context = h.context; writers = h.writers; fit = h.fit; due = h.due; ended = λ e. none; last = h.last; pace = h.pace; since = h.since }) (omega arith) (omega arith) refl (omega arith) (omega (arith, counts, counted, some)) in
         let s1 : State = record s { tasks = set s.tasks k x; running = s.running - 1 } in
         let c : Cpu = cpu_of i s in
         let local : CpuLocal = fold leaked c.local t.writers in

@@ -1,5 +1,5 @@
 -- A task writes its next page.
-use Rattle.std.proofs.Common.{◌≡◌, ◌≢◌, ℕ, ◌+◌, ◌-◌, ◌<◌, ◌≤◌, Bool, true, false, cond, eqb, leb, ◌||◌, pos, List, [], ◌∷◌, ◌++◌, length, get_or, All, refl, sym, ◌∙◌, ap, subst, arith, length-append}
+use Rattle.std.proofs.Common.{◌≡◌, ◌≢◌, ℕ, ◌+◌, ◌-◌, ◌<◌, ◌≤◌, Bool, true, false, cond, eqb, leb, ◌||◌, pos, List, [], ◌∷◌, ◌++◌, length, get_or, All, None, refl, sym, ◌∙◌, ap, subst, arith, length-append}
 use Rattle.std.specs.List.{sum_by}
 use Rattle.std.proofs.Math.ListN.{set}
 use Rattle.std.proofs.lemmas.Bool.Decides.{nat_tests}
@@ -17,12 +17,13 @@ use Rattle.wbt_task.specs.History.{new_writer, wrote_page, wrote_writer}
 use Rattle.wbt_task.specs.declared.allowance.CpuLocal.{CpuLocal}
 use Rattle.wbt_task.specs.declared.allowance.Due.TheVariants as due
 use Rattle.wbt_task.specs.declared.history.Writer.{Writer}
+use Rattle.wbt_trace.specs.declared.ranges.TheConstants.{MOST_COUNT}
 use Rattle.wbt_trace.specs.declared.trace.Trace.{Trace}
 use Rattle.wbt_replay_moves.specs.Definition.Check.{writer_in, writer_of}
 use Rattle.wbt_replay_moves.specs.Definition.Cpu.{do_next, logged, owed_to}
 use Rattle.wbt_replay_moves.specs.Definition.State.{State, cpu_of, task_of, with_task, no_task, no_cpu}
 use Rattle.wbt_rules.specs.Things.{context_of, group_of}
-use Rattle.wbt_replay_moves.specs.Definition.Writer.{without_page, counted_page, counted_local, dirty_fresh, dirty_page, dirty_next}
+use Rattle.wbt_replay_moves.specs.Definition.Writer.{without_page, passed_page, pause_in, counted_page, counted_local, dirty_fresh, dirty_page, dirty_next}
 use Rattle.wbt_replay_moves.specs.declared.state.Cpu.{Cpu}
 use Rattle.wbt_replay_moves.specs.declared.state.ReplayTask.{ReplayTask}
 use Rattle.wbt_replay_moves.specs.declared.state.Whose.{Whose}
@@ -36,8 +37,9 @@ use Rattle.wbt_replay_order.specs.Kept.Horizon.{silent_ticks, rests_of, rest_of}
 use Rattle.wbt_replay_order.specs.Kept.Sound.{IsTask, IsWriteOf, WorkFits, WriterFits, AreDirtied, dirtied_of, dirtied_by, leaks_of, rests_at_end}
 use Rattle.wbt_replay_order.specs.Kept.Turns.{Agrees, WritesNext}
 use Rattle.wbt_replay_order.proofs.Facts.Lists.{either, twice}
+use Rattle.wbt_replay_order.proofs.Facts.Paces.{since_fits, pause_more}
 use Rattle.wbt_replay_ranges.proofs.Sound.Checks.{task_closed}
-use Rattle.wbt_replay_ranges.proofs.Sound.Counters.{Ready, with_step, plain_entry}
+use Rattle.wbt_replay_ranges.proofs.Sound.Counters.{ReadyToWrite, write_ticks, with_step, plain_entry}
 use Rattle.wbt_replay_ranges.proofs.Sound.Flights.{group_inside, global_inside}
 use Rattle.wbt_replay_ranges.proofs.Sound.FlusherTurn.{turn_task, turn_task_sum}
 use Rattle.wbt_replay_ranges.proofs.Sound.Frames.{cpu_going}
@@ -111,7 +113,7 @@ page_left ratelimit_pages local w = cut _ (eqb (w.left - 1) 0) (λ e. grind (ari
     cut false false f e = let n = f refl in omega (arith, n)
 
 module _ (trace : Trace) (facts : Facts trace) (i : ℕ) (less : i < trace.cpus) (k : ℕ) (s : State) (on : IsTaskOn trace i k) (turn : (cpu_of i s).turn.whose ≡ whose.Task k) where
-  module _ (inode page pages : ℕ) (more : List ReplayWork) (is : (task_of k s).works ≡ work.Write inode page pages ∷ more) where
+  module _ (inode page pages : ℕ) (more : List ReplayWork) (is : (task_of k s).works ≡ work.Write inode page pages ∷ more) (going_on : pause_in (task_of k s) ≡ None) where
     not_ended : (n : ℕ) → IsTask trace n k (task_of k s) → (task_of k s).ended ≡ false
     not_ended n h = by_end (task_of k s).ended refl
       where
@@ -119,7 +121,7 @@ module _ (trace : Trace) (facts : Facts trace) (i : ℕ) (less : i < trace.cpus)
         by_end true e = let none = sym is ∙ h.ended e in absurd (cc none)
         by_end false e = e
 
-    without_fits : (n : ℕ) → IsTask trace n k (task_of k s) → IsTask trace n k (record (task_of k s) { works = without_page inode page pages more })
+    without_fits : (n : ℕ) → IsTask trace n k (task_of k s) → IsTask trace n k (passed_page inode page pages more (task_of k s))
     without_fits n h =
         let parts = all_rest (WorkFits trace k) (task_of k s).works (work.Write inode page pages) more is h.works in
         record {
@@ -130,21 +132,28 @@ module _ (trace : Trace) (facts : Facts trace) (i : ℕ) (less : i < trace.cpus)
           due = h.due;
           ended = λ e. let none = sym is ∙ h.ended e in absurd (cc none);
           last = λ e. last_page inode page pages more (sym (ap (rests_at_end false) is) ∙ h.last e);
+          pace = h.pace;
+          since = since_fits (task_of k s).pace (task_of k s).since going_on;
         }
 
-    rests_less : sum_by rest_of (without_page inode page pages more) ≤ rests_of (task_of k s)
-    rests_less = let l = rest_rests inode page pages more in let e : sum_by rest_of (task_of k s).works ≡ sum_by rest_of (work.Write inode page pages ∷ more) = ap (sum_by rest_of) is in omega (arith, l, e)
+    rests_less : (n : ℕ) → IsTask trace n k (task_of k s) → rests_of (passed_page inode page pages more (task_of k s)) ≤ rests_of (task_of k s) + MOST_COUNT
+    rests_less n h =
+        let l = rest_rests inode page pages more in
+        let e : sum_by rest_of (task_of k s).works ≡ sum_by rest_of (work.Write inode page pages ∷ more) = ap (sum_by rest_of) is in
+        let pause = pause_more (task_of k s).pace (task_of k s).since h.pace in
+        omega (arith, l, e, pause)
 
     -- ---- a page that is dirty already
 
-    again_done : Ready trace i s → Free trace i 2 s → Done trace i (with_step (plain_entry i kind.Dirty)
-        (record s { tasks = set s.tasks k (record (task_of k s) { works = without_page inode page pages more }); cpus = set s.cpus i (record (cpu_of i s) { entries = (cpu_of i s).entries ++ entry.Write k page false ∷ [] }) }))
+    again_done : ReadyToWrite trace i s → Free trace i 2 s → Done trace i (with_step (plain_entry i kind.Dirty)
+        (record s { tasks = set s.tasks k (passed_page inode page pages more (task_of k s)); cpus = set s.cpus i (record (cpu_of i s) { entries = (cpu_of i s).entries ++ entry.Write k page false ∷ [] }) }))
     again_done ready free =
         let x : State = with_step (plain_entry i kind.Dirty) s in
         let g = ready (plain_entry i kind.Dirty) in
-        let y : ReplayTask = record (task_of k s) { works = without_page inode page pages more } in
-        let m = turn_task trace facts i less k y 1 0 silent_ticks silent_ticks 0 x on turn g (record { whose = free.whose; fits = free.fits; room = free.room })
-        (without_fits (length x.steps) (g.holds.tasks.each k on.there)) refl (omega arith) (omega arith) (omega arith) (omega (arith, rests_less)) in
+        let y : ReplayTask = passed_page inode page pages more (task_of k s) in
+        let m = turn_task trace facts i less k y 1 0 write_ticks silent_ticks 0 x on turn g (record { whose = free.whose; fits = free.fits; room = free.room })
+        (without_fits (length x.steps) (g.holds.tasks.each k on.there)) refl (omega arith) (omega arith) (omega arith)
+        (let rests = rests_less (length x.steps) (g.holds.tasks.each k on.there) in omega (arith, rests)) in
         let z : State = record x { tasks = set x.tasks k y } in
         let es = (cpu_of i s).entries ++ entry.Write k page false ∷ [] in
         let g2 = spare_going trace i 0 0 silent_ticks 0 z (omega arith) (omega arith) m.going in
@@ -158,7 +167,7 @@ module _ (trace : Trace) (facts : Facts trace) (i : ℕ) (less : i < trace.cpus)
 
     module _ (not_due : (writer_of (task_of k s)).due ≡ due.No) where
       counted_fits : (n m : ℕ) → m ≡ n + 1 → inode < length trace.inodes → IsTask trace m k (task_of k s) → AreDirtied m 1 s.tasks s.cpus → k < length s.tasks → i < length s.cpus
-          → IsTask trace m k (counted_page s.ratelimit_pages (context_of trace inode) (cpu_of i s).local (record (task_of k s) { works = without_page inode page pages more }))
+          → IsTask trace m k (counted_page s.ratelimit_pages (context_of trace inode) (cpu_of i s).local (passed_page inode page pages more (task_of k s)))
       counted_fits n m one inside h dirtied there at =
           let t : ReplayTask = task_of k s in
           let context : ℕ = context_of trace inode in
@@ -189,13 +198,15 @@ module _ (trace : Trace) (facts : Facts trace) (i : ℕ) (less : i < trace.cpus)
             due = set_all (λ j (v : Writer). v.due ≡ due.Check → j ≡ context) t.writers context (wrote_writer p w) (new_writer 0) (λ e. refl) (λ j e. absurd (no_due j e (h.due j e)));
             ended = base.ended;
             last = base.last;
+            pace = base.pace;
+            since = base.since;
           }
         where
           no_due : (j : ℕ) → (writer_in j (task_of k s)).due ≡ due.Check → j ≡ (task_of k s).context → ⊥
           no_due j e same = let d : (writer_of (task_of k s)).due ≡ due.Check = subst (λ (n : ℕ). (writer_in n (task_of k s)).due ≡ due.Check) same e in let f : due.No ≡ due.Check = sym not_due ∙ d in absurd (cc f)
 
-      fresh_done : Ready trace i s → Free trace i 2 s → (cpu_of i s).local.since_check ≤ length s.steps
-          → Done trace i (dirty_fresh trace i k inode page (with_task k (record (task_of k s) { works = without_page inode page pages more }) s))
+      fresh_done : ReadyToWrite trace i s → Free trace i 2 s → (cpu_of i s).local.since_check ≤ length s.steps
+          → Done trace i (dirty_fresh trace i k inode page (with_task k (passed_page inode page pages more (task_of k s)) s))
       fresh_done ready free since =
           let t : ReplayTask = task_of k s in
           let context : ℕ = context_of trace inode in
@@ -204,7 +215,7 @@ module _ (trace : Trace) (facts : Facts trace) (i : ℕ) (less : i < trace.cpus)
           let s1 : State = record (with_step x s) { book = book } in
           let m : ℕ = length (with_step x s).steps in
           let one : m ≡ length s.steps + 1 = length-append s.steps (x ∷ []) in
-          let g = event_going trace i 1 silent_ticks book (with_step x s) (ready x) in
+          let g = event_going trace i 1 write_ticks book (with_step x s) (ready x) in
           let h = g.holds.tasks.each k on.there in
           let there : k < length s.tasks = omega (arith, on.there, g.holds.tasks.many) in
           let at : i < length s.cpus = omega (arith, less, g.holds.cpus.many) in
@@ -216,26 +227,26 @@ module _ (trace : Trace) (facts : Facts trace) (i : ℕ) (less : i < trace.cpus)
           let hc = g.holds.cpus.each i less in
           let moved = page_moved s.ratelimit_pages c.local w in
           let counted = page_since s.ratelimit_pages c.local w in
-          let g2 = cpu_going trace facts i less (changed c c.turn c.todo local c.own_domains c.own_contexts es c.checks c.estimates c.made) 1 1 silent_ticks silent_ticks s1 g
+          let g2 = cpu_going trace facts i less (changed c c.turn c.todo local c.own_domains c.own_contexts es c.checks c.estimates c.made) 1 1 write_ticks write_ticks s1 g
           (changed_cpu trace facts i less m s.now c c.turn c.todo local c.own_domains c.own_contexts es c.checks c.estimates c.made hc hc.turn hc.whose hc.todo hc.in_order refl refl (omega (arith, counted, since, one)) hc.made)
           (changed_agreed trace facts i less s1 c c.turn c.todo local c.own_domains c.own_contexts es c.checks c.estimates c.made (g.holds.agreed i less) refl (g.holds.agreed i less).items)
           refl (omega (arith, moved.3)) (omega arith) (omega arith) in
           let s2 : State = record s1 { cpus = set s.cpus i c1 } in
-          let free2 = local_free trace facts i less local es 2 1 silent_ticks s1 g (record { whose = free.whose; fits = free.fits; room = free.room }) in
-          let turn2 : (cpu_of i s2).turn.whose ≡ whose.Task k = ap (λ (d : Cpu). d.turn.whose) (is_set trace facts i less c1 1 silent_ticks s1 g) ∙ turn in
+          let free2 = local_free trace facts i less local es 2 1 write_ticks s1 g (record { whose = free.whose; fits = free.fits; room = free.room }) in
+          let turn2 : (cpu_of i s2).turn.whose ≡ whose.Task k = ap (λ (d : Cpu). d.turn.whose) (is_set trace facts i less c1 1 write_ticks s1 g) ∙ turn in
           let parts = all_rest (WorkFits trace k) t.works (work.Write inode page pages) more is h.works in
           let inside = parts.0.first.there in
-          let y : ReplayTask = counted_page s.ratelimit_pages context c.local (record t { works = without_page inode page pages more }) in
-          let m2 = turn_task_sum trace facts i less k y 1 0 silent_ticks silent_ticks 0 s2 on turn2 g2 free2
+          let y : ReplayTask = counted_page s.ratelimit_pages context c.local (passed_page inode page pages more t) in
+          let m2 = turn_task_sum trace facts i less k y 1 0 write_ticks silent_ticks 0 s2 on turn2 g2 free2
           (counted_fits (length s.steps) m one inside h g.holds.dirtied there at) refl
-          (sums_fit m h g.holds.dirtied inside there at) (omega arith) (omega arith) (omega (arith, rests_less)) in
+          (sums_fit m h g.holds.dirtied inside there at) (omega arith) (omega arith) (let rests = rests_less m h in omega (arith, rests)) in
           let s3 : State = record s2 { tasks = set s.tasks k y } in
           let done = owed_done trace facts i less (pos 1) context (group_of trace context) (todo.Step (step.Mark inode)) 0 silent_ticks 2 s3 refl (facts.inode_context inode inside)
           (group_inside trace facts context (facts.inode_context inode inside)) (global_inside trace) m2.going m2.free
           (push trace s3.tasks s3.flushers (cpu_of i s3).turn.whose 2 0 (todo.Step (step.Mark inode)) (cpu_of i s3).todo m2.free.fits inside
           (subst (λ (v : Whose). Agrees trace s3.tasks s3.flushers v (todo.Step (step.Mark inode))) (sym turn2) tt) refl (omega arith) (omega arith) (omega arith))
           (λ f on' e none. let other : whose.Task k ≡ whose.Flusher f = sym turn2 ∙ e in absurd (cc other)) in
-          let t1 : ReplayTask = record t { works = without_page inode page pages more } in
+          let t1 : ReplayTask = passed_page inode page pages more t in
           let w1 : State = with_task k t1 s in
           let r : State = dirty_fresh trace i k inode page w1 in
           let write : Cpu → Cpu = λ d. logged (entry.Write k page true) d in
@@ -251,7 +262,7 @@ module _ (trace : Trace) (facts : Facts trace) (i : ℕ) (less : i < trace.cpus)
           (subst (λ (cs : List Cpu). Done trace i (record s1 { tasks = set s.tasks k y; cpus = cs })) (sym cpus_are) done)
         where
           sums_fit : (m : ℕ) → IsTask trace m k (task_of k s) → AreDirtied m 1 s.tasks s.cpus → inode < length trace.inodes → k < length s.tasks → i < length s.cpus
-              → AreDirtied m 0 (set s.tasks k (counted_page s.ratelimit_pages (context_of trace inode) (cpu_of i s).local (record (task_of k s) { works = without_page inode page pages more })))
+              → AreDirtied m 0 (set s.tasks k (counted_page s.ratelimit_pages (context_of trace inode) (cpu_of i s).local (passed_page inode page pages more (task_of k s))))
               (set s.cpus i (record (cpu_of i s) { local = (wrote_page s.ratelimit_pages (cpu_of i s).local (writer_in (context_of trace inode) (task_of k s))).local; entries = (cpu_of i s).entries ++ entry.Write k page true ∷ [] }))
           sums_fit m h dirtied inside there at =
               let t : ReplayTask = task_of k s in
@@ -260,7 +271,7 @@ module _ (trace : Trace) (facts : Facts trace) (i : ℕ) (less : i < trace.cpus)
               let w : Writer = writer_in context t in
               let p = wrote_page s.ratelimit_pages c.local w in
               let moved = page_moved s.ratelimit_pages c.local w in
-              let y : ReplayTask = counted_page s.ratelimit_pages context c.local (record t { works = without_page inode page pages more }) in
+              let y : ReplayTask = counted_page s.ratelimit_pages context c.local (passed_page inode page pages more t) in
               let c1 : Cpu = record c { local = p.local; entries = c.entries ++ entry.Write k page true ∷ [] } in
               let tasks = sum_set dirtied_of s.tasks k y no_task there in
               let cpus = sum_set leaks_of s.cpus i c1 no_cpu at in
@@ -272,15 +283,15 @@ module _ (trace : Trace) (facts : Facts trace) (i : ℕ) (less : i < trace.cpus)
 
       -- ---- either
 
-      page_done : Ready trace i s → Free trace i 2 s → (cpu_of i s).local.since_check ≤ length s.steps → Done trace i (dirty_page trace i k inode page (with_task k (record (task_of k s) { works = without_page inode page pages more }) s))
+      page_done : ReadyToWrite trace i s → Free trace i 2 s → (cpu_of i s).local.since_check ≤ length s.steps → Done trace i (dirty_page trace i k inode page (with_task k (passed_page inode page pages more (task_of k s)) s))
       page_done ready free since = either (Done trace i) (s.book page).dirty
-          (with_step (plain_entry i kind.Dirty) (record s { tasks = set s.tasks k (record (task_of k s) { works = without_page inode page pages more }); cpus = set s.cpus i (record (cpu_of i s) { entries = (cpu_of i s).entries ++ entry.Write k page false ∷ [] }) }))
-          (dirty_fresh trace i k inode page (with_task k (record (task_of k s) { works = without_page inode page pages more }) s))
+          (with_step (plain_entry i kind.Dirty) (record s { tasks = set s.tasks k (passed_page inode page pages more (task_of k s)); cpus = set s.cpus i (record (cpu_of i s) { entries = (cpu_of i s).entries ++ entry.Write k page false ∷ [] }) }))
+          (dirty_fresh trace i k inode page (with_task k (passed_page inode page pages more (task_of k s)) s))
           (λ dirty. again_done ready free)
           (λ clean. fresh_done ready free since)
 
-  pub write_at : (works : List ReplayWork) → (task_of k s).works ≡ works → WritesNext works → (writer_of (task_of k s)).due ≡ due.No → Ready trace i s → Free trace i 2 s → (cpu_of i s).local.since_check ≤ length s.steps
+  pub write_at : (works : List ReplayWork) → (task_of k s).works ≡ works → WritesNext works → (writer_of (task_of k s)).due ≡ due.No → pause_in (task_of k s) ≡ None → ReadyToWrite trace i s → Free trace i 2 s → (cpu_of i s).local.since_check ≤ length s.steps
       → Done trace i (dirty_next trace i k works s)
-  write_at [] e h not_due ready free since = absurd h
-  write_at (work.Rest ticks ∷ more) e h not_due ready free since = absurd h
-  write_at (work.Write inode page pages ∷ more) e h not_due ready free since = page_done inode page pages more e not_due ready free since
+  write_at [] e h not_due going_on ready free since = absurd h
+  write_at (work.Rest ticks ∷ more) e h not_due going_on ready free since = absurd h
+  write_at (work.Write inode page pages ∷ more) e h not_due going_on ready free since = page_done inode page pages more e going_on not_due ready free since

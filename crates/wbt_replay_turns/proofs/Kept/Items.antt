@@ -10,6 +10,7 @@ use Rattle.wbt_expiry.specs.Waiting.{Waiting as Wheel}
 use Rattle.wbt_expiry.specs.declared.due.Due.{Due}
 use Rattle.wbt_flex.specs.Proportions.{fraction_of, may_be_added, after_period}
 use Rattle.wbt_flex.specs.declared.half.Half.{Half}
+use Rattle.wbt_rules.specs.Places.{page_of}
 use Rattle.wbt_rules.specs.Things.{context_of, group_of, flusher_device, max_share}
 use Rattle.wbt_trace.specs.declared.trace.Trace.{Trace}
 use Rattle.wbt_replay_moves.specs.Definition.Check.{decide_by, writer_of}
@@ -21,7 +22,7 @@ use Rattle.wbt_replay_moves.specs.Definition.Perform.{make_step, make_move, make
 use Rattle.wbt_replay_moves.specs.Definition.Scan.{look_by, look_in, claim_by, claim_in, claim_now, close_by, close_in, is_over, hand_over_by, hand_over_in, land_empty}
 use Rattle.wbt_replay_moves.specs.Definition.State.{State, cpu_of, flusher_of, task_of, with_task, domain_of, writeback_of, queue_of, in_phase}
 use Rattle.wbt_replay_moves.specs.Definition.Timer.{period_to, is_time, periods}
-use Rattle.wbt_replay_moves.specs.Definition.Writer.{without_page, dirty_by, dirty_next, dirty_page, dirty_fresh, mark, end_by, end_now, has_nothing}
+use Rattle.wbt_replay_moves.specs.Definition.Writer.{passed_page, dirty_by, dirty_next, dirty_page, dirty_fresh, mark, end_by, end_now, has_nothing}
 use Rattle.wbt_replay_moves.specs.declared.state.Actor.{Actor}
 use Rattle.wbt_replay_moves.specs.declared.state.ReplayPhase.{ReplayPhase}
 use Rattle.wbt_replay_moves.specs.declared.state.ReplayPhase.TheVariants as phase
@@ -82,7 +83,7 @@ apart_next : (trace : Trace) (cpu task : ℕ) (works : List ReplayWork) (s : Sta
 apart_next trace cpu task [] s = refl
 apart_next trace cpu task (work.Rest ticks ∷ works) s = refl
 apart_next trace cpu task (work.Write inode page pages ∷ works) s =
-    apart_page trace cpu task inode page (with_task task (record (task_of task s) { works = without_page inode page pages works }) s)
+    apart_page trace cpu task inode page (with_task task (passed_page inode page pages works (task_of task s)) s)
 
 apart_dirty : (trace : Trace) (cpu : ℕ) (w : Whose) (s : State) → Apart s (dirty_by trace cpu w s)
 apart_dirty trace cpu (whose.Task task) s = apart_next trace cpu task (task_of task s).works s
@@ -107,7 +108,7 @@ apart_unmark trace cpu (whose.Flusher flusher) s = apart_unmark_in trace cpu flu
 apart_unmark trace cpu (whose.Task task) s = refl
 
 apart_look_in : (cpu flusher : ℕ) (p : ReplayPhase) (s : State) → Apart s (look_in cpu flusher p s)
-apart_look_in cpu flusher (phase.Scanning scan) s = both_apart s (is_claimable (s.book scan.page)) _ _ refl refl
+apart_look_in cpu flusher (phase.Scanning scan) s = both_apart s (is_claimable (s.book (page_of scan))) _ _ refl refl
 apart_look_in cpu flusher (phase.Taken inode) s = refl
 apart_look_in cpu flusher (phase.Idle until kept) s = refl
 apart_look_in cpu flusher (phase.Flying inode pages until) s = refl
@@ -119,7 +120,7 @@ apart_look cpu (whose.Task task) s = refl
 
 apart_claim_in : (cpu flusher word : ℕ) (p : ReplayPhase) (s : State) → Apart s (claim_in cpu flusher word p s)
 apart_claim_in cpu flusher word (phase.Scanning scan) s =
-    both_apart s (eqb (shared_word s.book scan.page) word) (claim_now cpu flusher scan s) s refl refl
+    both_apart s (eqb (shared_word s.book (page_of scan)) word) (claim_now cpu flusher scan s) s refl refl
 apart_claim_in cpu flusher word (phase.Taken inode) s = refl
 apart_claim_in cpu flusher word (phase.Idle until kept) s = refl
 apart_claim_in cpu flusher word (phase.Flying inode pages until) s = refl
@@ -205,7 +206,7 @@ apart_test trace cpu turn (whose.Task task) s = refl
 
 apart_close_in : (trace : Trace) (cpu flusher : ℕ) (p : ReplayPhase) (s : State) → Apart s (close_in trace cpu flusher p s)
 apart_close_in trace cpu flusher (phase.Scanning scan) s =
-    both_apart s (is_over trace scan (length (flusher_of flusher s).batch)) _ s refl refl
+    both_apart s (is_over scan (length (flusher_of flusher s).batch)) _ s refl refl
 apart_close_in trace cpu flusher (phase.Taken inode) s = refl
 apart_close_in trace cpu flusher (phase.Idle until kept) s = refl
 apart_close_in trace cpu flusher (phase.Flying inode pages until) s = refl

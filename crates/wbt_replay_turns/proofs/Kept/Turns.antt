@@ -1,5 +1,5 @@
 -- The beginning of a CPU's turn leaves the clock, the order lines, the rotation and the timer alone.
-use Rattle.std.proofs.Common.{ℕ, List, [], ◌∷◌, length, get_or, refl, ap}
+use Rattle.std.proofs.Common.{ℕ, List, [], ◌∷◌, length, get_or, refl, ap, Option, None, Some}
 use Rattle.wbt_task.specs.declared.allowance.Due.{Due}
 use Rattle.wbt_task.specs.declared.allowance.Due.TheVariants as due
 use Rattle.wbt_trace.specs.declared.trace.Trace.{Trace}
@@ -8,7 +8,7 @@ use Rattle.wbt_replay_moves.specs.Definition.Cpu.{at_turn}
 use Rattle.wbt_replay_moves.specs.Definition.Idle.{take_last}
 use Rattle.wbt_replay_moves.specs.Definition.Perform.{begin_turn, begin_for, begin_phase}
 use Rattle.wbt_replay_moves.specs.Definition.State.{State, cpu_of, with_cpu, flusher_of, task_of, is_drained, waiting_of}
-use Rattle.wbt_replay_moves.specs.Definition.Writer.{begin_due, begin_work}
+use Rattle.wbt_replay_moves.specs.Definition.Writer.{begin_due, pause_in, begin_page, begin_work}
 use Rattle.wbt_replay_moves.specs.declared.state.Actor.{Actor}
 use Rattle.wbt_replay_moves.specs.declared.state.Actor.TheVariants as who
 use Rattle.wbt_replay_moves.specs.declared.state.Cpu.{Cpu}
@@ -23,10 +23,14 @@ use Rattle.wbt_replay_moves.specs.declared.state.Whose.TheVariants as whose
 use Rattle.wbt_replay_order.specs.Definition.Order.{after, job_at, begin_job, begin}
 use Rattle.wbt_replay_turns.proofs.Kept.Items.{Outside, Kept, Apart, both_apart, apart_take_last}
 
+apart_page : (cpu task : ℕ) (pause : Option ℕ) (s : State) → Apart s (begin_page cpu task pause s)
+apart_page cpu task None s = refl
+apart_page cpu task (Some ticks) s = refl
+
 apart_work : (cpu task : ℕ) (works : List ReplayWork) (s : State) → Apart s (begin_work cpu task works s)
 apart_work cpu task [] s = refl
 apart_work cpu task (work.Rest ticks ∷ works) s = refl
-apart_work cpu task (work.Write inode page pages ∷ works) s = refl
+apart_work cpu task (work.Write inode page pages ∷ works) s = apart_page cpu task (pause_in (task_of task s)) s
 
 apart_due : (trace : Trace) (cpu task : ℕ) (d : Due) (s : State) → Apart s (begin_due trace cpu task d s)
 apart_due trace cpu task due.Check s = refl

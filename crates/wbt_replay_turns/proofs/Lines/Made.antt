@@ -9,6 +9,7 @@ use Rattle.wbt_counter.specs.declared.counter.Counter.TheVariants.{Domain as ofD
 use Rattle.wbt_journal.specs.Machine.{batch_of}
 use Rattle.wbt_journal.specs.declared.entry.Entry.{Entry}
 use Rattle.wbt_journal.specs.declared.entry.Entry.TheVariants as entry
+use Rattle.wbt_rules.specs.Places.{page_of}
 use Rattle.wbt_rules.specs.Things.{context_of, group_of}
 use Rattle.wbt_rules.specs.declared.scan.Scan.{Scan}
 use Rattle.wbt_trace.specs.declared.trace.Trace.{Trace}
@@ -19,7 +20,7 @@ use Rattle.wbt_replay_moves.specs.Definition.Idle.{unmark_by, unmark_in}
 use Rattle.wbt_replay_moves.specs.Definition.Perform.{make_step}
 use Rattle.wbt_replay_moves.specs.Definition.Scan.{look_by, look_in, claim_by, claim_in, claim_now}
 use Rattle.wbt_replay_moves.specs.Definition.State.{State, no_cpu, cpu_of, with_cpu, flusher_of, task_of, with_event, with_task}
-use Rattle.wbt_replay_moves.specs.Definition.Writer.{without_page, count_page, dirty_by, dirty_next, dirty_page, dirty_fresh, mark}
+use Rattle.wbt_replay_moves.specs.Definition.Writer.{passed_page, count_page, dirty_by, dirty_next, dirty_page, dirty_fresh, mark}
 use Rattle.wbt_replay_moves.specs.declared.state.Cpu.{Cpu}
 use Rattle.wbt_replay_moves.specs.declared.state.ReplayPhase.{ReplayPhase}
 use Rattle.wbt_replay_moves.specs.declared.state.ReplayPhase.TheVariants as phase
@@ -99,7 +100,7 @@ made_next : (trace : Trace) (cpu task : ℕ) (works : List ReplayWork) (s : Stat
 made_next trace cpu task [] s = still s
 made_next trace cpu task (work.Rest ticks ∷ works) s = still s
 made_next trace cpu task (work.Write inode page pages ∷ works) s =
-    made_page trace cpu task inode page (with_task task (record (task_of task s) { works = without_page inode page pages works }) s)
+    made_page trace cpu task inode page (with_task task (passed_page inode page pages works (task_of task s)) s)
 
 made_dirty : (trace : Trace) (cpu : ℕ) (w : Whose) (s : State) → SameMade s (dirty_by trace cpu w s)
 made_dirty trace cpu (whose.Task task) s = made_next trace cpu task (task_of task s).works s
@@ -123,7 +124,7 @@ made_unmark trace cpu (whose.Task task) s = still s
 
 made_look_in : (cpu flusher : ℕ) (p : ReplayPhase) (s : State) → SameMade s (look_in cpu flusher p s)
 made_look_in cpu flusher (phase.Scanning scan) s =
-    either (SameMade s) (is_claimable (s.book scan.page)) _ _ (λ can. at_cpu cpu _ s refl) (λ no. at_cpu cpu _ s refl)
+    either (SameMade s) (is_claimable (s.book (page_of scan))) _ _ (λ can. at_cpu cpu _ s refl) (λ no. at_cpu cpu _ s refl)
 made_look_in cpu flusher (phase.Taken inode) s = still s
 made_look_in cpu flusher (phase.Idle until kept) s = still s
 made_look_in cpu flusher (phase.Flying inode pages until) s = still s
@@ -135,12 +136,12 @@ made_look cpu (whose.Task task) s = still s
 
 made_claim_now : (cpu flusher : ℕ) (scan : Scan) (s : State) → SameMade s (claim_now cpu flusher scan s)
 made_claim_now cpu flusher scan s =
-    let u = log_at cpu (entry.Claimed flusher scan.page) s in
-    then_so s u (then_do cpu (todo.Silent silent.Close ∷ []) u) (made_log cpu (entry.Claimed flusher scan.page) s) (made_do cpu (todo.Silent silent.Close ∷ []) u)
+    let u = log_at cpu (entry.Claimed flusher (page_of scan)) s in
+    then_so s u (then_do cpu (todo.Silent silent.Close ∷ []) u) (made_log cpu (entry.Claimed flusher (page_of scan)) s) (made_do cpu (todo.Silent silent.Close ∷ []) u)
 
 made_claim_in : (cpu flusher word : ℕ) (p : ReplayPhase) (s : State) → SameMade s (claim_in cpu flusher word p s)
 made_claim_in cpu flusher word (phase.Scanning scan) s =
-    either (SameMade s) (eqb (shared_word s.book scan.page) word) (claim_now cpu flusher scan s) s (λ same. made_claim_now cpu flusher scan s) (λ other. still s)
+    either (SameMade s) (eqb (shared_word s.book (page_of scan)) word) (claim_now cpu flusher scan s) s (λ same. made_claim_now cpu flusher scan s) (λ other. still s)
 made_claim_in cpu flusher word (phase.Taken inode) s = still s
 made_claim_in cpu flusher word (phase.Idle until kept) s = still s
 made_claim_in cpu flusher word (phase.Flying inode pages until) s = still s

@@ -1,5 +1,5 @@
 -- A turn that a CPU begins: what it has to do comes to the steps of a turn.
-use Rattle.std.proofs.Common.{◌≡◌, ℕ, ◌+◌, ◌<◌, List, [], ◌∷◌, ◌++◌, length, get_or, refl, sym, subst}
+use Rattle.std.proofs.Common.{◌≡◌, ℕ, ◌+◌, ◌<◌, List, [], ◌∷◌, ◌++◌, length, get_or, refl, sym, subst, Option, None, Some}
 use Rattle.std.proofs.lemmas.List.{append-nil}
 use Rattle.wbt_expiry.specs.declared.due.Due.{Due}
 use Rattle.wbt_journal.specs.Machine.{domains}
@@ -13,7 +13,7 @@ use Rattle.wbt_replay_moves.specs.Definition.Cpu.{at_turn, then_do, do_last_at, 
 use Rattle.wbt_replay_moves.specs.Definition.Idle.{take_last, take_or_finish, finish, begin_test, domain_loads, measures_of, weighs_of, with_pairs}
 use Rattle.wbt_replay_moves.specs.Definition.Perform.{begin_turn, begin_for, begin_phase}
 use Rattle.wbt_replay_moves.specs.Definition.State.{State, cpu_of, with_cpu, flusher_of, task_of, with_task, queue_of, with_queue, in_phase, is_drained, waiting_of}
-use Rattle.wbt_replay_moves.specs.Definition.Writer.{begin_due, begin_work, check_items}
+use Rattle.wbt_replay_moves.specs.Definition.Writer.{begin_due, pause_in, begin_page, begin_work, check_items}
 use Rattle.wbt_replay_moves.specs.declared.state.Actor.TheVariants as who
 use Rattle.wbt_replay_moves.specs.declared.state.Cpu.{Cpu}
 use Rattle.wbt_replay_moves.specs.declared.state.ReplayJob.{ReplayJob}
@@ -51,10 +51,14 @@ module _ (trace : Trace) (i : ℕ) (s : State) (there : i < length s.cpus) where
   opens_none : (u : State) → Todos i [] s u → Opens trace i s u
   opens_none u h = record { items = []; fits = fits_none trace; todos = h }
 
+  opens_page : (task : ℕ) (pause : Option ℕ) (u : State) → Todos i [] s u → Opens trace i s (begin_page i task pause u)
+  opens_page task None u h = opens_with (todo.Step step.Dirty ∷ todo.Silent silent.End ∷ []) (fits_write trace) u h
+  opens_page task (Some ticks) u h = opens_with (todo.Silent silent.End ∷ []) (fits_end trace) (with_task task (record (task_of task u) { since = 0; rest = u.now + ticks }) u) h
+
   opens_work : (task : ℕ) (works : List ReplayWork) (u : State) → Todos i [] s u → Opens trace i s (begin_work i task works u)
   opens_work task [] u h = opens_with (todo.Silent silent.End ∷ []) (fits_end trace) u h
   opens_work task (work.Rest ticks ∷ works) u h = opens_with (todo.Silent silent.End ∷ []) (fits_end trace) (with_task task (record (task_of task u) { works = works; rest = u.now + ticks }) u) h
-  opens_work task (work.Write inode page pages ∷ works) u h = opens_with (todo.Step step.Dirty ∷ todo.Silent silent.End ∷ []) (fits_write trace) u h
+  opens_work task (work.Write inode page pages ∷ works) u h = opens_page task (pause_in (task_of task u)) u h
 
   opens_due : (task : ℕ) (d : IsDue) (u : State) → Todos i [] s u → Opens trace i s (begin_due trace i task d u)
   opens_due task due.Check u h =

@@ -11,6 +11,7 @@ use Rattle.wbt_grant.specs.declared.who.StepKind.TheVariants as kind
 use Rattle.wbt_journal.specs.Machine.{batch_of}
 use Rattle.wbt_journal.specs.declared.entry.Entry.TheVariants as entry
 use Rattle.wbt_journal.specs.declared.step.StepEntry.{StepEntry}
+use Rattle.wbt_rules.specs.Places.{page_of}
 use Rattle.wbt_rules.specs.Things.{context_of, group_of}
 use Rattle.wbt_trace.specs.declared.trace.Trace.{Trace}
 use Rattle.wbt_replay_moves.specs.Definition.Counters.{add, fold, clear}
@@ -20,7 +21,7 @@ use Rattle.wbt_replay_moves.specs.Definition.Idle.{unmark_by, unmark_in}
 use Rattle.wbt_replay_moves.specs.Definition.Perform.{make_step}
 use Rattle.wbt_replay_moves.specs.Definition.Scan.{look_by, look_in, claim_by, claim_in, claim_now}
 use Rattle.wbt_replay_moves.specs.Definition.State.{State, cpu_of, with_cpu, flusher_of, task_of, with_event, with_task, plain_step}
-use Rattle.wbt_replay_moves.specs.Definition.Writer.{without_page, count_page, dirty_by, dirty_next, dirty_page, dirty_fresh, mark}
+use Rattle.wbt_replay_moves.specs.Definition.Writer.{passed_page, count_page, dirty_by, dirty_next, dirty_page, dirty_fresh, mark}
 use Rattle.wbt_replay_moves.specs.declared.state.Cpu.{Cpu}
 use Rattle.wbt_replay_moves.specs.declared.state.ReplayPhase.{ReplayPhase}
 use Rattle.wbt_replay_moves.specs.declared.state.ReplayPhase.TheVariants as phase
@@ -131,10 +132,10 @@ module _ (trace : Trace) (i : ℕ) (s : State) (there : i < length s.cpus) where
 
   does_look_in : (f : ℕ) (p : ReplayPhase) → Does i step.Look s (look_in i f p s)
   does_look_in f (phase.Scanning scan) =
-      either (λ (u : State). Does i step.Look s (plain_step i kind.Look u)) (is_claimable (s.book scan.page)) _ _
-      (λ can. does (todo.Step (step.Claim (shared_word s.book scan.page)) ∷ []) kind.Look _ refl refl refl
-      (λ w h. let is = single (todo.Step (step.Claim (shared_word s.book scan.page))) w h in (w, inr is, refl))
-      (then_next i s there (cpu_of i s).todo (todo.Step (step.Claim (shared_word s.book scan.page)) ∷ []) s (as_before i s)))
+      either (λ (u : State). Does i step.Look s (plain_step i kind.Look u)) (is_claimable (s.book (page_of scan))) _ _
+      (λ can. does (todo.Step (step.Claim (shared_word s.book (page_of scan))) ∷ []) kind.Look _ refl refl refl
+      (λ w h. let is = single (todo.Step (step.Claim (shared_word s.book (page_of scan)))) w h in (w, inr is, refl))
+      (then_next i s there (cpu_of i s).todo (todo.Step (step.Claim (shared_word s.book (page_of scan))) ∷ []) s (as_before i s)))
       (λ no. does (todo.Silent silent.Close ∷ []) kind.Look _ refl refl refl
       (λ w h. (w, inl (single (todo.Silent silent.Close) w h), refl))
       (then_next i s there (cpu_of i s).todo (todo.Silent silent.Close ∷ []) s (as_before i s)))
@@ -145,10 +146,10 @@ module _ (trace : Trace) (i : ℕ) (s : State) (there : i < length s.cpus) where
 
   does_claim_in : (f word : ℕ) (p : ReplayPhase) → Does i (step.Claim word) s (claim_in i f word p s)
   does_claim_in f word (phase.Scanning scan) =
-      either (λ (v : State). Does i (step.Claim word) s (plain_step i kind.Claim v)) (eqb (shared_word s.book scan.page) word) (claim_now i f scan s) s
+      either (λ (v : State). Does i (step.Claim word) s (plain_step i kind.Claim v)) (eqb (shared_word s.book (page_of scan)) word) (claim_now i f scan s) s
       (λ hit. does (todo.Silent silent.Close ∷ []) kind.Claim _ refl refl refl
       (λ w h. (w, single (todo.Silent silent.Close) w h, refl))
-      (then_next i s there (cpu_of i s).todo (todo.Silent silent.Close ∷ []) (log_at i (entry.Claimed f scan.page) s) (then_log i s there (cpu_of i s).todo (entry.Claimed f scan.page) s (as_before i s))))
+      (then_next i s there (cpu_of i s).todo (todo.Silent silent.Close ∷ []) (log_at i (entry.Claimed f (page_of scan)) s) (then_log i s there (cpu_of i s).todo (entry.Claimed f (page_of scan)) s (as_before i s))))
       (λ missed. does [] kind.Claim _ refl refl refl (λ w h. (w, inl h, refl)) (as_before i s))
   does_claim_in f word (phase.Taken inode) = nothing refl
   does_claim_in f word (phase.Idle until kept) = nothing refl
@@ -199,9 +200,9 @@ module _ (trace : Trace) (i : ℕ) (s : State) (there : i < length s.cpus) where
   does_next task [] = nothing refl
   does_next task (work.Rest ticks ∷ works) = nothing refl
   does_next task (work.Write inode page pages ∷ works) =
-      as_of (does_page trace i (with_task task (record (task_of task s) { works = without_page inode page pages works }) s) there task inode page)
+      as_of (does_page trace i (with_task task (passed_page inode page pages works (task_of task s)) s) there task inode page)
     where
-      as_of : {u : State} → Does i step.Dirty (with_task task (record (task_of task s) { works = without_page inode page pages works }) s) u → Does i step.Dirty s u
+      as_of : {u : State} → Does i step.Dirty (with_task task (passed_page inode page pages works (task_of task s)) s) u → Does i step.Dirty s u
       as_of (nothing same) = nothing same
       as_of (does items k e steps by is yields todos) = does items k e steps by is yields todos
 

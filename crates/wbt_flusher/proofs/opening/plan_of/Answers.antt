@@ -10,7 +10,7 @@ pub returns-clause-plan : goal.returns-clause-plan
 returns-clause-plan c =
     let trace = c.args.trace.now in
     let d : FlusherLine = record { device = 0; cpu = 0 } in
-    let e : Device = record { rate = 0; min = 0; max = 0; strict = false; chunk = None } in
+    let e : Device = record { rate = 0; min = 0; max = 0; strict = false; chunk = None; cyclic = false } in
     let line = slice_index_or c.as_slice.result.now c.args.flusher d in
     let of : line.device < length trace.devices =
     subst (λ (l : List FlusherLine). (slice_index_or l c.args.flusher d).device < length trace.devices) (sym c.as_slice.ensures) (c.requires.lawful.within.flushers c.args.flusher d c.requires.there).0 in
@@ -23,7 +23,7 @@ pub returns-clause-of : goal.returns-clause-of
 returns-clause-of c =
     let trace = c.args.trace.now in
     let d : FlusherLine = record { device = 0; cpu = 0 } in
-    let e : Device = record { rate = 0; min = 0; max = 0; strict = false; chunk = None } in
+    let e : Device = record { rate = 0; min = 0; max = 0; strict = false; chunk = None; cyclic = false } in
     let line = slice_index_or c.as_slice.result.now c.args.flusher d in
     let of : line.device < length trace.devices =
     subst (λ (l : List FlusherLine). (slice_index_or l c.args.flusher d).device < length trace.devices) (sym c.as_slice.ensures) (c.requires.lawful.within.flushers c.args.flusher d c.requires.there).0 in

@@ -8,7 +8,7 @@ use Rattle.wbt_replay.proofs.Ordering.Opened.{doing_nothing, ended_are_first, ma
 use Rattle.wbt_replay.proofs.opening.first_tasks.Goals as goal
 
 pub loop-action-init : goal.loop-action-init
-loop-action-init c = let trace = c.args.trace.now in c.in_ok-tasks.ensures ∙ sym (doing_nothing trace (length trace.tasks))
+loop-action-init c = let trace = c.args.trace.now in c.in_ok-tasks.ensures ∙ sym (doing_nothing trace)
 
 pub put_work-requires-clause-many : goal.put_work-requires-clause-many
 put_work-requires-clause-many c =

@@ -1,6 +1,7 @@
-use Rattle.std.proofs.Common.{◌≡◌, replicate, []}
+use Rattle.std.proofs.Common.{◌≡◌, [], map, take}
+use Rattle.wbt_trace.specs.declared.trace.TaskLine.{TaskLine}
 use Rattle.wbt_replay_order.specs.Kept.Opens.{task_with}
 use Rattle.wbt_replay.proofs.opening.idle_tasks.Given as goal
 
-abbrev pub invariant-loop : goal.invariant-loop
-invariant-loop l = l.tasks.items ≡ replicate l.counter (task_with l.trace [])
+abbrev pub invariant-loop-line : goal.invariant-loop-line
+invariant-loop-line l = l.tasks.items ≡ map (λ (line : TaskLine). task_with l.trace line.pace []) (take l.line-index l.trace.tasks)

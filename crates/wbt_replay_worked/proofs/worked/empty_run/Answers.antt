@@ -12,6 +12,7 @@ use Rattle.wbt_task.specs.History.{new_writer}
 use Rattle.wbt_rules.specs.Age.{ages_in}
 use Rattle.wbt_rules.specs.First.{first_estimate}
 use Rattle.wbt_rules.specs.Flusher.{quota_of}
+use Rattle.wbt_rules.specs.Places.{page_at}
 use Rattle.wbt_rules.specs.Strict.{is_strict}
 use Rattle.wbt_replay_moves.specs.Definition.Idle.{domain_loads, measures_of, weighs_of}
 use Rattle.wbt_replay_moves.specs.Definition.Perform.{make_step, make_move, make_timer_step, make_timer_move}
@@ -24,5 +25,5 @@ use Rattle.wbt_replay_worked.specs.Worked.{EmptyRun}
 use Rattle.wbt_replay_worked.proofs.worked.empty_run.Goals as goal
 
 pub returns : goal.returns
-unfolding ages_in EmptyRun journal_of opening run seek_turn seek_job task_turn tasks_sooner flushers_sooner make_step make_move make_timer_step make_timer_move domain_turns domain_periods domain_loads measures_of weighs_of new_writer first page_after ended first_at first_estimate quota_of updated update_of polynom_value position_ratio is_strict thresholds_of threshold global_threshold background_below domain_batch context_batch log2 halvings packed_pages journal_lines digits
+unfolding ages_in EmptyRun journal_of opening run seek_turn seek_job task_turn tasks_sooner flushers_sooner make_step make_move make_timer_step make_timer_move domain_turns domain_periods domain_loads measures_of weighs_of new_writer first page_after ended first_at first_estimate quota_of page_at updated update_of polynom_value position_ratio is_strict thresholds_of threshold global_threshold background_below domain_batch context_batch log2 halvings packed_pages journal_lines digits
 returns c = refl

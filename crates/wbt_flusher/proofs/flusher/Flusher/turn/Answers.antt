@@ -27,7 +27,7 @@ pub returns-in-Err-clause-answers : goal.returns-in-Err-clause-answers
 returns-in-Err-clause-answers g c =
     let s = c.reserve.ensures.same in
     record {
-      left = record { phase = s.phase; batch = s.batch; faults = s.faults; hard = s.hard; tallies = s.tallies; wheel = s.wheel; cpu = refl; share = refl; est = refl; log = c.close.ensures ∙ c.reserve.ensures.log ∙ c.open-pen.ensures };
+      left = record { phase = s.phase; batch = s.batch; faults = s.faults; hard = s.hard; tallies = s.tallies; wheel = s.wheel; places = s.places; cpu = refl; share = refl; est = refl; log = c.close.ensures ∙ c.reserve.ensures.log ∙ c.open-pen.ensures };
       queue = refl;
       waiting = s.waiting;
       some_wait = s.some_wait;
@@ -70,8 +70,8 @@ returns-in-Ok-clause-answers g c =
     let first : (moments : Moments) → Went plan kit moments old put =
     λ moments. went_more plan kit moments old mid put (reserved moments) (c.put_waiting.ensures.goes moments pen written) in
     let left : IsLeft old put = left_more old mid put
-    (record { phase = s.phase; batch = s.batch; faults = s.faults; hard = s.hard; tallies = s.tallies; wheel = s.wheel; cpu = refl; share = refl; est = refl; log = log })
-    (record { phase = o.phase; batch = λ i. (o.batch i).items; faults = o.faults; hard = o.hard; tallies = o.tallies; wheel = o.wheel; cpu = q.cpu; share = q.share; est = q.est; log = refl }) in
+    (record { phase = s.phase; batch = s.batch; faults = s.faults; hard = s.hard; tallies = s.tallies; wheel = s.wheel; places = s.places; cpu = refl; share = refl; est = refl; log = log })
+    (record { phase = o.phase; batch = λ i. (o.batch i).items; faults = o.faults; hard = o.hard; tallies = o.tallies; wheel = o.wheel; places = o.places; cpu = q.cpu; share = q.share; est = q.est; log = refl }) in
     let new = sight t.new.self.work t.new.seats t.new.pen.log behind in
     subst (λ (l : CpuJournal). FlusherAnswers plan kit drain told said risen t.result old (sight t.new.self.work t.new.seats l behind)) (sym c.close-in-Ok.ensures)
     (as_answers plan kit drain told said risen t.result old new (answers_after plan kit drain told said risen old put new first left t.result t.ensures.answers))
@@ -92,8 +92,8 @@ returns-in-Ok-clause-took g c is =
     record {
       put = put;
       left = left_more (sight c.args.self.now.work seats c.args.log.now written) (sight c.reserve.new.work seats pen written) put
-          (record { phase = s.phase; batch = s.batch; faults = s.faults; hard = s.hard; tallies = s.tallies; wheel = s.wheel; cpu = refl; share = refl; est = refl; log = c.reserve.ensures.log ∙ c.open-pen.ensures })
-          (record { phase = o.phase; batch = λ i. (o.batch i).items; faults = o.faults; hard = o.hard; tallies = o.tallies; wheel = o.wheel; cpu = q.cpu; share = q.share; est = q.est; log = refl });
+          (record { phase = s.phase; batch = s.batch; faults = s.faults; hard = s.hard; tallies = s.tallies; wheel = s.wheel; places = s.places; cpu = refl; share = refl; est = refl; log = c.reserve.ensures.log ∙ c.open-pen.ensures })
+          (record { phase = o.phase; batch = λ i. (o.batch i).items; faults = o.faults; hard = o.hard; tallies = o.tallies; wheel = o.wheel; places = o.places; cpu = q.cpu; share = q.share; est = q.est; log = refl });
       puts = subst (λ (l : List Bool). PutsBefore plan kit (length plan.inodes) seats.queue p.seats.queue l p.work.waiting.items p.work.some_wait)
           (λ i. (s.waiting i).items) c.put_waiting.ensures.puts;
       took = subst (λ (l : CpuJournal). Took plan kit c.args.drain (g.C.Clock.told c.args.hands.now.clock.now) (g.G.Gate.said c.args.hands.now.gate.now) put

@@ -48,7 +48,7 @@ returns-clause-begins g c so log written =
       reads = subst (λ (s : est.Seats). ReadsEstimate kit.published.firsts (context_of plan c.args.inode) newest s c.set_quota.new.seats.est) u.only.est q.quota.1;
       share = q.only_est.share ∙ u.only.share;
       queue_is = q.only_est.queue ∙ u.only.queue;
-      work = q.quota.2 ∙ ap (λ (w : FlusherWork). record w { phase = begun_scan plan c.args.inode (quota_of plan.shares newest.avg w.hard) }) u.begun;
+      work = q.quota.2 ∙ ap (λ (w : FlusherWork). record w { phase = begun_scan plan w c.args.inode (quota_of plan.shares newest.avg w.hard) }) u.begun;
     }
 
 -- ---- kinds of steps

@@ -4,11 +4,11 @@ use Rattle.wbt_flusher.specs.Did.{Moments, no_moments}
 use Rattle.wbt_flusher.specs.Sights.{sight}
 use Rattle.wbt_kit.specs.declared.turn.Turn.TheVariants.{Halted, Stepped}
 use Rattle.wbt_rules.specs.declared.moments.TheConstants.{MOST_FAULTS}
-use Rattle.wbt_flusher.specs.Turns.{IsPhase, IsScan}
+use Rattle.wbt_flusher.specs.Turns.{IsPhase}
 use Rattle.wbt_flusher.proofs.Faulting.{not_last, rise_from, turned_back}
 use Rattle.wbt_flusher.specs.declared.work.FlusherWork.{FlusherWork}
 use Rattle.wbt_flusher.specs.declared.work.Phase.{Phase}
-use Rattle.wbt_flusher.proofs.Ending.{scan_stands, told_none, opens_still, stepped_ends, steps_from}
+use Rattle.wbt_flusher.proofs.Ending.{scan_stands, told_none, kept_open, stepped_ends, steps_from}
 use Rattle.wbt_flusher.proofs.Going.{went_more, holds_went, rooms_went, owes_still}
 use Rattle.std.proofs.lemmas.Bool.{eqb-true}
 use Rattle.wbt_flusher.proofs.Flown.{none_there, some_there}
@@ -27,14 +27,15 @@ returns-then-is_empty-clause-ends g c =
     let written = g.D.Disk.written c.args.disk.now in
     let log = c.args.pen.now.log in
     let m = c.mark_again in
-    let still = opens_still c.args.self.now c.args.hands.now.kit.now c.args.scan c.args.seats.now m.new.seats c.args.work.now m.new.work c.requires.open m.ensures.goes m.ensures.lists m.ensures.only_waiting m.ensures.debts in
+    let k = c.keep_place in
+    let kept = kept_open c.args.self.now c.args.hands.now.kit.now c.args.scan c.args.seats.now m.new.seats c.args.work.now m.new.work k.new.work c.requires.open m.ensures.goes m.ensures.lists m.ensures.only_waiting m.ensures.debts k.ensures.keeps k.ensures.lists in
     record {
       moments = no_moments;
       all_told = told_none (g.C.Clock.told c.args.hands.now.clock.now);
       estimates_none = refl;
       does = stepped_ends c.args.self.now c.args.hands.now.kit.now no_moments (g.G.Gate.said c.args.hands.now.gate.now) _ c.close_empty.result
-          (sight c.args.work.now c.args.seats.now log written) (sight c.mark_again.new.work c.mark_again.new.seats log written) (sight c.close_empty.new.work c.mark_again.new.seats log written) c.close_empty.ensures.stepped
-          (c.mark_again.ensures.goes no_moments log written) (c.close_empty.ensures.steps c.args.hands.now.kit.now m.new.seats still (m.ensures.paid c.if-not-mark_again.false) no_moments log written);
+          (sight c.args.work.now c.args.seats.now log written) (sight k.new.work m.new.seats log written) (sight c.close_empty.new.work m.new.seats log written) c.close_empty.ensures.stepped
+          (kept.goes no_moments log written) (c.close_empty.ensures.steps c.args.hands.now.kit.now m.new.seats kept.opened (m.ensures.paid c.if-not-mark_again.false) no_moments log written);
     }
 
 pub returns-in-Flies-clause-ends : goal.returns-in-Flies-clause-ends
@@ -44,6 +45,8 @@ returns-in-Flies-clause-ends g c =
     let was = c.args.work.now in
     let log = c.args.pen.now.log in
     let m = c.mark_again in
+    let k = c.keep_place in
+    let kept = kept_open plan kit c.args.scan c.args.seats.now m.new.seats was m.new.work k.new.work c.requires.open m.ensures.goes m.ensures.lists m.ensures.only_waiting m.ensures.debts k.ensures.keeps k.ensures.lists in
     let h = c.hand_over in
     let now = c.told_moment.result in
     let moments : Moments = record { batches = now ∷ []; estimates = [] } in
@@ -52,9 +55,9 @@ returns-in-Flies-clause-ends g c =
     let paid = m.ensures.paid c.if-not-mark_again.false in
     let flies = h.ensures.flies c.in-Flies.is in
     let old = sight was c.args.seats.now log w in
-    let mid = sight m.new.work m.new.seats log w in
+    let mid = sight k.new.work m.new.seats log w in
     let new = sight h.new.work m.new.seats h.new.pen.log w' in
-    let went = went_more plan kit moments old mid new (m.ensures.goes moments log w) (h.ensures.goes kit m.new.seats c.requires.suits m.ensures.fits paid moments (here now [])) in
+    let went = went_more plan kit moments old mid new (kept.goes moments log w) (h.ensures.goes kit m.new.seats c.requires.suits m.ensures.fits paid moments (here now [])) in
     let open' = c.requires.open in
     record {
       moments = moments;
@@ -64,7 +67,7 @@ returns-in-Flies-clause-ends g c =
           (record {
             lists = h.ensures.lists;
             phase = subst (λ (p : Phase). IsPhase plan h.new.work.batch.items p) (sym flies.1) flies.2;
-            few_faults = subst (λ (n : ℕ). n < MOST_FAULTS) (sym (ap (λ (w : FlusherWork). w.faults) (h.ensures.hands c.in-Flies.is).work ∙ m.ensures.only_waiting.faults)) open'.few_faults;
+            few_faults = subst (λ (n : ℕ). n < MOST_FAULTS) (sym (ap (λ (w : FlusherWork). w.faults) (h.ensures.hands c.in-Flies.is).work ∙ kept.faults)) open'.few_faults;
           })
           (owes_still plan c.args.seats.now m.new.seats m.ensures.debts open'.owes_none);
     }
@@ -76,6 +79,8 @@ returns-in-Returns-clause-ends g c =
     let was = c.args.work.now in
     let log = c.args.pen.now.log in
     let m = c.mark_again in
+    let k = c.keep_place in
+    let kept = kept_open plan kit c.args.scan c.args.seats.now m.new.seats was m.new.work k.new.work c.requires.open m.ensures.goes m.ensures.lists m.ensures.only_waiting m.ensures.debts k.ensures.keeps k.ensures.lists in
     let h = c.hand_over in
     let now = c.told_moment.result in
     let moments : Moments = record { batches = now ∷ []; estimates = [] } in
@@ -84,17 +89,16 @@ returns-in-Returns-clause-ends g c =
     let paid = m.ensures.paid c.if-not-mark_again.false in
     let back = h.ensures.returns c.in-Returns.is in
     let old = sight was c.args.seats.now log w in
-    let mid = sight m.new.work m.new.seats log w in
+    let mid = sight k.new.work m.new.seats log w in
     let new = sight h.new.work m.new.seats h.new.pen.log w' in
-    let went = went_more plan kit moments old mid new (m.ensures.goes moments log w) (h.ensures.goes kit m.new.seats c.requires.suits m.ensures.fits paid moments (here now [])) in
+    let went = went_more plan kit moments old mid new (kept.goes moments log w) (h.ensures.goes kit m.new.seats c.requires.suits m.ensures.fits paid moments (here now [])) in
     let open' = c.requires.open in
     record {
       moments = moments;
       all_told = record { batches = (c.told_moment.ensures.told, tt); estimates = tt };
       estimates_none = refl;
       does = steps_from plan kit moments old new went open'.holds open'.rooms
-          (turned_back plan c.args.scan m.new.work h.new.work log h.new.pen.log c.requires.suits.plan_is h.ensures.lists
-          (subst (λ (l : List ℕ). IsScan plan l c.args.scan) (sym (λ i. (m.ensures.only_waiting.batch i).items)) open'.stands)
+          (turned_back plan c.args.scan k.new.work h.new.work log h.new.pen.log c.requires.suits.plan_is h.ensures.lists kept.opened.stands
           (subst (λ (l : List ℕ). 0 < length l) c.as_slice.ensures.value (some_there c.as_slice.result.now (sym c.is_empty.ensures ∙ c.if-is_empty.false))) back)
           (owes_still plan c.args.seats.now m.new.seats m.ensures.debts open'.owes_none);
     }
@@ -106,6 +110,8 @@ returns-in-Fails-clause-ends g c =
     let was = c.args.work.now in
     let log = c.args.pen.now.log in
     let m = c.mark_again in
+    let k = c.keep_place in
+    let kept = kept_open plan kit c.args.scan c.args.seats.now m.new.seats was m.new.work k.new.work c.requires.open m.ensures.goes m.ensures.lists m.ensures.only_waiting m.ensures.debts k.ensures.keeps k.ensures.lists in
     let h = c.hand_over in
     let now = c.told_moment.result in
     let moments : Moments = record { batches = now ∷ []; estimates = [] } in
@@ -114,9 +120,9 @@ returns-in-Fails-clause-ends g c =
     let paid = m.ensures.paid c.if-not-mark_again.false in
     let failed = h.ensures.fails c.in-Fails.is in
     let old = sight was c.args.seats.now log w in
-    let mid = sight m.new.work m.new.seats log w in
+    let mid = sight k.new.work m.new.seats log w in
     let new = sight h.new.work m.new.seats h.new.pen.log w' in
-    let went = went_more plan kit moments old mid new (m.ensures.goes moments log w) (h.ensures.goes kit m.new.seats c.requires.suits m.ensures.fits paid moments (here now [])) in
+    let went = went_more plan kit moments old mid new (kept.goes moments log w) (h.ensures.goes kit m.new.seats c.requires.suits m.ensures.fits paid moments (here now [])) in
     let open' = c.requires.open in
     record {
       moments = moments;
@@ -140,7 +146,9 @@ returns-then-is_empty-clause-closes g c is =
       marked = c.mark_again.new.work;
       only = m.only_waiting;
       marks = m.marks c.if-not-mark_again.false;
-      ends = inl (none_there c.mark_again.new.work.batch.items (sym (ap (λ (l : List ℕ). length l) c.as_slice.ensures.value) ∙ eqb-true (length c.as_slice.result.now) 0 (sym c.is_empty.ensures ∙ c.if-is_empty.true)), refl, c.close_empty.ensures.ends_empty);
+      kept = c.keep_place.new.work;
+      keeps = c.keep_place.ensures.keeps;
+      ends = inl (none_there c.keep_place.new.work.batch.items (sym (ap (λ (l : List ℕ). length l) c.as_slice.ensures.value) ∙ eqb-true (length c.as_slice.result.now) 0 (sym c.is_empty.ensures ∙ c.if-is_empty.true)), refl, c.close_empty.ensures.ends_empty);
     }
 
 pub returns-in-Flies-clause-closes : goal.returns-in-Flies-clause-closes
@@ -150,6 +158,8 @@ returns-in-Flies-clause-closes g c is =
       marked = c.mark_again.new.work;
       only = m.only_waiting;
       marks = m.marks c.if-not-mark_again.false;
+      kept = c.keep_place.new.work;
+      keeps = c.keep_place.ensures.keeps;
       ends = inr (inl (subst (λ (l : List ℕ). 0 < length l) c.as_slice.ensures.value (some_there c.as_slice.result.now (sym c.is_empty.ensures ∙ c.if-is_empty.false)), (c.told_moment.result, c.told_moment.ensures.told, c.hand_over.ensures.hands c.in-Flies.is)));
     }
 
@@ -160,6 +170,8 @@ returns-in-Returns-clause-closes g c is =
       marked = c.mark_again.new.work;
       only = m.only_waiting;
       marks = m.marks c.if-not-mark_again.false;
+      kept = c.keep_place.new.work;
+      keeps = c.keep_place.ensures.keeps;
       ends = inr (inr (subst (λ (l : List ℕ). 0 < length l) c.as_slice.ensures.value (some_there c.as_slice.result.now (sym c.is_empty.ensures ∙ c.if-is_empty.false)), c.hand_over.ensures.returns c.in-Returns.is));
     }
 
@@ -175,6 +187,8 @@ returns-in-Fails-clause-fails g c is =
       marked = c.mark_again.new.work;
       only = m.only_waiting;
       marks = m.marks c.if-not-mark_again.false;
+      kept = c.keep_place.new.work;
+      keeps = c.keep_place.ensures.keeps;
       fails = c.hand_over.ensures.fails c.in-Fails.is;
     }
 
@@ -194,16 +208,16 @@ pub returns-then-not-mark_again-clause-batch : goal.returns-then-not-mark_again-
 returns-then-not-mark_again-clause-batch g c = λ i. (c.mark_again.ensures.only_waiting.batch i).items
 
 pub returns-then-is_empty-clause-batch : goal.returns-then-is_empty-clause-batch
-returns-then-is_empty-clause-batch g c = c.close_empty.ensures.batch ∙ (λ i. (c.mark_again.ensures.only_waiting.batch i).items)
+returns-then-is_empty-clause-batch g c = c.close_empty.ensures.batch ∙ (λ i. (c.keep_place.ensures.keeps.batch i).items) ∙ (λ i. (c.mark_again.ensures.only_waiting.batch i).items)
 
 pub returns-in-Flies-clause-batch : goal.returns-in-Flies-clause-batch
-returns-in-Flies-clause-batch g c = ap (λ (w : FlusherWork). w.batch.items) (c.hand_over.ensures.hands c.in-Flies.is).work ∙ (λ i. (c.mark_again.ensures.only_waiting.batch i).items)
+returns-in-Flies-clause-batch g c = ap (λ (w : FlusherWork). w.batch.items) (c.hand_over.ensures.hands c.in-Flies.is).work ∙ (λ i. (c.keep_place.ensures.keeps.batch i).items) ∙ (λ i. (c.mark_again.ensures.only_waiting.batch i).items)
 
 pub returns-in-Returns-clause-batch : goal.returns-in-Returns-clause-batch
-returns-in-Returns-clause-batch g c = ap (λ (w : FlusherWork). w.batch.items) (c.hand_over.ensures.returns c.in-Returns.is).work ∙ (λ i. (c.mark_again.ensures.only_waiting.batch i).items)
+returns-in-Returns-clause-batch g c = ap (λ (w : FlusherWork). w.batch.items) (c.hand_over.ensures.returns c.in-Returns.is).work ∙ (λ i. (c.keep_place.ensures.keeps.batch i).items) ∙ (λ i. (c.mark_again.ensures.only_waiting.batch i).items)
 
 pub returns-in-Fails-clause-batch : goal.returns-in-Fails-clause-batch
-returns-in-Fails-clause-batch g c = (λ i. ((c.hand_over.ensures.fails c.in-Fails.is).batch i).items) ∙ (λ i. (c.mark_again.ensures.only_waiting.batch i).items)
+returns-in-Fails-clause-batch g c = (λ i. ((c.hand_over.ensures.fails c.in-Fails.is).batch i).items) ∙ (λ i. (c.keep_place.ensures.keeps.batch i).items) ∙ (λ i. (c.mark_again.ensures.only_waiting.batch i).items)
 
 -- ---- faults
 
@@ -211,27 +225,27 @@ pub returns-then-not-mark_again-clause-counted : goal.returns-then-not-mark_agai
 returns-then-not-mark_again-clause-counted g c = inl c.mark_again.ensures.only_waiting.faults
 
 pub returns-then-is_empty-clause-counted : goal.returns-then-is_empty-clause-counted
-returns-then-is_empty-clause-counted g c = inl (c.close_empty.ensures.faults ∙ c.mark_again.ensures.only_waiting.faults)
+returns-then-is_empty-clause-counted g c = inl (c.close_empty.ensures.faults ∙ c.keep_place.ensures.keeps.faults ∙ c.mark_again.ensures.only_waiting.faults)
 
 pub returns-in-Flies-clause-counted : goal.returns-in-Flies-clause-counted
-returns-in-Flies-clause-counted g c = rise_from _ _ _ _ _ c.mark_again.ensures.only_waiting.faults c.hand_over.ensures.counted
+returns-in-Flies-clause-counted g c = rise_from _ _ _ _ _ (c.keep_place.ensures.keeps.faults ∙ c.mark_again.ensures.only_waiting.faults) c.hand_over.ensures.counted
 
 pub returns-in-Returns-clause-counted : goal.returns-in-Returns-clause-counted
-returns-in-Returns-clause-counted g c = rise_from _ _ _ _ _ c.mark_again.ensures.only_waiting.faults c.hand_over.ensures.counted
+returns-in-Returns-clause-counted g c = rise_from _ _ _ _ _ (c.keep_place.ensures.keeps.faults ∙ c.mark_again.ensures.only_waiting.faults) c.hand_over.ensures.counted
 
 pub returns-in-Fails-clause-counted : goal.returns-in-Fails-clause-counted
-returns-in-Fails-clause-counted g c = rise_from _ _ _ _ _ c.mark_again.ensures.only_waiting.faults c.hand_over.ensures.counted
+returns-in-Fails-clause-counted g c = rise_from _ _ _ _ _ (c.keep_place.ensures.keeps.faults ∙ c.mark_again.ensures.only_waiting.faults) c.hand_over.ensures.counted
 
 pub returns-then-not-mark_again-clause-eighth : goal.returns-then-not-mark_again-clause-eighth
 returns-then-not-mark_again-clause-eighth g c = not_last Halted _ _ (λ f. let e = f in cc) c.mark_again.ensures.only_waiting.faults c.requires.open.few_faults
 
 pub returns-then-is_empty-clause-eighth : goal.returns-then-is_empty-clause-eighth
 returns-then-is_empty-clause-eighth g c =
-    not_last c.close_empty.result _ _ (λ f. let e = sym c.close_empty.ensures.stepped ∙ f in cc) (c.close_empty.ensures.faults ∙ c.mark_again.ensures.only_waiting.faults) c.requires.open.few_faults
+    not_last c.close_empty.result _ _ (λ f. let e = sym c.close_empty.ensures.stepped ∙ f in cc) (c.close_empty.ensures.faults ∙ c.keep_place.ensures.keeps.faults ∙ c.mark_again.ensures.only_waiting.faults) c.requires.open.few_faults
 
 pub returns-in-Flies-clause-eighth : goal.returns-in-Flies-clause-eighth
 returns-in-Flies-clause-eighth g c =
-    not_last Stepped _ _ (λ f. let e = f in cc) (ap (λ (w : FlusherWork). w.faults) (c.hand_over.ensures.hands c.in-Flies.is).work ∙ c.mark_again.ensures.only_waiting.faults) c.requires.open.few_faults
+    not_last Stepped _ _ (λ f. let e = f in cc) (ap (λ (w : FlusherWork). w.faults) (c.hand_over.ensures.hands c.in-Flies.is).work ∙ c.keep_place.ensures.keeps.faults ∙ c.mark_again.ensures.only_waiting.faults) c.requires.open.few_faults
 
 pub returns-in-Returns-clause-eighth : goal.returns-in-Returns-clause-eighth
 returns-in-Returns-clause-eighth g c =

@@ -45,7 +45,7 @@ returns c =
     let page : c.index-page.result.now ≡ get_or c.args.work.now.batch.items c.args.flight.landed 0 = c.index-page.ensures ∙ same_default c.args.work.now.batch.items c.args.flight.landed c.index-page.result.now 0 c.requires.flight.some_left in
     let new : Seats = record { cpu = c.complete.new.seat; share = c.args.seats.now.share; est = c.args.seats.now.est; queue = c.args.seats.now.queue } in
     let next : Flight = record { until = c.args.flight.until; inode = c.args.flight.inode; landed = c.args.flight.landed + 1 } in
-    let is : FlusherWork = record { phase = Flying next; batch = c.args.work.now.batch; faults = c.args.work.now.faults; hard = c.args.work.now.hard; waiting = c.args.work.now.waiting; some_wait = c.args.work.now.some_wait; tallies = c.args.work.now.tallies; wheel = c.args.work.now.wheel } in
+    let is : FlusherWork = record { phase = Flying next; batch = c.args.work.now.batch; faults = c.args.work.now.faults; hard = c.args.work.now.hard; waiting = c.args.work.now.waiting; some_wait = c.args.work.now.some_wait; tallies = c.args.work.now.tallies; wheel = c.args.work.now.wheel; places = c.args.work.now.places } in
     let few = had.2 in
     let most = c.requires.suits.few_page_steps in
     let done = completes_page c.args.self.now c.args.kit.now c.args.seats.now new c.args.pen.now.log c.args.work.now is c.args.flight next made.0

@@ -26,6 +26,7 @@ notice_all-requires-clause-lists g c =
       waiting = lists.waiting;
       none_wait = lists.none_wait;
       wheel = subst (λ (w : Option Waiting). HasWheel c.args.self.now w) (sym c.tell_wheel.ensures.told) (wheel_told c.args.self.now c.args.now c.args.work.now.wheel lists.wheel);
+      places = lists.places;
     }
 
 pub notice_all-requires-clause-told : goal.notice_all-requires-clause-told

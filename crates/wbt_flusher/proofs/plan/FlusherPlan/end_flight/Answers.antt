@@ -46,7 +46,7 @@ returns-clause-counts c written =
     (let r = a.ensures.rest in
     let x = b.ensures.only_tallies in
     let y = d.ensures.only_tallies in
-    record { faults = y.faults ∙ x.faults ∙ r.faults; hard = y.hard ∙ x.hard ∙ r.hard; waiting = y.waiting ∙ x.waiting ∙ r.waiting; some_wait = y.some_wait ∙ x.some_wait ∙ r.some_wait; wheel = y.wheel ∙ x.wheel ∙ r.wheel })
+    record { faults = y.faults ∙ x.faults ∙ r.faults; hard = y.hard ∙ x.hard ∙ r.hard; waiting = y.waiting ∙ x.waiting ∙ r.waiting; some_wait = y.some_wait ∙ x.some_wait ∙ r.some_wait; wheel = y.wheel ∙ x.wheel ∙ r.wheel; places = y.places ∙ x.places ∙ r.places })
     (let x = b.ensures.only_share in
     let y = d.ensures.only_share in
     record { cpu = y.cpu ∙ x.cpu; est = y.est ∙ x.est; queue = y.queue ∙ x.queue })

@@ -16,7 +16,7 @@ forget-requires-clause-there c = subst (λ (k : ℕ). k < length c.args.self.now
 pub returns-clause-goes : goal.returns-clause-goes
 returns-clause-goes c kit seats before suits fits paid told =
     let was : FlusherWork = c.args.work.now in
-    let mid : FlusherWork = record { phase = Failed; batch = was.batch; faults = MOST_FAULTS; hard = was.hard; waiting = was.waiting; some_wait = was.some_wait; tallies = was.tallies; wheel = was.wheel } in
+    let mid : FlusherWork = record { phase = Failed; batch = was.batch; faults = MOST_FAULTS; hard = was.hard; waiting = was.waiting; some_wait = was.some_wait; tallies = was.tallies; wheel = was.wheel; places = was.places } in
     let is = c.forget.new.work in
     let o = c.forget.ensures.only_tallies in
     subst (λ (l : CpuJournal). Went c.args.self.now kit told (sight was seats c.args.pen.now.log before) (sight is seats l before)) (sym (c.tell.ensures.log ∙ ap (λ (n : ℕ). with_entry (entry.Fault c.args.self.now.flusher n) c.args.pen.now.log) (ap (λ (l : List ℕ). length l) c.as_slice.ensures.value)))
@@ -27,7 +27,7 @@ returns-clause-goes c kit seats before suits fits paid told =
 pub returns-clause-fails : goal.returns-clause-fails
 returns-clause-fails c =
     let was : FlusherWork = c.args.work.now in
-    let mid : FlusherWork = record { phase = Failed; batch = was.batch; faults = MOST_FAULTS; hard = was.hard; waiting = was.waiting; some_wait = was.some_wait; tallies = was.tallies; wheel = was.wheel } in
+    let mid : FlusherWork = record { phase = Failed; batch = was.batch; faults = MOST_FAULTS; hard = was.hard; waiting = was.waiting; some_wait = was.some_wait; tallies = was.tallies; wheel = was.wheel; places = was.places } in
     let o = c.forget.ensures.only_tallies in
     record {
       some = c.requires.some;
@@ -40,6 +40,7 @@ returns-clause-fails c =
       waiting = o.waiting;
       some_wait = o.some_wait;
       wheel = o.wheel;
+      places = o.places;
       less = owes_more c.args.self.now was mid c.forget.new.work
           (owes_same c.args.self.now was mid refl (lands_nothing c.args.self.now was mid c.args.scan c.requires.phase refl)) c.forget.ensures.less;
     }

@@ -14,7 +14,7 @@ pub returns-clause-goes : goal.returns-clause-goes
 returns-clause-goes c kit seats before behind suits fits paid grows told has =
     let was : FlusherWork = c.args.work.now in
     let flight : Flight = record { until = c.args.until; inode = c.args.scan.inode; landed = 0 } in
-    let is : FlusherWork = record { phase = Flying flight; batch = was.batch; faults = was.faults; hard = was.hard; waiting = was.waiting; some_wait = was.some_wait; tallies = was.tallies; wheel = was.wheel } in
+    let is : FlusherWork = record { phase = Flying flight; batch = was.batch; faults = was.faults; hard = was.hard; waiting = was.waiting; some_wait = was.some_wait; tallies = was.tallies; wheel = was.wheel; places = was.places } in
     subst (λ (l : CpuJournal). Went c.args.self.now kit told (sight was seats c.args.pen.now.log before) (sight is seats l behind)) (sym (c.tell.ensures.log ∙ ap (λ (n : ℕ). with_entry (entry.Batch c.args.self.now.flusher n c.args.now c.args.until) c.args.pen.now.log) (ap (λ (l : List ℕ). length l) c.as_slice.ensures.value)))
     (flies_off c.args.self.now kit told seats c.args.pen.now.log was is c.args.scan fits paid c.requires.phase c.requires.scan c.requires.some refl refl
     (owes_same c.args.self.now was is refl (lands_none_yet c.args.self.now was is c.args.scan flight c.requires.phase refl refl))

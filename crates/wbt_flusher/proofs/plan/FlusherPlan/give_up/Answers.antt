@@ -14,7 +14,7 @@ pub returns-clause-goes : goal.returns-clause-goes
 returns-clause-goes c kit seats before suits fits paid told =
     let was : FlusherWork = c.args.work.now in
     let giving : Return = record { inode = c.args.scan.inode; returned = 0 } in
-    let is : FlusherWork = record { phase = Returning giving; batch = was.batch; faults = was.faults + 1; hard = was.hard; waiting = was.waiting; some_wait = was.some_wait; tallies = was.tallies; wheel = was.wheel } in
+    let is : FlusherWork = record { phase = Returning giving; batch = was.batch; faults = was.faults + 1; hard = was.hard; waiting = was.waiting; some_wait = was.some_wait; tallies = was.tallies; wheel = was.wheel; places = was.places } in
     subst (λ (l : CpuJournal). Went c.args.self.now kit told (sight was seats c.args.pen.now.log before) (sight is seats l before)) (sym (c.tell.ensures.log ∙ ap (λ (n : ℕ). with_entry (entry.Fault c.args.self.now.flusher n) c.args.pen.now.log) (ap (λ (l : List ℕ). length l) c.as_slice.ensures.value)))
     (gives_up_off c.args.self.now kit told seats c.args.pen.now.log was is c.args.scan fits paid c.requires.phase c.requires.scan c.requires.some refl refl
     (owes_same c.args.self.now was is refl (returns_nothing c.args.self.now was is c.args.scan giving c.requires.phase refl))

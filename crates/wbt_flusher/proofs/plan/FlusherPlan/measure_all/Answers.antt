@@ -22,7 +22,7 @@ loop-context-init g c = record {
   fits = c.requires.fits;
   lists = c.requires.lists;
   debts = refl;
-  only = record { phase = refl; batch = refl; faults = refl; hard = refl; waiting = refl; some_wait = refl; wheel = refl };
+  only = record { phase = refl; batch = refl; faults = refl; hard = refl; waiting = refl; some_wait = refl; wheel = refl; places = refl };
   room = omega arith;
   left = omega arith;
   estimates = omega arith;
@@ -61,6 +61,7 @@ loop-context-preserved g c =
         waiting = e.only_tallies.waiting ∙ o.waiting;
         some_wait = e.only_tallies.some_wait ∙ o.some_wait;
         wheel = e.only_tallies.wheel ∙ o.wheel;
+        places = e.only_tallies.places ∙ o.places;
       };
       room = omega arith;
       left = omega arith;

@@ -16,18 +16,18 @@ returns-then-put_or_wait-clause-fits g c =
 
 pub returns-then-put_or_wait-clause-lists : goal.returns-then-put_or_wait-clause-lists
 returns-then-put_or_wait-clause-lists g c =
-    lists_put c.args.self.now c.args.work.now _ c.args.inode c.put_or_wait.result c.requires.lists refl refl c.put_or_wait.ensures.waiting (λ none. absurd (true≢false none))
+    lists_put c.args.self.now c.args.work.now _ c.args.inode c.put_or_wait.result c.requires.lists refl refl refl c.put_or_wait.ensures.waiting (λ none. absurd (true≢false none))
 
 pub returns-then-put_or_wait-clause-goes : goal.returns-then-put_or_wait-clause-goes
 returns-then-put_or_wait-clause-goes g c =
     let e = c.put_or_wait.ensures in
     queue_goes c.args.self.now c.args.hands.now.kit.now c.args.seats.now c.put_or_wait.new.seats c.args.work.now _
     (fits_queue c.args.self.now c.args.hands.now.kit.now c.args.seats.now c.put_or_wait.new.seats c.requires.fits e.seats e.only) e.only e.device
-    (waits_alone c.args.self.now c.args.work.now _ c.args.inode c.put_or_wait.result refl refl refl refl refl refl e.waiting)
+    (waits_alone c.args.self.now c.args.work.now _ c.args.inode c.put_or_wait.result refl refl refl refl refl refl refl e.waiting)
 
 pub returns-then-put_or_wait-clause-only_waiting : goal.returns-then-put_or_wait-clause-only_waiting
 returns-then-put_or_wait-clause-only_waiting g c =
-    waits_alone c.args.self.now c.args.work.now _ c.args.inode c.put_or_wait.result refl refl refl refl refl refl c.put_or_wait.ensures.waiting
+    waits_alone c.args.self.now c.args.work.now _ c.args.inode c.put_or_wait.result refl refl refl refl refl refl refl c.put_or_wait.ensures.waiting
 
 pub returns-else-put_or_wait-clause-fits : goal.returns-else-put_or_wait-clause-fits
 returns-else-put_or_wait-clause-fits g c =
@@ -36,15 +36,15 @@ returns-else-put_or_wait-clause-fits g c =
 
 pub returns-else-put_or_wait-clause-lists : goal.returns-else-put_or_wait-clause-lists
 returns-else-put_or_wait-clause-lists g c =
-    lists_put c.args.self.now c.args.work.now _ c.args.inode c.put_or_wait.result c.requires.lists refl refl c.put_or_wait.ensures.waiting (λ none. (none, c.if-put_or_wait.false))
+    lists_put c.args.self.now c.args.work.now _ c.args.inode c.put_or_wait.result c.requires.lists refl refl refl c.put_or_wait.ensures.waiting (λ none. (none, c.if-put_or_wait.false))
 
 pub returns-else-put_or_wait-clause-goes : goal.returns-else-put_or_wait-clause-goes
 returns-else-put_or_wait-clause-goes g c =
     let e = c.put_or_wait.ensures in
     queue_goes c.args.self.now c.args.hands.now.kit.now c.args.seats.now c.put_or_wait.new.seats c.args.work.now _
     (fits_queue c.args.self.now c.args.hands.now.kit.now c.args.seats.now c.put_or_wait.new.seats c.requires.fits e.seats e.only) e.only e.device
-    (waits_alone c.args.self.now c.args.work.now _ c.args.inode c.put_or_wait.result refl refl refl refl refl refl e.waiting)
+    (waits_alone c.args.self.now c.args.work.now _ c.args.inode c.put_or_wait.result refl refl refl refl refl refl refl e.waiting)
 
 pub returns-else-put_or_wait-clause-only_waiting : goal.returns-else-put_or_wait-clause-only_waiting
 returns-else-put_or_wait-clause-only_waiting g c =
-    waits_alone c.args.self.now c.args.work.now _ c.args.inode c.put_or_wait.result refl refl refl refl refl refl c.put_or_wait.ensures.waiting
+    waits_alone c.args.self.now c.args.work.now _ c.args.inode c.put_or_wait.result refl refl refl refl refl refl refl c.put_or_wait.ensures.waiting

@@ -22,6 +22,7 @@ loop-inode-preserved g c =
         hard = o.hard ∙ i.waiting.hard;
         tallies = o.tallies ∙ i.waiting.tallies;
         wheel = o.wheel ∙ i.waiting.wheel;
+        places = o.places ∙ i.waiting.places;
         waiting = o.waiting ∙ i.waiting.waiting;
       };
       long = o.waiting ∙ i.long;

@@ -22,7 +22,7 @@ returns-then-put_or_wait-clause-fits g c =
 
 pub returns-then-put_or_wait-clause-only_waiting : goal.returns-then-put_or_wait-clause-only_waiting
 returns-then-put_or_wait-clause-only_waiting g c =
-    waits_alone c.args.self.now c.args.work.now _ c.args.inode c.put_or_wait.result refl refl refl refl refl refl c.put_or_wait.ensures.waiting
+    waits_alone c.args.self.now c.args.work.now _ c.args.inode c.put_or_wait.result refl refl refl refl refl refl refl c.put_or_wait.ensures.waiting
 
 pub returns-then-put_or_wait-clause-next : goal.returns-then-put_or_wait-clause-next
 returns-then-put_or_wait-clause-next g c =
@@ -36,7 +36,7 @@ returns-clause-fits g c =
 
 pub returns-clause-only_waiting : goal.returns-clause-only_waiting
 returns-clause-only_waiting g c =
-    waits_alone c.args.self.now c.args.work.now _ c.args.inode c.put_or_wait.result refl refl refl refl refl refl c.put_or_wait.ensures.waiting
+    waits_alone c.args.self.now c.args.work.now _ c.args.inode c.put_or_wait.result refl refl refl refl refl refl refl c.put_or_wait.ensures.waiting
 
 pub returns-clause-next : goal.returns-clause-next
 returns-clause-next g c =

@@ -14,7 +14,7 @@ returns-clause-goes g c =
     let e = c.put_each-some.ensures in
     let o = e.only_waiting in
     queue_goes c.args.self.now c.args.hands.now.kit.now c.args.seats.now c.put_each-some.new.seats c.args.work.now _ e.fits e.only_queue e.device
-    (record { phase = o.phase; batch = o.batch; faults = o.faults; hard = o.hard; tallies = o.tallies; wheel = o.wheel; waiting = o.waiting })
+    (record { phase = o.phase; batch = o.batch; faults = o.faults; hard = o.hard; tallies = o.tallies; wheel = o.wheel; waiting = o.waiting; places = o.places })
 
 pub returns-then-not-work-clause-puts : goal.returns-then-not-work-clause-puts
 returns-then-not-work-clause-puts g c =

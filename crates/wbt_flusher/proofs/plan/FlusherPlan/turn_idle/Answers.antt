@@ -24,7 +24,7 @@ pub returns-then-not-measure_all-clause-ends : goal.returns-then-not-measure_all
 returns-then-not-measure_all-clause-ends g c moments written has =
     let m = c.measure_all in
     let was = c.args.work.now in
-    let hard : FlusherWork = record { phase = was.phase; batch = was.batch; faults = was.faults; hard = c.in-Some.test.global.limits.hard; waiting = was.waiting; some_wait = was.some_wait; tallies = was.tallies; wheel = was.wheel } in
+    let hard : FlusherWork = record { phase = was.phase; batch = was.batch; faults = was.faults; hard = c.in-Some.test.global.limits.hard; waiting = was.waiting; some_wait = was.some_wait; tallies = was.tallies; wheel = was.wheel; places = was.places } in
     let idle = idle_measured was hard m.new.work refl refl m.ensures.only_tallies c.requires.idle in
     record {
       went = measured c.args.now c.args.self.now c.args.hands.now.kit.now c.args.seats.now c.test.new.seats m.new.seats c.args.pen.now.log m.new.pen.log was hard m.new.work c.test.ensures.goes c.test.ensures.fits refl refl refl refl refl m.ensures.goes moments written has;
@@ -48,7 +48,7 @@ returns-in-None-weigh_all-clause-ends g c moments written has =
     let m = c.measure_all in
     let w = c.weigh_all in
     let was = c.args.work.now in
-    let hard : FlusherWork = record { phase = was.phase; batch = was.batch; faults = was.faults; hard = c.in-Some.test.global.limits.hard; waiting = was.waiting; some_wait = was.some_wait; tallies = was.tallies; wheel = was.wheel } in
+    let hard : FlusherWork = record { phase = was.phase; batch = was.batch; faults = was.faults; hard = c.in-Some.test.global.limits.hard; waiting = was.waiting; some_wait = was.some_wait; tallies = was.tallies; wheel = was.wheel; places = was.places } in
     let only = only_more hard m.new.work w.new.work m.ensures.only_tallies w.ensures.only_tallies in
     let goes = weighed c.args.now plan kit c.args.seats.now m.new.seats w.new.seats c.args.pen.now.log m.new.pen.log was m.new.work w.new.work
     (measured c.args.now plan kit c.args.seats.now c.test.new.seats m.new.seats c.args.pen.now.log m.new.pen.log was hard m.new.work c.test.ensures.goes c.test.ensures.fits refl refl refl refl refl m.ensures.goes) w.ensures.goes in
@@ -68,7 +68,7 @@ decide-requires-clause-ready g c =
     let m = c.measure_all in
     let w = c.weigh_all in
     let was = c.args.work.now in
-    let hard : FlusherWork = record { phase = was.phase; batch = was.batch; faults = was.faults; hard = c.in-Some.test.global.limits.hard; waiting = was.waiting; some_wait = was.some_wait; tallies = was.tallies; wheel = was.wheel } in
+    let hard : FlusherWork = record { phase = was.phase; batch = was.batch; faults = was.faults; hard = c.in-Some.test.global.limits.hard; waiting = was.waiting; some_wait = was.some_wait; tallies = was.tallies; wheel = was.wheel; places = was.places } in
     let only = only_more hard m.new.work w.new.work m.ensures.only_tallies w.ensures.only_tallies in
     let goes = weighed c.args.now plan kit c.args.seats.now m.new.seats w.new.seats c.args.pen.now.log m.new.pen.log was m.new.work w.new.work
     (measured c.args.now plan kit c.args.seats.now c.test.new.seats m.new.seats c.args.pen.now.log m.new.pen.log was hard m.new.work c.test.ensures.goes c.test.ensures.fits refl refl refl refl refl m.ensures.goes) w.ensures.goes in
@@ -79,7 +79,7 @@ decide-requires-clause-idle g c =
     let m = c.measure_all in
     let w = c.weigh_all in
     let was = c.args.work.now in
-    let hard : FlusherWork = record { phase = was.phase; batch = was.batch; faults = was.faults; hard = c.in-Some.test.global.limits.hard; waiting = was.waiting; some_wait = was.some_wait; tallies = was.tallies; wheel = was.wheel } in
+    let hard : FlusherWork = record { phase = was.phase; batch = was.batch; faults = was.faults; hard = c.in-Some.test.global.limits.hard; waiting = was.waiting; some_wait = was.some_wait; tallies = was.tallies; wheel = was.wheel; places = was.places } in
     idle_measured was hard w.new.work refl refl (only_more hard m.new.work w.new.work m.ensures.only_tallies w.ensures.only_tallies) c.requires.idle
 
 pub returns-in-Some-weigh_all-clause-asked : goal.returns-in-Some-weigh_all-clause-asked
@@ -95,7 +95,7 @@ returns-in-Some-weigh_all-clause-ends g c moments written has =
     let m = c.measure_all in
     let w = c.weigh_all in
     let was = c.args.work.now in
-    let hard : FlusherWork = record { phase = was.phase; batch = was.batch; faults = was.faults; hard = c.in-Some.test.global.limits.hard; waiting = was.waiting; some_wait = was.some_wait; tallies = was.tallies; wheel = was.wheel } in
+    let hard : FlusherWork = record { phase = was.phase; batch = was.batch; faults = was.faults; hard = c.in-Some.test.global.limits.hard; waiting = was.waiting; some_wait = was.some_wait; tallies = was.tallies; wheel = was.wheel; places = was.places } in
     let only = only_more hard m.new.work w.new.work m.ensures.only_tallies w.ensures.only_tallies in
     let goes = weighed c.args.now plan kit c.args.seats.now m.new.seats w.new.seats c.args.pen.now.log m.new.pen.log was m.new.work w.new.work
     (measured c.args.now plan kit c.args.seats.now c.test.new.seats m.new.seats c.args.pen.now.log m.new.pen.log was hard m.new.work c.test.ensures.goes c.test.ensures.fits refl refl refl refl refl m.ensures.goes) w.ensures.goes in

@@ -5,7 +5,7 @@ use Rattle.wbt_flusher.specs.Answers.{wait_of, Ends}
 use Rattle.wbt_flusher.specs.Did.{Moments, no_moments}
 use Rattle.wbt_flusher.specs.Sights.{sight}
 use Rattle.wbt_flusher.proofs.Ending.{ends_at_once, ends_undone, answers_by, told_none, come_by, come_dropped, wait_kept, rests_here, and_left, and_not_right}
-use Rattle.wbt_flusher.specs.Took.{drains}
+use Rattle.wbt_flusher.specs.Took.{drains, tests}
 use Rattle.wbt_flusher.specs.Cut as cut
 use Rattle.wbt_kit.specs.declared.turn.Turn.TheVariants.{Resting}
 use Rattle.wbt_flusher.proofs.Turning.{turn_rests, turn_takes}
@@ -73,6 +73,18 @@ returns-then-drain-clause-took g c is written = drains (record {
   phase = c.requires.phase;
   come = inr (c.told_moment-now.result, c.told_moment-now.ensures.told, c.if-now-until.false);
   takes = c.take_last-then-drain.ensures.takes is written;
+})
+
+pub returns-clause-took : goal.returns-clause-took
+returns-clause-took g c is written = tests (record {
+  outside = c.if-drain.false;
+  until = c.args.until;
+  kept = c.args.kept;
+  phase = c.requires.phase;
+  now = c.told_moment-now.result;
+  was_told = c.told_moment-now.ensures.told;
+  come = c.if-now-until.false;
+  tests = c.turn_idle.ensures.tests is written;
 })
 
 pub returns-then-dropped-clause-halts : goal.returns-then-dropped-clause-halts

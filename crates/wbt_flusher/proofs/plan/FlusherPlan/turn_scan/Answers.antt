@@ -2,7 +2,7 @@ use Rattle.wbt_run_steps.proofs.Gating.{asked_more}
 use Rattle.std.proofs.Common.{◌≡◌, ℕ, ◌<◌, List, length, true≢false, inl, inr, arith, ⊎_elim, refl, sym, ap, ◌∙◌, subst}
 use Rattle.std.proofs.lemmas.Bool.{cases_lt}
 use Rattle.wbt_flusher.specs.Did.{no_moments}
-use Rattle.wbt_flusher.specs.Plans.{end_of}
+use Rattle.wbt_rules.specs.Places.{page_of}
 use Rattle.wbt_flusher.specs.Sights.{sight}
 use Rattle.wbt_rules.specs.declared.moments.TheConstants.{MOST_FAULTS}
 use Rattle.wbt_flusher.specs.Turns.{IsPhase, IsSteady}
@@ -52,7 +52,7 @@ returns-then-not-is_over-clause-ends g c =
     let ready = c.requires.ready in
     let scan = c.in-Passed.scan in
     let passes = c.in-Passed.ensures.looks in
-    let within : scan.page < end_of plan scan.inode = ⊎_elim (λ less. less) (λ past. absurd (true≢false (sym (c.is_over.ensures.1 (inl past)) ∙ c.if-not-is_over.true))) (cases_lt scan.page (end_of plan scan.inode)) in
+    let within : scan.passed < scan.pages = ⊎_elim (λ less. less) (λ past. absurd (true≢false (sym (c.is_over.ensures.1 (inl past)) ∙ c.if-not-is_over.true))) (cases_lt scan.passed scan.pages) in
     let claims = length c.claim_next.new.work.batch.items in
     let below : claims < scan.quota = ⊎_elim (λ less. less) (λ full. absurd (true≢false (sym (c.is_over.ensures.1 (inr full)) ∙ c.if-not-is_over.true))) (cases_lt claims scan.quota) in
     record {
@@ -126,12 +126,12 @@ returns-in-Stopped-clause-within g c =
 pub returns-then-not-is_over-clause-within : goal.returns-then-not-is_over-clause-within
 returns-then-not-is_over-clause-within g c =
     let below = scan_below c.args.self.now c.args.work.now c.args.scan c.requires.ready.steady c.requires.phase in
-    let more = one_more c.args.work.now.batch.items c.claim_next.new.work.batch.items c.args.scan.page c.in-Passed.ensures.looks.batch in omega arith
+    let more = one_more c.args.work.now.batch.items c.claim_next.new.work.batch.items (page_of c.args.scan) c.in-Passed.ensures.looks.batch in omega arith
 
 pub returns-else-not-is_over-clause-within : goal.returns-else-not-is_over-clause-within
 returns-else-not-is_over-clause-within g c =
     let below = scan_below c.args.self.now c.args.work.now c.args.scan c.requires.ready.steady c.requires.phase in
-    let more = one_more c.args.work.now.batch.items c.claim_next.new.work.batch.items c.args.scan.page c.in-Passed.ensures.looks.batch in
+    let more = one_more c.args.work.now.batch.items c.claim_next.new.work.batch.items (page_of c.args.scan) c.in-Passed.ensures.looks.batch in
     let same : length c.close.new.work.batch.items ≡ length c.claim_next.new.work.batch.items = ap (λ (l : List ℕ). length l) c.close.ensures.batch in omega arith
 
 -- ---- kinds of steps

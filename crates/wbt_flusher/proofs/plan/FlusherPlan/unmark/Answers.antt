@@ -1,4 +1,4 @@
-use Rattle.std.proofs.Common.{false, refl, sym, ap, ◌∙◌}
+use Rattle.std.proofs.Common.{false, refl, sym, ap, ◌∙◌, arith}
 use Rattle.wbt_grant.specs.Kinds.{unmark}
 use Rattle.wbt_grant.specs.Seats.{record_after}
 use Rattle.wbt_table.specs.Layout.{setting}
@@ -29,15 +29,17 @@ returns-clause-goes c told log written =
     let was : FlusherWork = c.args.work.now in
     let old : Seats = c.args.seats.now in
     let new : Seats = record { cpu = c.clear_inode.new.seat; share = old.share; est = old.est; queue = old.queue } in
-    let scan : Scan = record { inode = c.args.inode; page = c.first_of.result; quota = 0; noted = false } in
-    let is : FlusherWork = record { phase = Scanning scan; batch = was.batch; faults = was.faults; hard = was.hard; waiting = was.waiting; some_wait = was.some_wait; tallies = was.tallies; wheel = was.wheel } in
+    let scan : Scan = record { inode = c.args.inode; first = c.first_of.result; pages = c.pages_of.result; start = c.start_of.result; passed = 0; quota = 0; noted = false } in
+    let less = c.start_of.ensures.below in
+    let pages = c.pages_of.ensures in
+    let is : FlusherWork = record { phase = Scanning scan; batch = was.batch; faults = was.faults; hard = was.hard; waiting = was.waiting; some_wait = was.some_wait; tallies = was.tallies; wheel = was.wheel; places = was.places } in
     let f = record_after (setting c.args.kit.now.throttle.layout) (unmark c.args.self.now.cpu c.args.inode) made.0 in
     let works = begins_scan c.args.self.now c.args.kit.now old new
     was is made.0 h.0 c.requires.suits refl refl h.1 refl refl refl
     (λ k. sym (ap (λ (p : Phase). landed_in c.args.self.now p k) idle.phase))
     (ap flights.scanning idle.batch ∙ sym (ap (phase_by was.batch.items) idle.phase))
     (idle.batch ∙ sym (ap (pages_by was.batch.items) idle.phase))
-    idle.until idle.kept scan idle.phase refl c.first_of.ensures c.requires.inode made.1.changes log in
+    idle.until idle.kept scan idle.phase refl (record { first_is = c.first_of.ensures; pages_are = pages; start = omega arith; none = refl }) c.requires.inode made.1.changes log in
     record {
       did = works told written;
       fits = returns-clause-fits c;
@@ -53,4 +55,4 @@ returns-clause-debts c =
     (record_after (setting c.args.kit.now.throttle.layout) (unmark c.args.self.now.cpu c.args.inode) made.0) h.0 h.1 made.1.changes refl
 
 pub returns-clause-lists : goal.returns-clause-lists
-returns-clause-lists c = let lists = c.requires.lists in record { proper = lists.proper; tallies = lists.tallies; waiting = lists.waiting; none_wait = lists.none_wait; wheel = lists.wheel }
+returns-clause-lists c = let lists = c.requires.lists in record { proper = lists.proper; tallies = lists.tallies; waiting = lists.waiting; none_wait = lists.none_wait; wheel = lists.wheel; places = lists.places }

@@ -24,7 +24,7 @@ loop-context-init g c = record {
   fits = c.requires.fits;
   lists = c.requires.lists;
   debts = refl;
-  only = record { phase = refl; batch = refl; faults = refl; hard = refl; waiting = refl; some_wait = refl; wheel = refl };
+  only = record { phase = refl; batch = refl; faults = refl; hard = refl; waiting = refl; some_wait = refl; wheel = refl; places = refl };
   weighs = λ log written. (refl, refl);
   asked = asked_none c.args.self.now.cpu (g.G.Gate.said c.args.hands.now.gate.now) c.args.seats.now c.args.seats.now refl;
   kinds = no_counts c.args.self.now.cpu c.args.seats.now c.args.seats.now refl;

@@ -1,8 +1,9 @@
 use Rattle.std.proofs.Common.{◌∙◌, ap}
 use Rattle.wbt_journal.specs.Side.{settle}
+use Rattle.wbt_rules.specs.Pace.{pace_of}
 use Rattle.wbt_writer.specs.declared.task.TaskPlace.{TaskPlace}
 use Rattle.wbt_writer.specs.Counted.{task_at}
-use Rattle.wbt_writer.proofs.Putting.{already, already_side, apart, here, moves_only, others_go_on, passed_same, passes_is, stands_is, stay_both, todo_same, written_same}
+use Rattle.wbt_writer.proofs.Putting.{already, already_side, apart, here, moves_only, others_go_on, passed_same, passes_is, since_is, stands_is, stay_both, todo_same, written_same}
 use Rattle.wbt_writer.proofs.tasks.Tasks.wrote_already.Goals as goal
 
 pub settle-requires-clause-counted : goal.settle-requires-clause-counted
@@ -42,3 +43,9 @@ returns-clause-place c =
     moves_only c.task-passed.result (task_at c.args.self.now c.args.task) c.pass_page.new.self (task_at c.put.new.self c.args.task) (task_at c.settle.new.self c.args.task)
     c.task-passed.ensures c.pass_page.ensures.others c.settle.ensures.own
     (here c.args.trace.now c.args.task c.args.self.now c.requires.there c.requires.tasks c.put.new.self c.pass_page.new.self c.put.ensures.tasks)
+
+pub returns-clause-since : goal.returns-clause-since
+returns-clause-since c =
+    let put = here c.args.trace.now c.args.task c.args.self.now c.requires.there c.requires.tasks c.put.new.self c.pass_page.new.self c.put.ensures.tasks in
+    since_is c.task-passed.result (task_at c.args.self.now c.args.task) c.pass_page.new.self (task_at c.put.new.self c.args.task) (task_at c.settle.new.self c.args.task)
+    c.task-passed.ensures c.pass_page.ensures.others c.settle.ensures.own (pace_of c.args.trace.now c.args.task) (ap (λ (z : TaskPlace). z.since) put) c.pass_page.ensures.since

@@ -1,8 +1,9 @@
 use Rattle.std.proofs.Common.{◌∙◌, ap}
 use Rattle.wbt_journal.specs.Side.{settle}
+use Rattle.wbt_rules.specs.Pace.{pace_of}
 use Rattle.wbt_writer.specs.declared.task.TaskPlace.{TaskPlace}
 use Rattle.wbt_writer.specs.Counted.{task_at}
-use Rattle.wbt_writer.proofs.Putting.{apart, counted_put, fixed_both, fresh, fresh_others, fresh_side, here, moves_is, passed_same, passes_is, stands_is, stay_both, todo_same, written_same}
+use Rattle.wbt_writer.proofs.Putting.{apart, counted_put, fixed_both, fresh, fresh_others, fresh_side, here, moves_is, passed_same, passes_is, since_is, stands_is, stay_both, todo_same, written_same}
 use Rattle.wbt_writer.proofs.tasks.Tasks.wrote_fresh.Goals as goal
 
 pub settle-requires-clause-counted : goal.settle-requires-clause-counted
@@ -50,3 +51,9 @@ returns-clause-place c =
     moves_is c.task-passed.result (task_at c.args.self.now c.args.task) c.pass_page.new.self (task_at c.put.new.self c.args.task) (task_at c.settle.new.self c.args.task)
     c.task-passed.ensures c.pass_page.ensures.others c.settle.ensures.own c.args.writer c.args.context
     (here c.args.trace.now c.args.task c.args.self.now c.requires.there c.requires.tasks c.put.new.self _ (counted_put c.args.self.now c.count.new.self c.put.new.self c.args.task _ _ c.count.ensures.tasks c.put.ensures.tasks c.counted_by.ensures))
+
+pub returns-clause-since : goal.returns-clause-since
+returns-clause-since c =
+    let put = here c.args.trace.now c.args.task c.args.self.now c.requires.there c.requires.tasks c.put.new.self _ (counted_put c.args.self.now c.count.new.self c.put.new.self c.args.task _ _ c.count.ensures.tasks c.put.ensures.tasks c.counted_by.ensures) in
+    since_is c.task-passed.result (task_at c.args.self.now c.args.task) c.pass_page.new.self (task_at c.put.new.self c.args.task) (task_at c.settle.new.self c.args.task)
+    c.task-passed.ensures c.pass_page.ensures.others c.settle.ensures.own (pace_of c.args.trace.now c.args.task) (ap (λ (z : TaskPlace). z.since) put) c.pass_page.ensures.since

@@ -171,6 +171,7 @@ returns-in-Ok-Already-clause-took c =
       told = c.tell_write.ensures.log ∙ ap (λ (q : ℕ). with_entry (entry.Write c.args.task (q + c.args.page) false) c.args.pen.now.log) first;
       passes = c.wrote_already.ensures.passes;
       stands = c.wrote_already.ensures.stands;
+      since = c.wrote_already.ensures.since;
       place = c.wrote_already.ensures.place;
       only = record { others = c.wrote_already.ensures.others; fixed = c.wrote_already.ensures.fixed };
       fractions = refl;
@@ -187,6 +188,7 @@ returns-in-Ok-Fresh-clause-took c =
       told = c.tell_write-in-Ok-Fresh.ensures.log ∙ ap (λ (q : ℕ). with_entry (entry.Write c.args.task (q + c.args.page) true) c.args.pen.now.log) first;
       passes = c.wrote_fresh.ensures.passes;
       stands = c.wrote_fresh.ensures.stands;
+      since = c.wrote_fresh.ensures.since;
       place = subst (λ (z : ℕ × ℕ). MovesAlong (record (task_at c.args.self.now.tasks c.args.task) { writer = z.0; context = z.1 }) (task_at c.wrote_fresh.new.self c.args.task))
           (λ i. (number i, c.context_of-context.ensures i)) c.wrote_fresh.ensures.place;
       only = record { others = c.wrote_fresh.ensures.others; fixed = c.wrote_fresh.ensures.fixed };

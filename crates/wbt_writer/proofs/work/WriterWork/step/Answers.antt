@@ -1,12 +1,12 @@
 use Rattle.wbt_writer.proofs.work.WriterWork.step.Goals as goal
-use Rattle.std.proofs.Common.{ap, ◌∙◌, [], ◌∷◌, true, false, ◌+◌}
+use Rattle.std.proofs.Common.{ap, ◌∙◌, [], ◌∷◌, true, false, ◌+◌, inl}
 use Rattle.wbt_journal.specs.Told.{wrote}
 use Rattle.wbt_writer.specs.Ahead.{first_page}
 use Rattle.wbt_writer.specs.Desk.{sight}
 use Rattle.wbt_writer.specs.declared.tasks.Tasks.{Tasks}
-use Rattle.wbt_writer.specs.Exact.{checks, rests, stops_checking, stops_writing, writes}
+use Rattle.wbt_writer.specs.Exact.{checks, pauses, rests, stops_checking, stops_writing, writes}
 use Rattle.wbt_writer.proofs.Exacting.{takes, takes_none, takes_some}
-use Rattle.wbt_writer.proofs.Going.{at_rested, with_tasks, goes_on_by_check, goes_on_by_rest, goes_on_by_write, halted_by_check, halted_by_write, spent_by_write, turned_by_already, turned_by_check, turned_by_fresh, turned_by_rest}
+use Rattle.wbt_writer.proofs.Going.{at_paused, at_rested, with_tasks, goes_on_by_check, goes_on_by_pause, goes_on_by_rest, goes_on_by_write, halted_by_check, halted_by_write, spent_by_write, turned_by_already, turned_by_check, turned_by_fresh, turned_by_pause, turned_by_rest}
 use Rattle.std.proofs.Common.{refl}
 use Rattle.wbt_run_steps.proofs.Gating.{asked_none}
 use Rattle.wbt_run_steps.proofs.Logging.{none_as, takes_none as rests_none}
@@ -22,13 +22,13 @@ pub returns-in-Err-clause-turned : goal.returns-in-Err-clause-turned
 returns-in-Err-clause-turned g c = halted_by_check (g.C.Clock.told c.args.hands.now.clock.now) (g.G.Gate.said c.args.hands.now.gate.now) c.args.place.now.trace.now c.args.hands.now.kit.now c.args.place.now.cpu c.args.task c.args.now c.args.self.now c.args.seats.now c.args.pen.now.log c.begin.new.self c.begin.ensures.only c.requires.goes (sight c.check.new.self c.check.new.seats c.check.new.pen.log) c.in-Err.ensures.loads_alone c.in-Err.ensures.stopped
 
 pub returns-in-Rest-clause-turned : goal.returns-in-Rest-clause-turned
-returns-in-Rest-clause-turned g c = turned_by_rest (g.C.Clock.told c.args.hands.now.clock.now) (g.G.Gate.said c.args.hands.now.gate.now) c.args.place.now.trace.now c.args.hands.now.kit.now c.args.place.now.cpu c.args.task c.args.now c.args.self.now c.args.seats.now c.args.pen.now.log c.begin.new.self c.begin.ensures.only c.requires.goes c.in-Rest.ticks c.requires.task c.requires.at_kit.is_work.tasks.counted.tasks c.in-Rest.ensures c.rested.new.self c.rested.ensures.rests c.rested.ensures.goes_on (c.rested.ensures.ends c.args.hands.now.kit.now.published.moment (ap (λ (s : Tasks). s.ratelimit_pages) c.begin.ensures.only ∙ c.requires.at_kit.its.ratelimit)) c.rested.ensures.may_end c.rested.ensures.written.0 c.rested.ensures.others
+returns-in-Rest-clause-turned g c = turned_by_rest (g.C.Clock.told c.args.hands.now.clock.now) (g.G.Gate.said c.args.hands.now.gate.now) c.args.place.now.trace.now c.args.hands.now.kit.now c.args.place.now.cpu c.args.task c.args.now c.args.self.now c.args.seats.now c.args.pen.now.log c.begin.new.self c.begin.ensures.only c.requires.goes c.in-Rest.ticks c.requires.task c.requires.at_kit.is_work.tasks.counted.tasks (inl c.in-Rest.ensures) c.rested.new.self c.rested.ensures.rests c.rested.ensures.goes_on (c.rested.ensures.ends c.args.hands.now.kit.now.published.moment (ap (λ (s : Tasks). s.ratelimit_pages) c.begin.ensures.only ∙ c.requires.at_kit.its.ratelimit)) c.rested.ensures.may_end c.rested.ensures.written.0 c.rested.ensures.others
 
 pub returns-in-Rest-clause-at_kit : goal.returns-in-Rest-clause-at_kit
-returns-in-Rest-clause-at_kit g c = at_rested (g.C.Clock.told c.args.hands.now.clock.now) (g.G.Gate.said c.args.hands.now.gate.now) c.args.place.now.trace.now c.args.hands.now.kit.now c.args.place.now.cpu c.args.task c.args.now c.args.self.now c.args.seats.now c.args.pen.now.log c.begin.new.self c.begin.ensures.only c.requires.goes c.in-Rest.ticks c.requires.task c.requires.at_kit.is_work.tasks.counted.tasks c.in-Rest.ensures c.rested.new.self c.rested.ensures.rests c.rested.ensures.goes_on (c.rested.ensures.ends c.args.hands.now.kit.now.published.moment (ap (λ (s : Tasks). s.ratelimit_pages) c.begin.ensures.only ∙ c.requires.at_kit.its.ratelimit)) c.rested.ensures.may_end c.rested.ensures.written.0 c.rested.ensures.others c.requires.at_kit (c.begin.ensures.tasks c.args.place.now.trace.now c.requires.at_kit.is_work.tasks) c.rested.ensures.written.1 c.rested.ensures.tasks c.rested.ensures.fixed
+returns-in-Rest-clause-at_kit g c = at_rested (g.C.Clock.told c.args.hands.now.clock.now) (g.G.Gate.said c.args.hands.now.gate.now) c.args.place.now.trace.now c.args.hands.now.kit.now c.args.place.now.cpu c.args.task c.args.now c.args.self.now c.args.seats.now c.args.pen.now.log c.begin.new.self c.begin.ensures.only c.requires.goes c.in-Rest.ticks c.requires.task c.requires.at_kit.is_work.tasks.counted.tasks (inl c.in-Rest.ensures) c.rested.new.self c.rested.ensures.rests c.rested.ensures.goes_on (c.rested.ensures.ends c.args.hands.now.kit.now.published.moment (ap (λ (s : Tasks). s.ratelimit_pages) c.begin.ensures.only ∙ c.requires.at_kit.its.ratelimit)) c.rested.ensures.may_end c.rested.ensures.written.0 c.rested.ensures.others c.requires.at_kit (c.begin.ensures.tasks c.args.place.now.trace.now c.requires.at_kit.is_work.tasks) c.rested.ensures.written.1 c.rested.ensures.tasks c.rested.ensures.fixed
 
 pub returns-in-Rest-clause-may_go_on : goal.returns-in-Rest-clause-may_go_on
-returns-in-Rest-clause-may_go_on g c = goes_on_by_rest (g.C.Clock.told c.args.hands.now.clock.now) (g.G.Gate.said c.args.hands.now.gate.now) c.args.place.now.trace.now c.args.hands.now.kit.now c.args.place.now.cpu c.args.task c.args.now c.args.self.now c.args.seats.now c.args.pen.now.log c.begin.new.self c.begin.ensures.only c.requires.goes c.in-Rest.ticks c.requires.task c.requires.at_kit.is_work.tasks.counted.tasks c.in-Rest.ensures c.rested.new.self c.rested.ensures.rests c.rested.ensures.goes_on (c.rested.ensures.ends c.args.hands.now.kit.now.published.moment (ap (λ (s : Tasks). s.ratelimit_pages) c.begin.ensures.only ∙ c.requires.at_kit.its.ratelimit)) c.rested.ensures.may_end c.rested.ensures.written.0 c.rested.ensures.others c.requires.owes c.requires.lefts c.requires.have_read
+returns-in-Rest-clause-may_go_on g c = goes_on_by_rest (g.C.Clock.told c.args.hands.now.clock.now) (g.G.Gate.said c.args.hands.now.gate.now) c.args.place.now.trace.now c.args.hands.now.kit.now c.args.place.now.cpu c.args.task c.args.now c.args.self.now c.args.seats.now c.args.pen.now.log c.begin.new.self c.begin.ensures.only c.requires.goes c.in-Rest.ticks c.requires.task c.requires.at_kit.is_work.tasks.counted.tasks (inl c.in-Rest.ensures) c.rested.new.self c.rested.ensures.rests c.rested.ensures.goes_on (c.rested.ensures.ends c.args.hands.now.kit.now.published.moment (ap (λ (s : Tasks). s.ratelimit_pages) c.begin.ensures.only ∙ c.requires.at_kit.its.ratelimit)) c.rested.ensures.may_end c.rested.ensures.written.0 c.rested.ensures.others c.requires.owes c.requires.lefts c.requires.have_read
 
 pub returns-in-Already-clause-turned : goal.returns-in-Already-clause-turned
 returns-in-Already-clause-turned g c = turned_by_already (g.C.Clock.told c.args.hands.now.clock.now) (g.G.Gate.said c.args.hands.now.gate.now) c.args.place.now.trace.now c.args.hands.now.kit.now c.args.place.now.cpu c.args.task c.args.now c.args.self.now c.args.seats.now c.args.pen.now.log c.begin.new.self c.begin.ensures.only c.requires.goes c.in-Write.inode c.in-Write.page (sight c.write.new.self c.write.new.seats c.write.new.pen.log) c.in-Write.ensures c.in-Already.ensures.writes
@@ -84,4 +84,32 @@ returns-in-Spent-clause-took g c = takes_none (g.C.Clock.told c.args.hands.now.c
 
 pub returns-in-Rest-clause-kinds : goal.returns-in-Rest-clause-kinds
 returns-in-Rest-clause-kinds g c =
+    rests_none (domains c.args.hands.now.kit.now.throttle.layout) c.args.place.now.cpu c.args.seats.now c.args.seats.now (none_as c.args.place.now.cpu c.args.seats.now c.args.seats.now refl)
+
+pub returns-in-Pause-clause-turned : goal.returns-in-Pause-clause-turned
+returns-in-Pause-clause-turned g c = turned_by_pause (g.C.Clock.told c.args.hands.now.clock.now) (g.G.Gate.said c.args.hands.now.gate.now) c.args.place.now.trace.now c.args.hands.now.kit.now c.args.place.now.cpu c.args.task c.args.now c.args.self.now c.args.seats.now c.args.pen.now.log c.begin.new.self c.begin.ensures.only c.requires.goes c.in-Pause.ticks c.requires.task c.requires.at_kit.is_work.tasks.counted.tasks c.in-Pause.ensures c.paused.new.self c.paused.ensures.side c.paused.ensures.own c.paused.ensures.others
+
+pub returns-in-Pause-clause-at_kit : goal.returns-in-Pause-clause-at_kit
+returns-in-Pause-clause-at_kit g c = at_paused (g.C.Clock.told c.args.hands.now.clock.now) (g.G.Gate.said c.args.hands.now.gate.now) c.args.place.now.trace.now c.args.hands.now.kit.now c.args.place.now.cpu c.args.task c.args.now c.args.self.now c.args.seats.now c.args.pen.now.log c.begin.new.self c.begin.ensures.only c.requires.goes c.in-Pause.ticks c.requires.task c.requires.at_kit.is_work.tasks.counted.tasks c.in-Pause.ensures c.paused.new.self c.paused.ensures.side c.paused.ensures.own c.paused.ensures.others c.requires.at_kit (c.begin.ensures.tasks c.args.place.now.trace.now c.requires.at_kit.is_work.tasks) (c.paused.ensures.tasks c.args.place.now.trace.now (c.begin.ensures.tasks c.args.place.now.trace.now c.requires.at_kit.is_work.tasks)) c.paused.ensures.fixed
+
+pub returns-in-Pause-clause-may_go_on : goal.returns-in-Pause-clause-may_go_on
+returns-in-Pause-clause-may_go_on g c = goes_on_by_pause (g.C.Clock.told c.args.hands.now.clock.now) (g.G.Gate.said c.args.hands.now.gate.now) c.args.place.now.trace.now c.args.hands.now.kit.now c.args.place.now.cpu c.args.task c.args.now c.args.self.now c.args.seats.now c.args.pen.now.log c.begin.new.self c.begin.ensures.only c.requires.goes c.in-Pause.ticks c.requires.task c.requires.at_kit.is_work.tasks.counted.tasks c.in-Pause.ensures c.paused.new.self c.paused.ensures.side c.paused.ensures.own c.paused.ensures.others c.requires.owes c.requires.lefts c.requires.have_read
+
+pub returns-in-Pause-clause-asked : goal.returns-in-Pause-clause-asked
+returns-in-Pause-clause-asked g c = asked_none c.args.place.now.cpu (g.G.Gate.said c.args.hands.now.gate.now) c.args.seats.now c.args.seats.now refl
+
+pub returns-in-Pause-clause-took : goal.returns-in-Pause-clause-took
+returns-in-Pause-clause-took g c = takes (g.C.Clock.told c.args.hands.now.clock.now) (g.G.Gate.said c.args.hands.now.gate.now) c.args.place.now.trace.now c.args.hands.now.kit.now c.args.place.now.cpu c.args.task c.args.now c.args.self.now c.args.seats.now c.args.pen.now.log c.begin.new.self c.begin.ensures.only c.requires.goes (sight (with_tasks c.args.self.now c.paused.new.self) c.args.seats.now c.args.pen.now.log) (pauses (record {
+  ticks = c.in-Pause.ticks;
+  its_job = c.in-Pause.ensures;
+  place = c.paused.ensures.own;
+  only = record { others = c.paused.ensures.others; fixed = c.paused.ensures.fixed };
+  fractions = refl;
+  waiting = refl;
+  seats = refl;
+  told = refl;
+}))
+
+pub returns-in-Pause-clause-kinds : goal.returns-in-Pause-clause-kinds
+returns-in-Pause-clause-kinds g c =
     rests_none (domains c.args.hands.now.kit.now.throttle.layout) c.args.place.now.cpu c.args.seats.now c.args.seats.now (none_as c.args.place.now.cpu c.args.seats.now c.args.seats.now refl)
