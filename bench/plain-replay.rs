@@ -201,8 +201,11 @@ struct Estimate {
 
 impl Estimate {
     fn first() -> Estimate {
-        let rate = FIRST_RATE;
-        Estimate { version: 0, at: 1, written: 0, dirtied: 0, bandwidth: rate, average: rate, ratelimit: rate, balanced: rate }
+        Estimate::given(FIRST_RATE, FIRST_RATE, FIRST_RATE)
+    }
+
+    fn given(bandwidth: i64, average: i64, ratelimit: i64) -> Estimate {
+        Estimate { version: 0, at: 1, written: 0, dirtied: 0, bandwidth, average, ratelimit, balanced: ratelimit }
     }
 
     fn update(&mut self, now: i64, written: i64, dirtied: i64, ratio: i64, is_below: bool) {
@@ -335,6 +338,8 @@ struct Device {
     least: i64,
     most: i64,
     is_strict: bool,
+    chunk: Option<i64>,
+    is_cyclic: bool,
     queue: VecDeque<usize>,
 }
 
@@ -388,6 +393,8 @@ struct Writer {
 struct Task {
     cpu: usize,
     actions: VecDeque<Action>,
+    pace: Option<(i64, i64)>,
+    since: i64,
     writers: Vec<Writer>,
     last: Option<usize>,
     until: i64,
@@ -413,9 +420,11 @@ struct Flusher {
     until: i64,
     kept: bool,
     hard: i64,
+    places: Vec<usize>,
     inode: usize,
-    page: usize,
-    chunk: i64,
+    start: usize,
+    passed: usize,
+    quota: i64,
     noted: bool,
     batch: VecDeque<usize>,
     flown: i64,
@@ -608,9 +617,11 @@ fn read(text: &str) -> Option<Machine> {
             ("avail", 2) => avail.push((numbers[0], numbers[1])),
             ("device", 4) => {
                 let (rate, least, most) = (numbers[1], numbers[2], numbers[3]);
-                devices.push(Device { rate, least, most, is_strict: false, queue: VecDeque::new() });
+                devices.push(Device { rate, least, most, is_strict: false, chunk: None, is_cyclic: false, queue: VecDeque::new() });
             }
             ("strict", 1) => devices[at(0)].is_strict = true,
+            ("chunk", 2) => devices[at(0)].chunk = Some(numbers[1]),
+            ("cyclic", 1) => devices[at(0)].is_cyclic = true,
             ("cgroup", 3) => domains.push(domain_of(Some((numbers[1], numbers[2])))),
             ("context", 3) => contexts.push(Context {
                 device: at(1),
@@ -625,6 +636,7 @@ fn read(text: &str) -> Option<Machine> {
                 count: Count::default(),
             }),
             ("expire", 2) => contexts[at(0)].expire = Some(numbers[1]),
+            ("estimate", 4) => contexts[at(0)].estimate = Estimate::given(numbers[1], numbers[2], numbers[3]),
             ("inode", 3) => {
                 inodes.push(Inode { context: at(1), first: pages, end: pages + at(2), is_marked: false });
                 pages += at(2);
@@ -632,11 +644,14 @@ fn read(text: &str) -> Option<Machine> {
             ("task", 2) => tasks.push(Task {
                 cpu: at(1),
                 actions: VecDeque::new(),
+                pace: None,
+                since: 0,
                 writers: Vec::new(),
                 last: None,
                 until: 0,
                 ended: false,
             }),
+            ("pace", 3) => tasks[at(0)].pace = Some((numbers[1], numbers[2])),
             ("flusher", 3) => flushers.push(Flusher {
                 device: at(1),
                 cpu: at(2),
@@ -647,9 +662,11 @@ fn read(text: &str) -> Option<Machine> {
                 until: 0,
                 kept: false,
                 hard: 0,
+                places: Vec::new(),
                 inode: 0,
-                page: 0,
-                chunk: 0,
+                start: 0,
+                passed: 0,
+                quota: 0,
                 noted: false,
                 batch: VecDeque::new(),
                 flown: 0,
@@ -674,6 +691,7 @@ fn read(text: &str) -> Option<Machine> {
     }
     for flusher in &mut flushers {
         flusher.is_ageing = contexts.iter().any(|it| it.device == flusher.device && it.expire.is_some());
+        flusher.places = vec![0; inodes.len()];
     }
     let running = tasks.iter().filter(|task| !task.actions.is_empty()).count();
     let all_least = devices.iter().map(|device| device.least).sum();
@@ -915,7 +933,13 @@ impl Machine {
                 task.until = self.clock + ticks;
                 self.end_turn(cpu, number)
             }
-            Some(_) => Some(Step::Write { task: number }),
+            Some(_) => match task.pace {
+                Some((pages, ticks)) if pages <= task.since => {
+                    (task.since, task.until) = (0, self.clock + ticks);
+                    self.end_turn(cpu, number)
+                }
+                _ => Some(Step::Write { task: number }),
+            },
             None => self.end_turn(cpu, number),
         }
     }
@@ -985,6 +1009,7 @@ impl Machine {
             return None;
         };
         let (inode, written) = (*inode, *page);
+        task.since += 1;
         *page += 1;
         if *page == *end {
             task.actions.pop_front();
@@ -1231,15 +1256,24 @@ impl Machine {
         at.is_marked = false;
         let it = &mut self.flushers[flusher];
         it.phase = Phase::Scanning;
-        (it.inode, it.page, it.noted) = (inode, at.first, false);
-        it.chunk = chunk_of(self.contexts[at.context].estimate.average, it.hard);
+        let device = &self.devices[it.device];
+        (it.inode, it.start, it.passed, it.noted) = (inode, if device.is_cyclic { it.places[inode] } else { 0 }, 0, false);
+        let chunk = chunk_of(self.contexts[at.context].estimate.average, it.hard);
+        it.quota = device.chunk.map_or(chunk, |most| most.min(chunk));
         it.batch.clear();
         self.tell(cpu, "unmark");
         None
     }
 
+    /// The page to which a scan comes next.
+    fn page_at(&self, flusher: usize) -> usize {
+        let it = &self.flushers[flusher];
+        let Inode { first, end, .. } = self.inodes[it.inode];
+        first + (it.start + it.passed) % (end - first)
+    }
+
     fn look(&mut self, cpu: usize, flusher: usize) -> Option<Step> {
-        let page = self.flushers[flusher].page;
+        let page = self.page_at(flusher);
         let bits = self.bits(page);
         self.tell(cpu, "look");
         match bits {
@@ -1249,7 +1283,7 @@ impl Machine {
     }
 
     fn claim(&mut self, cpu: usize, flusher: usize, seen: u64) -> Option<Step> {
-        let page = self.flushers[flusher].page;
+        let page = self.page_at(flusher);
         if self.words[page / 32] != seen {
             self.tell(cpu, "claim");
             return None;
@@ -1264,11 +1298,13 @@ impl Machine {
     fn pass(&mut self, cpu: usize, flusher: usize, is_noted: bool) -> Option<Step> {
         let it = &mut self.flushers[flusher];
         it.noted |= is_noted;
-        it.page += 1;
-        let has_more = it.page < self.inodes[it.inode].end;
-        if has_more && (it.batch.len() as i64) < it.chunk {
+        it.passed += 1;
+        let Inode { first, end, .. } = self.inodes[it.inode];
+        let has_more = it.passed < end - first;
+        if has_more && (it.batch.len() as i64) < it.quota {
             return None;
         }
+        it.places[it.inode] = (it.start + it.passed) % (end - first);
         if has_more || it.noted {
             return Some(Step::MarkAgain { flusher });
         }

@@ -3,8 +3,7 @@
 
 It is written from the laws and from the description of the turns alone, with a turn as a generator that stops before each of its
 steps. The formulas are those of tools/laws. Nothing rests on it: worked runs and tools/check-runs take their texts from it, so that
-a definition that is changed together with its code is noticed. It also runs two lines of a trace that wbsim refuses, "In a closed loop" in
-docs/LINUX.md, but not with --as-wbsim.
+a definition that is changed together with its code is noticed.
 
 usage: tools/replay.py [--as-wbsim] < TRACE
 """
@@ -99,9 +98,9 @@ def estimate_line(context, it):
 class Machine:
     """The machine of a trace, and what has become of it so far."""
 
-    def __init__(self, text, is_for_program=False):
-        """Of the text of a trace. Raises `Fault` where it is none. One for the program has no line that it doesn't know."""
-        trace = trace_of(WholeText("standard input", text.encode("latin-1")), is_for_program)
+    def __init__(self, text):
+        """Of the text of a trace. Raises `Fault` where it is none."""
+        trace = trace_of(WholeText("standard input", text.encode("latin-1")))
         self.settings, self.cap, self.halt, self.avail = trace.settings, trace.cap, trace.halt, trace.avail
         self.cpus = [Thing() for _ in range(trace.cpus)]
         self.devices = [Thing(rate=it.rate, least=it.least, most=it.greatest, is_strict=it.is_strict, chunk=it.chunk,
@@ -607,11 +606,11 @@ def main():
     """Prints the journal of standard input, and answers the status."""
     parser = Parser(prog="replay.py", usage="tools/replay.py [--as-wbsim] < TRACE", description=__doc__.partition("\n")[0],
                     epilog=sentence())
-    parser.add_argument("--as-wbsim", action="store_true", help="ends with the statuses and the sentences of 'wbsim replay', and refuses the lines that it refuses")
+    parser.add_argument("--as-wbsim", action="store_true", help="ends with the statuses and the sentences of 'wbsim replay'")
     as_wbsim = parser.parse_args().as_wbsim
     machine = None
     try:
-        machine = Machine(read_whole("-").data.decode("latin-1"), as_wbsim)
+        machine = Machine(read_whole("-").data.decode("latin-1"))
         machine.run()
         sys.stdout.writelines(line + "\n" for line in machine.journal())
         sys.stdout.flush()

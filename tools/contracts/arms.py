@@ -4,17 +4,34 @@ from __future__ import annotations
 import re
 from collections.abc import Iterator
 
+from .calls import split_tree
+
 REMARK = re.compile(r"//[^\n]*|\"(?:[^\"\\]|\\.)*\"")
 """What is no code: a comment, or a text."""
 OPENING, CLOSING = "([{", ")]}"
+FUNCTION = re.compile(r"\bfn (\w+)")
+USE = re.compile(r"^ *(?:pub(?:\([^)]*\))? )?use ([^;]*);", re.MULTILINE)
+OWN = ("crate", "self", "super")
+"""What a path begins with that stays in its crate."""
 
 
-def arms(name: str, text: str) -> Iterator[str]:
-    """The variants of an enum that patterns of this code name: in arms of `match`, in `let`, and in `matches!`."""
+def known_as(name: str, crate: str, own: str, text: str) -> set[str]:
+    """How a file of its own crate calls a type of a crate, by what it uses."""
+    found = set()
+    for use in USE.finditer(text):
+        for path, known in split_tree(" ".join(use[1].split())):
+            first, *_, last = path.split("::")
+            if last == name and (own if first in OWN else first) == crate:
+                found.add(known)
+    return found
+
+
+def arms(name: str, text: str) -> Iterator[tuple[str, str]]:
+    """The variants of an enum that patterns of this code name, in arms of `match`, in `let`, and in `matches!`: each by its function."""
     text = REMARK.sub("", text)
     for found in re.finditer(rf"(?<![\w:]){name}::(\w+)", text):
         if is_in_pattern(text, *found.span()):
-            yield found[1]
+            yield FUNCTION.findall(text, 0, found.start())[-1], found[1]
 
 
 def is_in_pattern(text: str, first: int, last: int) -> bool:

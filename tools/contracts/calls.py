@@ -33,7 +33,7 @@ class Clause:
 class Call:
     """A function. Its name is that in its module, as `Type::name`; `of` is the trait that an impl gives, if it stands in one. `demands` has
     the texts of its `requires` clauses, and `requires` what its comment says of them. `homes` has the crate of each definition that its
-    file names."""
+    file names. `body` is how many lines its body has, between its brackets."""
     name: str
     comment: str
     clauses: list[Clause]
@@ -42,6 +42,7 @@ class Call:
     demands: list[str]
     requires: str
     homes: dict[str, str]
+    body: int
 
 
 @dataclass
@@ -248,7 +249,7 @@ class Reader:
         clauses: list[Clause] = []
         demands: list[str] = []
         above: list[str] = []
-        sentence, run, depth = "", 0, 0
+        sentence, run, depth, body = "", 0, 0, 0
         while True:
             line = self.lines[self.at]
             text, inside = line.strip(), column(line) > indent
@@ -269,13 +270,13 @@ class Reader:
             if not depth and (plain(line).endswith(";") or not inside and plain(line).endswith("}")):
                 break
             if depth == 1 and not inside and plain(line).endswith("{"):
-                self.skip_body(indent)
+                body = self.skip_body(indent)
                 break
             self.at += 1
         self.at += 1
         name = f"{owner}::{match['name']}" if owner else match["name"]
         is_open = all_open or match["pub"] == "pub "
-        self.module.calls.append(Call(name, first_paragraph(comment), clauses, is_open, of, demands, required(comment), self.homes))
+        self.module.calls.append(Call(name, first_paragraph(comment), clauses, is_open, of, demands, required(comment), self.homes, body))
 
     # The text of the `requires` clause that begins in this line.
     def demand(self) -> str:
@@ -286,7 +287,9 @@ class Reader:
             at += 1
         return DEMAND.sub("", " ".join(words), count=1).strip().removesuffix("}").strip()
 
-    # To the line that closes the body, in the function's own column.
-    def skip_body(self, indent: int) -> None:
+    # To the line that closes the body, in the function's own column. The answer is how many lines stand between.
+    def skip_body(self, indent: int) -> int:
+        first = self.at
         while self.lines[self.at] != " " * indent + "}":
             self.at += 1
+        return self.at - first - 1

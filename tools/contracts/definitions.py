@@ -34,9 +34,10 @@ class Definition:
 
 
 class Specs:
-    """The definitions of a crate by name. Where two files have a name, the first one has it."""
+    """The definitions of a crate, and by name. Where two files have a name, the first one has it."""
 
     def __init__(self, folder: str) -> None:
+        self.every: list[Definition] = []
         self.found: dict[str, Definition] = {}
         for where, folders, names in os.walk(os.path.join(folder, "specs")):
             folders.sort()
@@ -79,6 +80,7 @@ class Specs:
         if not name:
             return None
         made = Definition(name, file, comment, "", bool(record), imports)
+        self.every.append(made)
         self.found.setdefault(name, made)
         return made
 

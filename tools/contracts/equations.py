@@ -78,10 +78,10 @@ def spellings(module: str, names: Iterable[str], text: str) -> dict[str, str]:
 
 def equations(text: str, words: Iterable[str]) -> Iterator[Equation]:
     """The equations of a file, also of its inner ones, whose left side has one of these words."""
-    lines = REMARK.sub("", text).split("\n")
     wanted, begun = set(words), -1
+    lines = REMARK.sub("", text).split("\n") if wanted else []
     for at, line in enumerate(lines):
-        if line.startswith(HEADS) or wanted.isdisjoint(NAME.findall(line)):
+        if not any(word in line for word in wanted) or line.startswith(HEADS) or wanted.isdisjoint(NAME.findall(line)):
             continue
         first = first_line(lines, at)
         equation = equation_at(lines, first) if first > begun else None

@@ -1,5 +1,4 @@
-"""Reading a trace. A text that `wbsim check` refuses is refused here with the same line and cause, but for the lines `cyclic` and `pace`,
-which that program doesn't know. They are refused where the text is for it.
+"""Reading a trace. A text that `wbsim check` refuses is refused here with the same line and cause.
 
 Each call of a line looks for its faults in the order of the format's table: unknown names, what is given twice, what is out of range,
 too many. Of several with one cause the leftmost is told.
@@ -19,13 +18,11 @@ from .trace import Cgroup, Context, Device, FirstEstimate, Flusher, Inode, Order
 from .whole_text import Refused, WholeText, read_whole
 
 COUNTS = {
-    "cpus": 1, "cap": 1, **{f"set {name}": 1 for name in limits.SETTINGS}, "avail": 2, "device": 4, "strict": 1, "chunk": 2, "cgroup": 3, "context": 3,
-    "expire": 2, "estimate": 4, "inode": 3, "task": 2, "flusher": 3, "write": 4, "rest": 2, "order": 2, "order timer": 1, "tick": 1, "halt": 1,
+    "cpus": 1, "cap": 1, **{f"set {name}": 1 for name in limits.SETTINGS}, "avail": 2, "device": 4, "strict": 1, "chunk": 2, "cyclic": 1,
+    "cgroup": 3, "context": 3, "expire": 2, "estimate": 4, "inode": 3, "task": 2, "pace": 3, "flusher": 3, "write": 4, "rest": 2,
+    "order": 2, "order timer": 1, "tick": 1, "halt": 1,
 }
 """How many numbers each line has."""
-
-LOOP_COUNTS = {"cyclic": 1, "pace": 3}
-"""The same of the lines that `tools/replay.py` alone runs."""
 
 
 class Found(Exception):
@@ -43,9 +40,9 @@ def read_trace(path: str) -> Trace:
     return trace_of(read_whole(path))
 
 
-def trace_of(text: WholeText, is_for_program: bool = False) -> Trace:
-    """The trace of a text. Raises `Fault` where it is none. One for the program has no line that it doesn't know."""
-    reader = TraceReader(is_for_program)
+def trace_of(text: WholeText) -> Trace:
+    """The trace of a text. Raises `Fault` where it is none."""
+    reader = TraceReader()
     text.give(reader)
     missing = reader.missing()
     if missing:
@@ -55,8 +52,6 @@ def trace_of(text: WholeText, is_for_program: bool = False) -> Trace:
 
 def unknown_word(word: str) -> str:
     """What is said of a word that begins no line, or of two."""
-    if word in LOOP_COUNTS:
-        return f"no line of a trace for wbsim begins with '{word}': only tools/replay.py reads such a line"
     near = get_close_matches(word.lower(), [*COUNTS, "set"], 1, 0.75)
     hint = f"; is it '{near[0]}'?" if near else ""
     if word.startswith("set "):
@@ -67,9 +62,8 @@ def unknown_word(word: str) -> str:
 class TraceReader:
     """Takes a trace line by line."""
 
-    def __init__(self, is_for_program: bool = False) -> None:
+    def __init__(self) -> None:
         self.trace = Trace()
-        self.counts = COUNTS if is_for_program else {**COUNTS, **LOOP_COUNTS}
         self.number = 0
         self.lines: dict[str, list[int]] = {"avail": [], "cgroup": [0]}
         self.action_lines = 0
@@ -85,12 +79,12 @@ class TraceReader:
 
     def spell(self, text: str) -> None:
         """Raises `Refused` where the text is spelled as no line."""
-        cut(text, self.counts, unknown_word)
+        cut(text, COUNTS, unknown_word)
 
     def line(self, text: str) -> None:
         """One line. Raises `Refused`."""
         self.number += 1
-        word, numbers = cut(text, self.counts, unknown_word)
+        word, numbers = cut(text, COUNTS, unknown_word)
         try:
             self.calls[word](*numbers)
         except Found as found:

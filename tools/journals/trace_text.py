@@ -1,5 +1,4 @@
-"""The text of a trace, as `wbsim check` prints it. The lines `cyclic` and `pace`, which that program refuses, stand after
-the others of their thing."""
+"""The text of a trace, as `wbsim check` prints it."""
 from __future__ import annotations
 
 from collections.abc import Iterator

@@ -25,10 +25,9 @@
     causes       why a writer paused, and what would have made it shorter
     explaining   the causes of all pauses of a text, and the longest pauses
     drawing      pictures of a text
-    machine      a trace of a machine like the one that printed a text
-    loop_machine such a machine in a closed loop, whose trace `tools/replay.py` alone runs
+    machine      a machine like the one that printed a text
     shares       how fast its disks write, what part of the threshold each may have, and its cgroups
-    loop_lines   the lines of its trace
+    machine_lines the lines of its trace
     beside       what a kernel did, and what a replay of such a trace did
     recording    how a text is taken, as root
     words        the words of `tools/wb kernel`

@@ -15,7 +15,7 @@ from journals.events import Decision, Event
 from journals.trace import Trace
 
 from .joining import Joined
-from .loop_machine import FEW
+from .machine import FEW
 from .whole import Story
 
 Point = tuple[float, float]

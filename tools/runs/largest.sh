@@ -54,19 +54,21 @@ awk 'BEGIN {
     for (i = 0; i < 16; i++) print "device", i, 1, 0, 100
     for (i = 0; i < 16; i++) print "strict", i
     for (i = 0; i < 16; i++) print "chunk", i, 2097152
+    for (i = 0; i < 16; i++) print "cyclic", i
     for (i = 1; i <= 8; i++) print "cgroup", i, 1, 1
     for (i = 0; i < 64; i++) print "context", i, 0, 0
     for (i = 0; i < 64; i++) print "expire", i, 100000
     for (i = 0; i < 64; i++) print "estimate", i, "1099511627776 1 1"
     for (i = 0; i < 4096; i++) print "inode", i, i % 64, 1
     for (i = 0; i < 256; i++) print "task", i, 0
+    for (i = 0; i < 256; i++) print "pace", i, "2097152 1000000000000"
     for (i = 0; i < 64; i++) print "flusher", i, i % 16, 0
     for (i = 0; i < 1024; i++) print "write", i % 256, int(i / 256), 0, 1
 }' > "$work/many"
 expect "check: as many of each thing as may be" 0 "" "$work/many" check < "$work/many"
 for line in 'avail 256 1000' 'device 16 1 0 100' 'cgroup 9 1 1' 'context 64 0 0' 'inode 4096 0 1' 'task 256 0' 'flusher 64 0 0' 'write 0 4 0 1'; do
     { cat "$work/many"; echo "$line"; } > "$work/in"
-    expect "check: and $line" 2 "wbsim: line 5951: too many" /dev/null check < "$work/in"
+    expect "check: and $line" 2 "wbsim: line 6223: too many" /dev/null check < "$work/in"
 done
 { echo 'cpus 1'; awk 'BEGIN { printf "avail"; for (i = 0; i < 1000000; i++) printf " 0"; print "" }'; } > "$work/in"
 refused "a line of a million numbers" "line 2: bad line"

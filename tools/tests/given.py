@@ -37,8 +37,8 @@ def text(name: str) -> str:
 
 
 def examples() -> Iterable[tuple[str, str]]:
-    """Each trace of examples/ and examples/loop/ that has its journal beside it, and that journal."""
-    for path in sorted(glob.glob(os.path.join(EXAMPLES, "*.journal")) + glob.glob(os.path.join(EXAMPLES, "loop", "*.journal"))):
+    """Each trace of examples/ that has its journal beside it, and that journal."""
+    for path in sorted(glob.glob(os.path.join(EXAMPLES, "*.journal"))):
         yield f"{path.removesuffix('.journal')}.trace", path
 
 

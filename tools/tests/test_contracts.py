@@ -5,7 +5,7 @@ import os
 import tempfile
 import unittest
 
-from contracts.block import block, put_block
+from contracts.block import block, differs, put_block
 from contracts.documents import claims_problems, map_problems
 from contracts.tables import House
 
@@ -291,8 +291,14 @@ class Contracts(unittest.TestCase):
         page = os.path.join(self.root, "docs", "PAGE.md")
         put_block(page, "tools/x", ["one", "", "two"])
         self.assertEqual(block(page, "tools/x"), ["one", "", "two"])
+        self.assertEqual(differs(page, "tools/x", ["one", "", "two"]), "")
+        self.assertEqual(differs(page, "tools/x", ["one", "", "three"]), "tools/x prints something else from its line 3 on: three")
+        self.assertEqual(differs(page, "tools/x", ["one", ""]), "tools/x prints something else from its line 3 on: nothing")
+        self.assertEqual(differs(page, "tools/x --y", ["one"]), "it has no part that tools/x --y prints")
         with open(page, encoding="utf-8") as file:
             self.assertEqual(file.read(), "Before.\n\n<!-- tools/x prints this -->\n\none\n\ntwo\n\n<!-- to here -->\n\nAfter.\n")
+        put_block(page, "tools/x", ["```", "one", "```"])
+        self.assertEqual(differs(page, "tools/x", ["one"]), "")
 
 
 if __name__ == "__main__":

@@ -8,12 +8,11 @@ from unittest import mock
 
 from journals import picture
 from journals.trace import FirstEstimate, Pace, Trace
-from journals.trace_reader import LOOP_COUNTS, read_trace
+from journals.trace_reader import read_trace
 from kernel import recording
 from kernel.beside import Span, farthest, of_kernel, of_replay, rows
-from kernel.loop_lines import loop_lines
-from kernel.loop_machine import LoopMachine, loop_machine_of, pace_of
-from kernel.machine import machine_of, trace_lines
+from kernel.machine import Machine, machine_of, pace_of
+from kernel.machine_lines import trace_lines
 from kernel.recording import Step, Wish, record
 from program.errors import OtherWords
 
@@ -50,12 +49,62 @@ class Pictures(WithDirectory):
 
 
 class Machines(WithDirectory):
+    def trace_of(self, machine: Machine) -> Trace:
+        """The trace of a machine, read again."""
+        return read_trace(self.file("trace", "".join(f"{line}\n" for line in trace_lines(machine))))
+
     def test_a_lawful_trace(self) -> None:
-        machine = machine_of(story_of(THREE), 3)
-        trace = read_trace(self.file("trace", "".join(f"{line}\n" for line in trace_lines(machine))))
-        self.assertEqual((trace.cpus, len(trace.devices), len(trace.tasks)), (4, 1, 3))
+        machine = machine_of(story_of(THREE))
+        trace = self.trace_of(machine)
+        self.assertEqual((trace.cpus, len(trace.devices), len(trace.tasks)), (4, 2, 4))
         self.assertEqual(trace.settings["dirty_bytes"], 51200 * 4096)
-        self.assertEqual(trace.pages, sum(writer.pages for writer in machine.writers))
+        others = machine.others
+        assert others
+        opening = others.opening + sum(it.pages for it in machine.contexts)
+        self.assertEqual((opening, others.pages), (43964, 0), "what is dirty when the text begins, also on other disks")
+        self.assertEqual(trace.pages, opening + sum(writer.pages for writer in machine.writers))
+
+    def test_the_lines_of_a_closed_loop(self) -> None:
+        trace = self.trace_of(machine_of(story_of(THREE), chunk=128))
+        self.assertEqual([(it.chunk, it.is_cyclic) for it in trace.devices], [(128, True), (None, False)])
+        self.assertEqual(trace.contexts[0].estimate, FirstEstimate(15070, 16389, 15334))
+        self.assertEqual(sorted(trace.paces), [1, 2, 3], "all tasks but the one that writes what is there in the beginning")
+
+    def test_a_strict_disk(self) -> None:
+        machine = machine_of(story_of(STRICT))
+        disk = machine.devices["7:0"]
+        self.assertEqual((disk.is_strict, disk.greatest), (True, 10))
+        trace = self.trace_of(machine)
+        self.assertEqual(([it.is_strict for it in trace.devices], trace.devices[0].greatest), ([True, False], 10))
+
+    def test_a_cgroup(self) -> None:
+        machine = machine_of(story_of(CGROUP))
+        trace = self.trace_of(machine)
+        self.assertEqual([it.file_pages for it in trace.cgroups], list(machine.cgroups.values()))
+        self.assertEqual({it.device for it in trace.contexts[:len(machine.contexts)]}, {0})
+
+    def test_a_rest_and_pages(self) -> None:
+        self.assertEqual([pace_of(rate) for rate in (1.0, 100.0, 8000.0, 100_000.0)], [(1, 1000), (32, 320), (32, 4), (100, 1)])
+
+    def test_more_pages_than_a_replay_has_steps_for(self) -> None:
+        with mock.patch("kernel.machine.MOST_PAGES", 200_000):
+            self.assertIn("cut to 156036 of 226183 pages, which a replay has steps for", machine_of(story_of(THREE)).notes)
+        with mock.patch("kernel.machine.MOST_PAGES", 50_000), self.assertRaises(OtherWords):
+            machine_of(story_of(THREE))
+
+    def test_a_number_that_is_no_chunk(self) -> None:
+        for number in ("0", "2097153", "x"):
+            status, out, err = printed("kernel", "trace", "--chunk", number, TWO)
+            self.assertEqual((status, out), (1, ""), err)
+
+    def test_a_text_that_tells_too_little(self) -> None:
+        for seconds, said in (("0.0000001", "wb: the text is too short: it has no span of time\n"),
+                              ("0.3", "wb: how fast disk 7:0 writes can't be told: its writers dirtied no more than it had more in the end\n")):
+            self.assertEqual(printed("kernel", "trace", "--seconds", seconds, THREE), (1, "", said))
+
+    def test_the_trace_of_examples(self) -> None:
+        with open(os.path.join(EXAMPLES, "kernel", "three-writers.trace"), encoding="ascii") as file:
+            self.assertEqual(file.read(), "".join(f"{line}\n" for line in trace_lines(machine_of(story_of(THREE)))))
 
     def test_what_it_stands_for_is_told_apart(self) -> None:
         status, out, err = printed("kernel", "trace", "--seconds", "1", TWO)
@@ -68,75 +117,6 @@ class Machines(WithDirectory):
         machine = machine_of(story_of(TWO))
         machine.limits = [(0, 73243, 36622), (7900, 29297, 14649)]
         lines = list(trace_lines(machine))
-        self.assertEqual([line for line in lines if line.startswith(("set", "avail"))],
-                         ["set dirty_ratio 100", "set dirty_background_ratio 50", "avail 0 73243", "avail 7900 29297"])
-
-    def test_the_program_takes_its_trace(self) -> None:
-        for path in (THREE, TWO, STRICT):
-            text = printed("kernel", "trace", "--seconds", "1", path)[1]
-            self.assertFalse(set(LOOP_COUNTS) & {line.partition(" ")[0] for line in text.splitlines()})
-
-
-class LoopMachines(WithDirectory):
-    def trace_of(self, machine: LoopMachine) -> Trace:
-        """The trace of a machine, read again."""
-        return read_trace(self.file("trace", "".join(f"{line}\n" for line in loop_lines(machine))))
-
-    def test_a_lawful_trace(self) -> None:
-        machine = loop_machine_of(story_of(THREE))
-        trace = self.trace_of(machine)
-        self.assertEqual((trace.cpus, len(trace.devices), len(trace.tasks)), (4, 2, 4))
-        self.assertEqual(trace.settings["dirty_bytes"], 51200 * 4096)
-        others = machine.others
-        assert others
-        opening = others.opening + sum(it.pages for it in machine.contexts)
-        self.assertEqual((opening, others.pages), (43964, 0), "what is dirty when the text begins, also on other disks")
-        self.assertEqual(trace.pages, opening + sum(writer.pages for writer in machine.writers))
-
-    def test_the_lines_of_a_closed_loop(self) -> None:
-        trace = self.trace_of(loop_machine_of(story_of(THREE), chunk=128))
-        self.assertEqual([(it.chunk, it.is_cyclic) for it in trace.devices], [(128, True), (None, False)])
-        self.assertEqual(trace.contexts[0].estimate, FirstEstimate(15070, 16389, 15334))
-        self.assertEqual(sorted(trace.paces), [1, 2, 3], "all tasks but the one that writes what is there in the beginning")
-
-    def test_a_strict_disk(self) -> None:
-        machine = loop_machine_of(story_of(STRICT))
-        disk = machine.devices["7:0"]
-        self.assertEqual((disk.is_strict, disk.greatest), (True, 10))
-        trace = self.trace_of(machine)
-        self.assertEqual(([it.is_strict for it in trace.devices], trace.devices[0].greatest), ([True, False], 10))
-
-    def test_a_cgroup(self) -> None:
-        machine = loop_machine_of(story_of(CGROUP))
-        trace = self.trace_of(machine)
-        self.assertEqual([it.file_pages for it in trace.cgroups], list(machine.cgroups.values()))
-        self.assertEqual({it.device for it in trace.contexts[:len(machine.contexts)]}, {0})
-
-    def test_a_rest_and_pages(self) -> None:
-        self.assertEqual([pace_of(rate) for rate in (1.0, 100.0, 8000.0, 100_000.0)], [(1, 1000), (32, 320), (32, 4), (100, 1)])
-
-    def test_more_pages_than_a_replay_has_steps_for(self) -> None:
-        with mock.patch("kernel.loop_machine.MOST_PAGES", 200_000):
-            self.assertIn("cut to 156036 of 226182 pages, which a replay has steps for", loop_machine_of(story_of(THREE)).notes)
-        with mock.patch("kernel.loop_machine.MOST_PAGES", 50_000), self.assertRaises(OtherWords):
-            loop_machine_of(story_of(THREE))
-
-    def test_a_number_that_is_no_chunk(self) -> None:
-        self.assertEqual(printed("kernel", "trace", "--loop", "--chunk", "0", TWO)[0], 1)
-        self.assertEqual(printed("kernel", "trace", "--chunk", "5", TWO), (1, "", "wb: --chunk is of a trace with --loop\n"))
-
-    def test_what_it_stands_for_is_told_apart(self) -> None:
-        status, out, err = printed("kernel", "trace", "--loop", "--seconds", "1", TWO)
-        self.assertEqual(status, 0)
-        self.assertIn("tools/replay.py alone runs this trace", err)
-        self.assertTrue(out.startswith("cpus "))
-        self.assertIn("vm.dirty_bytes=300003328", err)
-        self.assertIn("pages a second", err)
-
-    def test_thresholds_that_move(self) -> None:
-        machine = loop_machine_of(story_of(TWO))
-        machine.limits = [(0, 73243, 36622), (7900, 29297, 14649)]
-        lines = list(loop_lines(machine))
         self.assertEqual([line for line in lines if line.startswith(("set", "avail"))],
                          ["set dirty_ratio 100", "set dirty_background_ratio 50", "avail 0 73243", "avail 7900 29297"])
 

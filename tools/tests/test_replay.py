@@ -30,14 +30,14 @@ def journal_of(trace: str) -> str:
 
 class Replay(unittest.TestCase):
     def test_each_example_has_its_journal(self) -> None:
-        journals = sorted(glob.glob(os.path.join(EXAMPLES, "*.journal")) + glob.glob(os.path.join(EXAMPLES, "loop", "*.journal")))
+        journals = sorted(glob.glob(os.path.join(EXAMPLES, "*.journal")))
         self.assertGreater(len(journals), 20)
         for path in journals:
             with self.subTest(os.path.basename(path)):
                 self.assertEqual(journal_of(path[: -len("journal")] + "trace"), content(path))
 
     def test_each_long_example_has_the_sum_of_its_journal(self) -> None:
-        sums = sorted(glob.glob(os.path.join(EXAMPLES, "*.sum")) + glob.glob(os.path.join(EXAMPLES, "loop", "*.sum")))
+        sums = sorted(glob.glob(os.path.join(EXAMPLES, "*.sum")))
         self.assertGreater(len(sums), len(FULL) + 1)
         for path in sums:
             if os.path.basename(path)[: -len("sum")] + "trace" in FULL:
@@ -114,12 +114,11 @@ class Program(unittest.TestCase):
         self.assertEqual(run(given=f"{MACHINE.format(2)}cyclic 0\n")[0], 0)
         self.assertEqual(run("trace")[0], 1)
 
-
-    def test_as_the_program_it_refuses_the_lines_that_it_alone_runs(self) -> None:
-        for line in ("cyclic 0", "pace 0 1 1"):
-            self.assertEqual(run("--as-wbsim", given=f"{MACHINE.format(2)}{line}\n"), (2, "", "wbsim: line 8: bad line\n"))
-        for line in ("chunk 0 1", "estimate 0 1 1 1"):
+    def test_further_lines_as_the_program(self) -> None:
+        for line in ("chunk 0 1", "cyclic 0", "estimate 0 1 1 1", "pace 0 1 1"):
             self.assertEqual(run("--as-wbsim", given=f"{MACHINE.format(2)}{line}\n")[0], 0)
+        for line in ("cyclic 1", "pace 1 1 1"):
+            self.assertEqual(run("--as-wbsim", given=f"{MACHINE.format(2)}{line}\n"), (2, "", "wbsim: line 8: unknown name\n"))
 
 
 if __name__ == "__main__":

@@ -5,7 +5,6 @@ import os
 import re
 import subprocess
 import sys
-from functools import partial
 from unittest import mock
 
 from journals.law_reader import DomainReading, law_of
@@ -35,8 +34,8 @@ TRACES = [
     ("cpus 1\navail 0 01", 2, 9, "bad line", "number spelled with a leading zero"),
     ("CPUS 1\n", 1, 1, "bad line", "no line of a trace begins with 'CPUS'; is it 'cpus'?"),
     ("now 5000\n", 1, 1, "bad line", "no line of a trace begins with 'now'"),
-    (MACHINE + "cyclic 0\n", 8, 1, "bad line", "no line of a trace for wbsim begins with 'cyclic': only tools/replay.py reads such a line"),
-    (MACHINE + "pace 0 x\n", 8, 1, "bad line", "no line of a trace for wbsim begins with 'pace': only tools/replay.py reads such a line"),
+    (MACHINE + "cyclic 0 1\n", 8, 10, "bad line", "a field too many: 'cyclic' has 1 number"),
+    (MACHINE + "pace 0 x 1\n", 8, 8, "bad line", "'x' where a number is wanted"),
     ("set dirty_speed 1\n", 1, 5, "bad line", "no setting is named 'dirty_speed'"),
     ("set\n", 1, 4, "bad line", "a field is missing: 'set' has a second word"),
     ("cpus 01\n", 1, 6, "bad line", "number spelled with a leading zero"),
@@ -63,6 +62,8 @@ TRACES = [
     (MACHINE + "expire 0 10\nexpire 0 10\n", 9, 8, "given twice", "a second 'expire 0' line: the first is line 8"),
     # ranges
     (MACHINE + "chunk 0 2\nchunk 0 0\n", 9, 7, "given twice", "a second 'chunk 0' line: the first is line 8"),
+    (MACHINE + "cyclic 0\ncyclic 0\n", 9, 8, "given twice", "a second 'cyclic 0' line: the first is line 8"),
+    (MACHINE + "pace 0 0 1\n", 8, 8, "out of range", "number below 1, the least number of pages after which a task rests"),
     (MACHINE + "estimate 1 0 1 1\n", 8, 10, "unknown name", "no line before has context 1: the last one so far is context 0"),
     (MACHINE + "expire 0 0\n", 8, 10, "out of range",
      "number below 1, the least number of hundredths of a second after which an inode is due"),
@@ -121,7 +122,7 @@ def why(*words: str, given: str = "") -> tuple[int, str, str]:
 class Why(WithDirectory):
     def test_each_fault_of_a_trace(self) -> None:
         for content, *wanted in TRACES:
-            self.refused(partial(trace_of, is_for_program=True), content, *wanted)
+            self.refused(trace_of, content, *wanted)
 
     def test_each_fault_of_a_law_text(self) -> None:
         for content, *wanted in LAWS:

@@ -9,8 +9,7 @@ from collections import Counter
 from unittest import mock
 
 from wrong import trying
-from wrong.inputs import FULL, LOOP, Input, examples, inputs, law_rows, small_replays, sum_of, trace_text, worked_runs
-from wrong.loops import OF_LOOPS
+from wrong.inputs import FULL, Input, examples, inputs, law_rows, small_replays, sum_of, trace_text, worked_runs
 from wrong.order import WITHOUT_EFFECT, changed
 from wrong.rules import RULES, Rule
 from wrong.trying import Copy, parted
@@ -71,9 +70,8 @@ class OfTheRepository(WithDirectory):
         rows = re.search(r"static ROWS: \[Row; (\d+)\]", self.source("wbt_law_tests", "src", "laws.rt"))
         assert rows
         self.assertEqual(len(law_rows(ROOT)), int(rows.group(1)))
-        self.assertEqual(len(small_replays(ROOT)), 6)
-        folders = [os.path.join(ROOT, "examples"), os.path.join(ROOT, "examples", LOOP)]
-        kept = [name for folder in folders for name in os.listdir(folder) if name.endswith((".journal", ".sum"))]
+        self.assertEqual(len(small_replays(ROOT)), 9)
+        kept = [name for name in os.listdir(os.path.join(ROOT, "examples")) if name.endswith((".journal", ".sum"))]
         self.assertEqual(Counter(it.command for it in examples(ROOT)), {"replay": len(kept), "law": 1})
 
 
@@ -96,8 +94,7 @@ class OfRules(WithDirectory):
         for document in ("docs/CLAIMS.md", "docs/PROVED.md"):
             with open(os.path.join(ROOT, document), encoding="utf-8") as file:
                 text = file.read()
-            self.assertRegex(text, rf"\b{len(RULES) - len(OF_LOOPS)} (wrong )?rules\b", document)
-            self.assertRegex(text, rf"\b{len(OF_LOOPS)} more\b", document)
+            self.assertRegex(text, rf"\b{len(RULES)} (wrong )?rules\b", document)
 
     def test_places_of_a_text(self) -> None:
         self.assertEqual(changed("a b c", ("a", "x"), ("c", "")), ("a b c", "x b "))

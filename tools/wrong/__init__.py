@@ -5,7 +5,8 @@
     rule     what a wrong rule is: a change of one place of `tools/replay.py` or `tools/laws/`
     order    the wrong rules of the order of a replay, and those that change no journal
     lines    the wrong rules of the chunk of a device, and of the first estimate of a context
-    loops    the wrong rules of the lines that `tools/replay.py` alone runs
+    scans    the wrong rules of scans that go on where the last one ended
+    paces    the wrong rules of paces
     rules    all wrong rules
     outputs  what the program prints of inputs; it runs in the changed copy
     serving  the program there that loads the copy for each change, and answers

@@ -26,9 +26,6 @@ UNKNOWN = 1 << 30
 FULL = ("last-step-halted.trace",)
 """The examples that make as many steps as a replay may have, which takes Python some tens of seconds: they are longer than all others."""
 
-LOOP = "loop"
-"""The folder of examples that `tools/replay.py` alone runs: they have lines that the program refuses."""
-
 
 @dataclass(frozen=True)
 class Input:
@@ -94,6 +91,7 @@ def trace_text(trace: dict[str, Any]) -> str:
     lines += [f"device {number} {it['rate']} {it['min']} {it['max']}" for number, it in enumerate(trace["devices"])]
     lines += [f"strict {number}" for number, it in enumerate(trace["devices"]) if it.get("strict") == "true"]
     lines += [f"chunk {number} {it['chunk'][1]}" for number, it in enumerate(trace["devices"]) if it.get("chunk", "None") != "None"]
+    lines += [f"cyclic {number}" for number, it in enumerate(trace["devices"]) if it.get("cyclic") == "true"]
     lines += [f"cgroup {number} {it['filepages']} {it['headroom']}" for number, it in enumerate(trace["cgroups"], 1)]
     lines += [f"context {number} {it['device']} {it['domain']}" for number, it in enumerate(trace["contexts"])]
     expires = [(number, it.get("expire", "None")) for number, it in enumerate(trace["contexts"])]
@@ -102,6 +100,8 @@ def trace_text(trace: dict[str, Any]) -> str:
     lines += [f"estimate {number} {it[1]['bandwidth']} {it[1]['average']} {it[1]['ratelimit']}" for number, it in firsts if it != "None"]
     lines += [f"inode {number} {it['context']} {it['pages']}" for number, it in enumerate(trace["inodes"])]
     lines += [f"task {number} {it['cpu']}" for number, it in enumerate(trace["tasks"])]
+    paces = [(number, it.get("pace", "None")) for number, it in enumerate(trace["tasks"])]
+    lines += [f"pace {number} {pace[1]['pages']} {pace[1]['ticks']}" for number, pace in paces if pace != "None"]
     lines += [f"flusher {number} {it['device']} {it['cpu']}" for number, it in enumerate(trace["flushers"])]
     lines += [" ".join(map(str, ({"Write": "write", "Rest": "rest"}[it[0]], *it[1:]))) for it in trace["actions"]]
     words = {"Steps": "order", "Timer": "order timer", "Tick": "tick"}
@@ -145,7 +145,7 @@ def examples(root: str) -> list[Input]:
     """Those whose output is kept, or its sum."""
     found = []
     folder = os.path.join(root, "examples")
-    for path in sorted(glob.glob(os.path.join(folder, "*.*")) + glob.glob(os.path.join(folder, LOOP, "*.*"))):
+    for path in sorted(glob.glob(os.path.join(folder, "*.*"))):
         stem, ending = os.path.splitext(path)
         for beside, command in KEPT.get(ending, {}).items():
             if os.path.exists(stem + beside):

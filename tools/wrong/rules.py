@@ -2,9 +2,10 @@
 from __future__ import annotations
 
 from .lines import OF_LINES
-from .loops import OF_LOOPS
 from .order import OF_ORDER
+from .paces import OF_PACES
 from .rule import AGE, ALLOWANCE, COUNTERS, DECISION, ESTIMATE, LIMITS, PAUSES, POSITION, PROPORTIONS, REPLAY, STRICT, Rule
+from .scans import OF_SCANS
 
 OF_LIMITS = (
     Rule("a cgroup's available pages: its own pages and the global domain's dirty pages exchanged", REPLAY,
@@ -377,4 +378,4 @@ OF_AGES = (
 )
 
 RULES = (*OF_LIMITS, *OF_LOADS, *OF_FLUSHERS, *OF_ESTIMATES, *OF_PROPORTIONS, *OF_POSITIONS, *OF_PAUSES, *OF_DECISIONS, *OF_WRITERS,
-         *OF_COUNTERS, *OF_TURNS, *OF_ORDER, *OF_STRICT_DEVICES, *OF_AGES, *OF_LINES, *OF_LOOPS)
+         *OF_COUNTERS, *OF_TURNS, *OF_ORDER, *OF_STRICT_DEVICES, *OF_AGES, *OF_LINES, *OF_SCANS, *OF_PACES)

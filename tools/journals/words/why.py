@@ -54,7 +54,7 @@ def kind_of(data: bytes) -> str:
 
 def lawful(whole: WholeText, kind: str) -> str:
     """What a text is. Raises `Fault` where it is refused."""
-    return law_words(law_of(whole)) if kind == "law" else trace_words(trace_of(whole, is_for_program=True))
+    return law_words(law_of(whole)) if kind == "law" else trace_words(trace_of(whole))
 
 
 def trace_words(trace: Trace) -> str:

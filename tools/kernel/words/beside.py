@@ -24,7 +24,7 @@ def add(command: argparse.ArgumentParser) -> None:
     """A text, a trace and its journal, and whether there is a picture."""
     add_text(command)
     command.add_argument("trace", metavar="TRACE", help="of a machine like that of the text ('wb kernel trace')")
-    command.add_argument("journal", metavar="JOURNAL", help="its journal: tools/replay.py < TRACE, or where the trace is made without --loop, wbsim replay")
+    command.add_argument("journal", metavar="JOURNAL", help="its journal: wbsim replay < TRACE")
     command.add_argument("--seconds", type=float, metavar="S", help="only the first so many seconds of both")
     command.add_argument("--picture", metavar="DIRECTORY", help="draws both, too")
     command.add_argument("--name", default="beside", help="of the picture (beside)")

@@ -1,9 +1,9 @@
-"""The lines of a trace of a machine in a closed loop."""
+"""The lines of the trace of a machine like the one that printed a text."""
 from __future__ import annotations
 
 from collections.abc import Iterator
 
-from .loop_machine import LoopMachine, pace_of
+from .machine import Machine, pace_of
 
 PERCENT = 100
 FILE = 4096
@@ -19,7 +19,7 @@ FASTEST = 1 << 20
 """Pages a second of the disk that stands for all others."""
 
 
-def loop_lines(machine: LoopMachine) -> Iterator[str]:
+def trace_lines(machine: Machine) -> Iterator[str]:
     """All of them."""
     yield f"cpus {machine.cpus}"
     yield from limit_lines(machine)
@@ -28,7 +28,7 @@ def loop_lines(machine: LoopMachine) -> Iterator[str]:
     yield from task_lines(machine)
 
 
-def limit_lines(machine: LoopMachine) -> Iterator[str]:
+def limit_lines(machine: Machine) -> Iterator[str]:
     """The thresholds, by available pages where they move."""
     _, thresh, background = machine.limits[0]
     if len(machine.limits) == 1:
@@ -42,7 +42,7 @@ def limit_lines(machine: LoopMachine) -> Iterator[str]:
             yield f"avail {tick} {thresh}"
 
 
-def device_lines(machine: LoopMachine) -> Iterator[str]:
+def device_lines(machine: Machine) -> Iterator[str]:
     """The disks, and one that stands for all others."""
     devices = list(machine.devices.values())
     for number, it in enumerate(devices):
@@ -55,7 +55,7 @@ def device_lines(machine: LoopMachine) -> Iterator[str]:
         yield f"cyclic {number}"
 
 
-def context_lines(machine: LoopMachine) -> Iterator[str]:
+def context_lines(machine: Machine) -> Iterator[str]:
     """The contexts, in the cgroups, with their estimates."""
     devices, cgroups = list(machine.devices), list(machine.cgroups)
     for number, thresh in enumerate(machine.cgroups.values(), 1):
@@ -99,7 +99,7 @@ class Tasks:
                 yield f"rest {task} {rest}"
 
 
-def task_lines(machine: LoopMachine) -> Iterator[str]:
+def task_lines(machine: Machine) -> Iterator[str]:
     """The task that writes what was dirty in the beginning, then the writers, and one that stands for all others."""
     found, others = Tasks(), len(machine.contexts)
     for number in range(len(machine.devices) + bool(machine.others)):
