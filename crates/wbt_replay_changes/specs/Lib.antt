@@ -1,0 +1,5 @@
+pub mod Apply
+pub mod Change
+pub mod ChangeOf
+pub mod Facts
+pub mod Laws
