@@ -11,7 +11,8 @@
 #
 # Then, for each number of pages, the processor time a page on all CPUs, of the least of three times as many runs as write 2000000 pages
 # together; and at last that of 2000000 pages beside that of 100000. The disks are cyclic: a scan goes on where the last one ended, and looks
-# at no page again that this one has cleaned. So the quotient doesn't grow with the inodes, and the status is 1 where it is above 1.3.
+# at no page again that this one has cleaned. So the looks for a page don't grow with the inodes. We want a quotient of at most 1.3: the status
+# is 1 where it is above.
 # Nothing here is proved, and no claim is made of speed.
 root=$(cd "$(dirname "$0")/.." && pwd) || exit 70
 binary=${1:-$root/crates/wbsim_top/out/wbsim_top}
