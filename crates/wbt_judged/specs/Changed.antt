@@ -1,4 +1,4 @@
--- Journals with throttled writers, changing limits, failing disks, inodes that age, chunks and given estimates, and their changes: made by tools/judged-values.
+-- Journals with throttled writers, changing limits, failing disks, inodes that age, chunks, given estimates, scans that go round and paces, and their changes: made by tools/judged-values.
 use Rattle.std.specs.Prelude.{true, false, Some, None, [], ◌∷◌, pos, negsuc}
 use Rattle.wbt_counter.specs.declared.counter.Counter.TheVariants as counter
 use Rattle.wbt_pause.specs.declared.decision.Kind.TheVariants as kind
@@ -226,6 +226,22 @@ abbrev pub case_cut_pauses_3 : Journal
 case_cut_pauses_3 = record { timer = limits 0 1 33 1 33 ∷ []; cpus = part (entry.Write 0 0 true ∷ entry.Write 0 1 true ∷ entry.Write 0 2 true ∷ entry.Write 0 3 true ∷ entry.Write 0 4 true ∷ entry.Write 0 5 true ∷ entry.Write 0 6 true ∷ entry.Write 0 7 true ∷ folded (counter.Context 0) 1 (pos 8) ∷ entry.Write 0 8 true ∷ entry.Write 0 9 true ∷ entry.Write 0 10 true ∷ entry.Write 0 11 true ∷ entry.Write 0 12 true ∷ entry.Write 0 13 true ∷ entry.Write 0 14 true ∷ entry.Write 0 15 true ∷ folded (counter.Context 0) 2 (pos 8) ∷ entry.Check 0 ∷ entry.Write 0 16 true ∷ entry.Write 0 17 true ∷ entry.Write 0 18 true ∷ entry.Write 0 19 true ∷ entry.Check 1 ∷ entry.Write 0 20 true ∷ entry.Write 0 21 true ∷ entry.Write 0 22 true ∷ entry.Write 0 23 true ∷ folded (counter.Context 0) 3 (pos 8) ∷ entry.Check 2 ∷ entry.Write 0 24 true ∷ entry.Write 0 25 true ∷ entry.Write 0 26 true ∷ entry.Write 0 27 true ∷ entry.Check 3 ∷ entry.Write 0 28 true ∷ entry.Write 0 29 true ∷ entry.Write 0 30 true ∷ entry.Write 0 40 true ∷ folded (counter.Domain 0) 1 (pos 32) ∷ entry.Write 0 41 true ∷ entry.Write 0 42 true ∷ entry.Write 0 43 true ∷ entry.Write 0 44 true ∷ entry.Write 0 45 true ∷ entry.Write 0 46 true ∷ entry.Write 0 47 true ∷ folded (counter.Context 1) 1 (pos 8) ∷ entry.Write 0 48 true ∷ entry.Write 0 49 true ∷ entry.Write 0 50 true ∷ entry.Write 0 51 true ∷ entry.Write 0 52 true ∷ entry.Check 4 ∷ entry.Write 0 53 true ∷ entry.Write 0 54 true ∷ entry.Write 0 55 true ∷ folded (counter.Context 1) 2 (pos 8) ∷ entry.Check 5 ∷ entry.Claimed 0 0 ∷ entry.Claimed 0 1 ∷ entry.Claimed 0 2 ∷ entry.Claimed 0 3 ∷ entry.Claimed 0 4 ∷ entry.Claimed 0 5 ∷ entry.Claimed 0 6 ∷ entry.Claimed 0 7 ∷ entry.Claimed 0 8 ∷ entry.Claimed 0 9 ∷ entry.Claimed 0 10 ∷ entry.Claimed 0 11 ∷ entry.Claimed 0 12 ∷ entry.Claimed 0 13 ∷ entry.Claimed 0 14 ∷ entry.Claimed 0 15 ∷ entry.Claimed 0 16 ∷ entry.Claimed 0 17 ∷ entry.Claimed 0 18 ∷ entry.Claimed 0 19 ∷ entry.Claimed 0 20 ∷ entry.Claimed 0 21 ∷ entry.Claimed 0 22 ∷ entry.Claimed 0 23 ∷ entry.Claimed 0 24 ∷ entry.Claimed 0 25 ∷ entry.Claimed 0 26 ∷ entry.Claimed 0 27 ∷ entry.Claimed 0 28 ∷ entry.Claimed 0 29 ∷ entry.Claimed 0 30 ∷ entry.Batch 0 31 2 4 ∷ entry.Done 0 0 ∷ entry.Done 0 1 ∷ entry.Done 0 2 ∷ entry.Done 0 3 ∷ entry.Done 0 4 ∷ entry.Done 0 5 ∷ entry.Done 0 6 ∷ entry.Done 0 7 ∷ entry.Done 0 8 ∷ entry.Done 0 9 ∷ entry.Done 0 10 ∷ entry.Done 0 11 ∷ entry.Done 0 12 ∷ entry.Done 0 13 ∷ entry.Done 0 14 ∷ folded (counter.Context 0) 4 (negsuc 7) ∷ entry.Done 0 15 ∷ entry.Done 0 16 ∷ entry.Done 0 17 ∷ entry.Done 0 18 ∷ entry.Done 0 19 ∷ entry.Done 0 20 ∷ entry.Done 0 21 ∷ entry.Done 0 22 ∷ folded (counter.Context 0) 5 (negsuc 7) ∷ entry.Done 0 23 ∷ entry.Done 0 24 ∷ entry.Done 0 25 ∷ entry.Done 0 26 ∷ entry.Done 0 27 ∷ entry.Done 0 28 ∷ entry.Done 0 29 ∷ entry.Done 0 30 ∷ folded (counter.Context 0) 6 (negsuc 7) ∷ entry.Share 0 0 31 ∷ entry.Claimed 0 40 ∷ entry.Claimed 0 41 ∷ entry.Claimed 0 42 ∷ entry.Claimed 0 43 ∷ entry.Claimed 0 44 ∷ entry.Claimed 0 45 ∷ entry.Claimed 0 46 ∷ entry.Claimed 0 47 ∷ entry.Claimed 0 48 ∷ entry.Claimed 0 49 ∷ entry.Claimed 0 50 ∷ entry.Claimed 0 51 ∷ entry.Claimed 0 52 ∷ entry.Claimed 0 53 ∷ entry.Claimed 0 54 ∷ entry.Claimed 0 55 ∷ entry.Batch 0 16 4 5 ∷ entry.Done 0 40 ∷ entry.Done 0 41 ∷ entry.Done 0 42 ∷ entry.Done 0 43 ∷ entry.Done 0 44 ∷ entry.Done 0 45 ∷ entry.Done 0 46 ∷ entry.Done 0 47 ∷ folded (counter.Context 1) 3 (negsuc 7) ∷ entry.Done 0 48 ∷ entry.Done 0 49 ∷ entry.Done 0 50 ∷ entry.Done 0 51 ∷ entry.Done 0 52 ∷ entry.Done 0 53 ∷ entry.Done 0 54 ∷ entry.Done 0 55 ∷ folded (counter.Context 1) 4 (negsuc 7) ∷ folded (counter.Domain 0) 2 (negsuc 31) ∷ entry.Share 0 1 16 ∷ []) (check 0 0 1 (read 0 0 33 1 33 0 (pos 0) 0 0 1) None 2 (pos 16) 0 kind.Free 0 4 0 4 1 ∷ check 0 0 1 (read 0 0 33 1 33 0 (pos 0) 0 0 1) None 2 (pos 16) 0 kind.Free 0 4 0 4 1 ∷ check 0 0 1 (read 0 0 33 1 33 0 (pos 0) 0 0 1) None 3 (pos 24) 0 kind.Free 0 4 0 4 1 ∷ check 0 0 1 (read 0 0 33 1 33 0 (pos 0) 0 0 1) None 3 (pos 24) 0 kind.Free 0 4 0 4 1 ∷ check 0 1 1 (read 0 0 33 1 33 1 (pos 32) 0 0 1) None 1 (pos 8) 0 kind.Go 1 3 0 3 3 ∷ check 0 1 2 (read 0 0 33 1 33 1 (pos 32) 0 0 1) None 2 (pos 16) 0 kind.Go 4 3 0 3 5 ∷ []) ([]) ∷ []; steps = []; bases = []; homes = []; left = []; strict = []; ending = ending.Done }
 
 -- lawful
+abbrev pub case_ends_at_its_pace_trace : Trace
+case_ends_at_its_pace_trace = record { cpus = 1; cap = 1024; settings = settings 20 10 143360 4096; avail = avail 0 1000 ∷ []; devices = device 25600 0 100 ∷ []; cgroups = []; contexts = context 0 0 ∷ []; inodes = inode 0 0 20 ∷ inode 0 20 4 ∷ []; tasks = (record (on_cpu 0) { pace = Some (record { pages = 2; ticks = 5 }) }) ∷ on_cpu 0 ∷ []; flushers = flusher 0 0 ∷ []; actions = action.Rest 0 10 ∷ action.Write 0 1 0 4 ∷ action.Write 1 0 0 16 ∷ action.Rest 1 30 ∷ action.Write 1 0 16 4 ∷ []; order = []; halt = None }
+
+-- its journal, which is lawful
+abbrev pub case_ends_at_its_pace : Journal
+case_ends_at_its_pace = record { timer = limits 0 1 35 1 35 ∷ []; cpus = part (entry.Write 1 0 true ∷ entry.Write 1 1 true ∷ entry.Write 1 2 true ∷ entry.Write 1 3 true ∷ entry.Write 1 4 true ∷ entry.Write 1 5 true ∷ entry.Write 1 6 true ∷ entry.Write 1 7 true ∷ folded (counter.Context 0) 1 (pos 8) ∷ entry.Write 1 8 true ∷ entry.Write 1 9 true ∷ entry.Write 1 10 true ∷ entry.Write 1 11 true ∷ entry.Write 1 12 true ∷ entry.Write 1 13 true ∷ entry.Write 1 14 true ∷ entry.Write 1 15 true ∷ folded (counter.Context 0) 2 (pos 8) ∷ entry.Check 0 ∷ entry.Write 0 20 true ∷ entry.Write 0 21 true ∷ entry.Write 0 22 true ∷ entry.Write 0 23 true ∷ entry.Write 1 16 true ∷ entry.Check 1 ∷ entry.Write 1 17 true ∷ entry.Write 1 18 true ∷ entry.Write 1 19 true ∷ folded (counter.Context 0) 3 (pos 8) ∷ entry.Check 2 ∷ entry.Claimed 0 0 ∷ entry.Claimed 0 1 ∷ entry.Claimed 0 2 ∷ entry.Claimed 0 3 ∷ entry.Claimed 0 4 ∷ entry.Claimed 0 5 ∷ entry.Claimed 0 6 ∷ entry.Claimed 0 7 ∷ entry.Claimed 0 8 ∷ entry.Claimed 0 9 ∷ entry.Claimed 0 10 ∷ entry.Claimed 0 11 ∷ entry.Claimed 0 12 ∷ entry.Claimed 0 13 ∷ entry.Claimed 0 14 ∷ entry.Claimed 0 15 ∷ entry.Claimed 0 16 ∷ entry.Claimed 0 17 ∷ entry.Claimed 0 18 ∷ entry.Claimed 0 19 ∷ entry.Batch 0 20 31 32 ∷ entry.Done 0 0 ∷ entry.Done 0 1 ∷ entry.Done 0 2 ∷ entry.Done 0 3 ∷ entry.Done 0 4 ∷ entry.Done 0 5 ∷ entry.Done 0 6 ∷ entry.Done 0 7 ∷ folded (counter.Context 0) 4 (negsuc 7) ∷ entry.Done 0 8 ∷ entry.Done 0 9 ∷ entry.Done 0 10 ∷ entry.Done 0 11 ∷ entry.Done 0 12 ∷ entry.Done 0 13 ∷ entry.Done 0 14 ∷ entry.Done 0 15 ∷ folded (counter.Context 0) 5 (negsuc 7) ∷ entry.Done 0 16 ∷ entry.Done 0 17 ∷ entry.Done 0 18 ∷ entry.Done 0 19 ∷ entry.Share 0 0 20 ∷ entry.Claimed 0 20 ∷ entry.Claimed 0 21 ∷ entry.Claimed 0 22 ∷ entry.Claimed 0 23 ∷ entry.Batch 0 4 32 33 ∷ entry.Done 0 20 ∷ entry.Done 0 21 ∷ entry.Done 0 22 ∷ entry.Done 0 23 ∷ folded (counter.Context 0) 6 (negsuc 7) ∷ entry.Share 0 0 4 ∷ []) (check 1 0 1 (read 0 0 35 1 35 0 (pos 0) 0 0 1) None 2 (pos 16) 0 kind.Free 0 4 0 4 1 ∷ check 1 0 31 (read 0 0 35 1 35 0 (pos 0) 0 0 1) None 2 (pos 16) 0 kind.Free 0 4 0 4 31 ∷ check 1 0 31 (read 0 0 35 1 35 0 (pos 0) 0 0 1) None 3 (pos 24) 0 kind.Free 0 4 0 4 31 ∷ []) ([]) ∷ []; steps = []; bases = []; homes = []; left = []; strict = []; ending = ending.Done }
+
+-- broken 8 30
+abbrev pub case_ends_at_its_pace_1_trace : Trace
+case_ends_at_its_pace_1_trace = record { cpus = 1; cap = 1024; settings = settings 20 10 143360 4096; avail = avail 0 1000 ∷ []; devices = device 25600 0 100 ∷ []; cgroups = []; contexts = context 0 0 ∷ []; inodes = inode 0 0 20 ∷ inode 0 20 4 ∷ []; tasks = (record (on_cpu 0) { pace = Some (record { pages = 2; ticks = 5 }) }) ∷ on_cpu 0 ∷ []; flushers = flusher 0 0 ∷ []; actions = action.Rest 0 10 ∷ action.Write 0 1 0 4 ∷ action.Write 1 0 0 16 ∷ action.Rest 1 30 ∷ action.Write 1 0 16 4 ∷ []; order = []; halt = None }
+
+-- its journal, which breaks point 8 at line 30
+abbrev pub case_ends_at_its_pace_1 : Journal
+case_ends_at_its_pace_1 = record { timer = limits 0 1 35 1 35 ∷ []; cpus = part (entry.Write 1 0 true ∷ entry.Write 1 1 true ∷ entry.Write 1 2 true ∷ entry.Write 1 3 true ∷ entry.Write 1 4 true ∷ entry.Write 1 5 true ∷ entry.Write 1 6 true ∷ entry.Write 1 7 true ∷ folded (counter.Context 0) 1 (pos 8) ∷ entry.Write 1 8 true ∷ entry.Write 1 9 true ∷ entry.Write 1 10 true ∷ entry.Write 1 11 true ∷ entry.Write 1 12 true ∷ entry.Write 1 13 true ∷ entry.Write 1 14 true ∷ entry.Write 1 15 true ∷ folded (counter.Context 0) 2 (pos 8) ∷ entry.Check 0 ∷ entry.Write 0 20 true ∷ entry.Write 0 21 true ∷ entry.Write 0 22 true ∷ entry.Write 0 23 true ∷ entry.Write 1 16 true ∷ entry.Write 1 17 true ∷ entry.Write 1 18 true ∷ entry.Write 1 19 true ∷ folded (counter.Context 0) 3 (pos 8) ∷ entry.Check 1 ∷ entry.Claimed 0 0 ∷ entry.Claimed 0 1 ∷ entry.Claimed 0 2 ∷ entry.Claimed 0 3 ∷ entry.Claimed 0 4 ∷ entry.Claimed 0 5 ∷ entry.Claimed 0 6 ∷ entry.Claimed 0 7 ∷ entry.Claimed 0 8 ∷ entry.Claimed 0 9 ∷ entry.Claimed 0 10 ∷ entry.Claimed 0 11 ∷ entry.Claimed 0 12 ∷ entry.Claimed 0 13 ∷ entry.Claimed 0 14 ∷ entry.Claimed 0 15 ∷ entry.Claimed 0 16 ∷ entry.Claimed 0 17 ∷ entry.Claimed 0 18 ∷ entry.Claimed 0 19 ∷ entry.Batch 0 20 31 32 ∷ entry.Done 0 0 ∷ entry.Done 0 1 ∷ entry.Done 0 2 ∷ entry.Done 0 3 ∷ entry.Done 0 4 ∷ entry.Done 0 5 ∷ entry.Done 0 6 ∷ entry.Done 0 7 ∷ folded (counter.Context 0) 4 (negsuc 7) ∷ entry.Done 0 8 ∷ entry.Done 0 9 ∷ entry.Done 0 10 ∷ entry.Done 0 11 ∷ entry.Done 0 12 ∷ entry.Done 0 13 ∷ entry.Done 0 14 ∷ entry.Done 0 15 ∷ folded (counter.Context 0) 5 (negsuc 7) ∷ entry.Done 0 16 ∷ entry.Done 0 17 ∷ entry.Done 0 18 ∷ entry.Done 0 19 ∷ entry.Share 0 0 20 ∷ entry.Claimed 0 20 ∷ entry.Claimed 0 21 ∷ entry.Claimed 0 22 ∷ entry.Claimed 0 23 ∷ entry.Batch 0 4 32 33 ∷ entry.Done 0 20 ∷ entry.Done 0 21 ∷ entry.Done 0 22 ∷ entry.Done 0 23 ∷ folded (counter.Context 0) 6 (negsuc 7) ∷ entry.Share 0 0 4 ∷ []) (check 1 0 1 (read 0 0 35 1 35 0 (pos 0) 0 0 1) None 2 (pos 16) 0 kind.Free 0 4 0 4 1 ∷ check 1 0 31 (read 0 0 35 1 35 0 (pos 0) 0 0 1) None 3 (pos 24) 0 kind.Free 0 4 0 4 31 ∷ []) ([]) ∷ []; steps = []; bases = []; homes = []; left = []; strict = []; ending = ending.Done }
+
+-- lawful
 abbrev pub case_fails_eight_times_trace : Trace
 case_fails_eight_times_trace = record { cpus = 1; cap = 1024; settings = settings 20 10 0 0; avail = avail 0 100000 ∷ []; devices = device 25600 0 100 ∷ []; cgroups = []; contexts = context 0 0 ∷ []; inodes = inode 0 0 2 ∷ []; tasks = on_cpu 0 ∷ []; flushers = flusher 0 0 ∷ []; actions = action.Write 0 0 0 2 ∷ []; order = []; halt = None }
 
@@ -434,6 +450,70 @@ abbrev pub case_goes_on_in_a_cgroup_1 : Journal
 case_goes_on_in_a_cgroup_1 = record { timer = limits 0 1 399 9 399 ∷ limits 1 1 39 0 39 ∷ []; cpus = part (entry.Write 0 0 true ∷ entry.Write 0 1 true ∷ entry.Write 0 2 true ∷ entry.Write 0 3 true ∷ entry.Write 0 4 true ∷ entry.Write 0 5 true ∷ entry.Write 0 6 true ∷ entry.Write 0 7 true ∷ folded (counter.Context 0) 1 (pos 8) ∷ entry.Write 0 8 true ∷ entry.Write 0 9 true ∷ entry.Write 0 10 true ∷ entry.Write 0 11 true ∷ entry.Write 0 12 true ∷ entry.Write 0 13 true ∷ entry.Write 0 14 true ∷ entry.Write 0 15 true ∷ folded (counter.Context 0) 2 (pos 8) ∷ entry.Check 0 ∷ entry.Write 0 16 true ∷ entry.Write 0 17 true ∷ entry.Write 0 18 true ∷ entry.Write 0 19 true ∷ entry.Check 1 ∷ entry.Write 0 20 true ∷ entry.Write 0 21 true ∷ entry.Write 0 22 true ∷ entry.Write 0 23 true ∷ folded (counter.Context 0) 3 (pos 8) ∷ entry.Check 2 ∷ entry.Write 0 24 true ∷ entry.Write 0 25 true ∷ entry.Write 0 26 true ∷ entry.Write 0 27 true ∷ entry.Check 3 ∷ entry.Write 0 28 true ∷ entry.Write 0 29 true ∷ entry.Write 0 30 true ∷ entry.Write 0 31 true ∷ folded (counter.Context 0) 4 (pos 8) ∷ folded (counter.Domain 0) 1 (pos 32) ∷ folded (counter.Domain 1) 1 (pos 32) ∷ entry.Check 4 ∷ entry.Write 0 32 true ∷ entry.Write 0 33 true ∷ entry.Write 0 34 true ∷ entry.Write 0 35 true ∷ entry.Check 5 ∷ entry.Write 0 36 true ∷ entry.Write 0 37 true ∷ entry.Write 0 38 true ∷ entry.Write 0 39 true ∷ folded (counter.Context 0) 5 (pos 8) ∷ entry.Claimed 0 0 ∷ entry.Claimed 0 1 ∷ entry.Claimed 0 2 ∷ entry.Claimed 0 3 ∷ entry.Claimed 0 4 ∷ entry.Claimed 0 5 ∷ entry.Claimed 0 6 ∷ entry.Claimed 0 7 ∷ entry.Claimed 0 8 ∷ entry.Claimed 0 9 ∷ entry.Claimed 0 10 ∷ entry.Claimed 0 11 ∷ entry.Claimed 0 12 ∷ entry.Claimed 0 13 ∷ entry.Claimed 0 14 ∷ entry.Claimed 0 15 ∷ entry.Claimed 0 16 ∷ entry.Claimed 0 17 ∷ entry.Claimed 0 18 ∷ entry.Claimed 0 19 ∷ entry.Claimed 0 20 ∷ entry.Claimed 0 21 ∷ entry.Claimed 0 22 ∷ entry.Claimed 0 23 ∷ entry.Claimed 0 24 ∷ entry.Claimed 0 25 ∷ entry.Claimed 0 26 ∷ entry.Claimed 0 27 ∷ entry.Claimed 0 28 ∷ entry.Claimed 0 29 ∷ entry.Claimed 0 30 ∷ entry.Claimed 0 31 ∷ entry.Claimed 0 32 ∷ entry.Claimed 0 33 ∷ entry.Claimed 0 34 ∷ entry.Claimed 0 35 ∷ entry.Claimed 0 36 ∷ entry.Claimed 0 37 ∷ entry.Claimed 0 38 ∷ entry.Claimed 0 39 ∷ entry.Batch 0 40 2 4 ∷ entry.Done 0 0 ∷ entry.Done 0 1 ∷ entry.Done 0 2 ∷ entry.Done 0 3 ∷ entry.Done 0 4 ∷ entry.Done 0 5 ∷ entry.Done 0 6 ∷ entry.Done 0 7 ∷ folded (counter.Context 0) 6 (negsuc 7) ∷ entry.Done 0 8 ∷ entry.Done 0 9 ∷ entry.Done 0 10 ∷ entry.Done 0 11 ∷ entry.Done 0 12 ∷ entry.Done 0 13 ∷ entry.Done 0 14 ∷ entry.Done 0 15 ∷ folded (counter.Context 0) 7 (negsuc 7) ∷ entry.Done 0 16 ∷ entry.Done 0 17 ∷ entry.Done 0 18 ∷ entry.Done 0 19 ∷ entry.Done 0 20 ∷ entry.Done 0 21 ∷ entry.Done 0 22 ∷ entry.Done 0 23 ∷ folded (counter.Context 0) 8 (negsuc 7) ∷ entry.Done 0 24 ∷ entry.Done 0 25 ∷ entry.Done 0 26 ∷ entry.Done 0 27 ∷ entry.Done 0 28 ∷ entry.Done 0 29 ∷ entry.Done 0 30 ∷ entry.Done 0 31 ∷ folded (counter.Context 0) 9 (negsuc 7) ∷ entry.Done 0 32 ∷ entry.Done 0 33 ∷ entry.Done 0 34 ∷ entry.Done 0 35 ∷ entry.Done 0 36 ∷ entry.Done 0 37 ∷ entry.Done 0 38 ∷ entry.Done 0 39 ∷ folded (counter.Context 0) 10 (negsuc 7) ∷ folded (counter.Domain 0) 2 (negsuc 31) ∷ folded (counter.Domain 1) 2 (negsuc 31) ∷ entry.Share 0 0 40 ∷ entry.Share 1 0 40 ∷ []) (check 0 0 1 (read 0 0 399 9 399 0 (pos 0) 0 0 1) (Some (read 1 0 39 0 39 0 (pos 0) 0 0 1)) 2 (pos 16) 0 kind.Free 0 4 0 4 1 ∷ check 0 0 1 (read 0 0 399 9 399 0 (pos 0) 0 0 1) (Some (read 1 0 39 0 39 0 (pos 0) 0 0 1)) 2 (pos 16) 0 kind.Free 0 4 0 4 1 ∷ check 0 0 1 (read 0 0 399 9 399 0 (pos 0) 0 0 1) (Some (read 1 0 39 0 39 0 (pos 0) 0 0 1)) 3 (pos 24) 0 kind.Free 0 4 0 4 1 ∷ check 0 0 1 (read 0 0 399 9 399 0 (pos 0) 0 0 1) (Some (read 1 0 39 0 39 0 (pos 0) 0 0 1)) 3 (pos 24) 0 kind.Free 0 4 0 4 1 ∷ check 0 0 1 (read 0 0 399 9 399 1 (pos 32) 0 0 1) (Some (read 1 0 39 0 39 1 (pos 32) 0 0 1)) 4 (pos 32) 0 kind.Free 0 4 0 4 1 ∷ check 0 0 1 (read 0 0 399 9 399 1 (pos 32) 0 0 1) (Some (read 1 0 39 0 39 1 (pos 32) 0 0 1)) 4 (pos 32) 0 kind.Go 1 6 0 6 2 ∷ []) ([]) ∷ []; steps = []; bases = []; homes = []; left = []; strict = []; ending = ending.Done }
 
 -- lawful
+abbrev pub case_goes_round_trace : Trace
+case_goes_round_trace = record { cpus = 2; cap = 1024; settings = settings 20 10 0 0; avail = avail 0 100000 ∷ []; devices = (record (chunked_device 25600 0 100 2) { cyclic = true }) ∷ []; cgroups = []; contexts = ageing_context 0 0 10 ∷ []; inodes = inode 0 0 5 ∷ inode 0 5 2 ∷ []; tasks = on_cpu 0 ∷ []; flushers = flusher 0 1 ∷ []; actions = action.Write 0 0 0 2 ∷ action.Write 0 1 0 1 ∷ action.Rest 0 109 ∷ action.Write 0 0 4 1 ∷ action.Write 0 0 0 2 ∷ []; order = []; halt = None }
+
+-- its journal, which is lawful
+abbrev pub case_goes_round : Journal
+case_goes_round = record { timer = limits 0 1 19995 9985 19995 ∷ []; cpus = part (entry.Write 0 0 true ∷ entry.Write 0 1 true ∷ entry.Write 0 5 true ∷ entry.Write 0 4 true ∷ entry.Write 0 0 true ∷ entry.Write 0 1 true ∷ []) ([]) ([]) ∷ part (entry.Noticed 0 0 1 ∷ entry.Noticed 0 1 1 ∷ entry.Aged 0 0 101 101 ∷ entry.Claimed 0 0 ∷ entry.Claimed 0 1 ∷ entry.Batch 0 2 101 102 ∷ entry.Done 0 0 ∷ entry.Done 0 1 ∷ entry.Share 0 0 2 ∷ entry.Noticed 0 0 102 ∷ entry.Aged 0 1 101 102 ∷ entry.Claimed 0 5 ∷ entry.Batch 0 1 102 103 ∷ entry.Done 0 5 ∷ entry.Share 0 0 1 ∷ entry.Taken 0 0 ∷ entry.Claimed 0 4 ∷ entry.Claimed 0 0 ∷ entry.Batch 0 2 110 111 ∷ entry.Done 0 4 ∷ entry.Done 0 0 ∷ entry.Share 0 0 2 ∷ entry.Claimed 0 1 ∷ entry.Batch 0 1 111 112 ∷ entry.Done 0 1 ∷ entry.Share 0 0 1 ∷ []) ([]) ([]) ∷ []; steps = []; bases = []; homes = []; left = []; strict = []; ending = ending.Done }
+
+-- broken 12 22
+abbrev pub case_goes_round_1_trace : Trace
+case_goes_round_1_trace = record { cpus = 2; cap = 1024; settings = settings 20 10 0 0; avail = avail 0 100000 ∷ []; devices = (record (chunked_device 25600 0 100 2) { cyclic = true }) ∷ []; cgroups = []; contexts = ageing_context 0 0 10 ∷ []; inodes = inode 0 0 5 ∷ inode 0 5 2 ∷ []; tasks = on_cpu 0 ∷ []; flushers = flusher 0 1 ∷ []; actions = action.Write 0 0 0 2 ∷ action.Write 0 1 0 1 ∷ action.Rest 0 109 ∷ action.Write 0 0 4 1 ∷ action.Write 0 0 0 2 ∷ []; order = []; halt = None }
+
+-- its journal, which breaks point 12 at line 22
+abbrev pub case_goes_round_1 : Journal
+case_goes_round_1 = record { timer = limits 0 1 19995 9985 19995 ∷ []; cpus = part (entry.Write 0 0 true ∷ entry.Write 0 1 true ∷ entry.Write 0 5 true ∷ entry.Write 0 4 true ∷ entry.Write 0 0 true ∷ entry.Write 0 1 true ∷ []) ([]) ([]) ∷ part (entry.Noticed 0 0 1 ∷ entry.Noticed 0 1 1 ∷ entry.Aged 0 0 101 101 ∷ entry.Claimed 0 0 ∷ entry.Claimed 0 1 ∷ entry.Batch 0 2 101 102 ∷ entry.Done 0 0 ∷ entry.Done 0 1 ∷ entry.Share 0 0 2 ∷ entry.Noticed 0 0 102 ∷ entry.Aged 0 1 101 102 ∷ entry.Claimed 0 7 ∷ entry.Batch 0 1 102 103 ∷ entry.Done 0 5 ∷ entry.Share 0 0 1 ∷ entry.Taken 0 0 ∷ entry.Claimed 0 4 ∷ entry.Claimed 0 0 ∷ entry.Batch 0 2 110 111 ∷ entry.Done 0 4 ∷ entry.Done 0 0 ∷ entry.Share 0 0 2 ∷ entry.Claimed 0 1 ∷ entry.Batch 0 1 111 112 ∷ entry.Done 0 1 ∷ entry.Share 0 0 1 ∷ []) ([]) ([]) ∷ []; steps = []; bases = []; homes = []; left = []; strict = []; ending = ending.Done }
+
+-- broken 13 39
+abbrev pub case_goes_round_2_trace : Trace
+case_goes_round_2_trace = record { cpus = 2; cap = 1024; settings = settings 20 10 0 0; avail = avail 0 100000 ∷ []; devices = (record (chunked_device 25600 0 100 2) { cyclic = true }) ∷ []; cgroups = []; contexts = ageing_context 0 0 10 ∷ []; inodes = inode 0 0 5 ∷ inode 0 5 2 ∷ []; tasks = on_cpu 0 ∷ []; flushers = flusher 0 1 ∷ []; actions = action.Write 0 0 0 2 ∷ action.Write 0 1 0 1 ∷ action.Rest 0 109 ∷ action.Write 0 0 4 1 ∷ action.Write 0 0 0 2 ∷ []; order = []; halt = None }
+
+-- its journal, which breaks point 13 at line 39
+abbrev pub case_goes_round_2 : Journal
+case_goes_round_2 = record { timer = limits 0 1 19995 9985 19995 ∷ []; cpus = part (entry.Write 0 0 true ∷ entry.Write 0 1 true ∷ entry.Write 0 5 true ∷ entry.Write 0 4 true ∷ entry.Write 0 0 true ∷ entry.Write 0 1 true ∷ []) ([]) ([]) ∷ part (entry.Noticed 0 0 1 ∷ entry.Noticed 0 1 1 ∷ entry.Aged 0 0 101 101 ∷ entry.Claimed 0 0 ∷ entry.Claimed 0 1 ∷ entry.Batch 0 2 101 102 ∷ entry.Done 0 0 ∷ entry.Done 0 1 ∷ entry.Share 0 0 2 ∷ entry.Noticed 0 0 102 ∷ entry.Aged 0 1 101 102 ∷ entry.Claimed 0 5 ∷ entry.Batch 0 1 102 103 ∷ entry.Done 0 5 ∷ entry.Share 0 0 1 ∷ entry.Taken 0 0 ∷ entry.Claimed 0 4 ∷ entry.Claimed 0 0 ∷ entry.Batch 0 2 110 111 ∷ entry.Done 0 4 ∷ entry.Done 0 0 ∷ entry.Share 0 0 2 ∷ entry.Claimed 0 4 ∷ entry.Claimed 0 1 ∷ entry.Batch 0 2 111 112 ∷ entry.Done 0 4 ∷ entry.Done 0 1 ∷ entry.Share 0 0 2 ∷ []) ([]) ([]) ∷ []; steps = []; bases = []; homes = []; left = []; strict = []; ending = ending.Done }
+
+-- broken 16 36
+abbrev pub case_goes_round_3_trace : Trace
+case_goes_round_3_trace = record { cpus = 2; cap = 1024; settings = settings 20 10 0 0; avail = avail 0 100000 ∷ []; devices = (record (chunked_device 25600 0 100 2) { cyclic = true }) ∷ []; cgroups = []; contexts = ageing_context 0 0 10 ∷ []; inodes = inode 0 0 5 ∷ inode 0 5 2 ∷ []; tasks = on_cpu 0 ∷ []; flushers = flusher 0 1 ∷ []; actions = action.Write 0 0 0 2 ∷ action.Write 0 1 0 1 ∷ action.Rest 0 109 ∷ action.Write 0 0 4 1 ∷ action.Write 0 0 0 2 ∷ []; order = []; halt = None }
+
+-- its journal, which breaks point 16 at line 36
+abbrev pub case_goes_round_3 : Journal
+case_goes_round_3 = record { timer = limits 0 1 19995 9985 19995 ∷ []; cpus = part (entry.Write 0 0 true ∷ entry.Write 0 1 true ∷ entry.Write 0 5 true ∷ entry.Write 0 4 true ∷ entry.Write 0 0 true ∷ entry.Write 0 1 true ∷ []) ([]) ([]) ∷ part (entry.Noticed 0 0 1 ∷ entry.Noticed 0 1 1 ∷ entry.Aged 0 0 101 101 ∷ entry.Claimed 0 0 ∷ entry.Claimed 0 1 ∷ entry.Batch 0 2 101 102 ∷ entry.Done 0 0 ∷ entry.Done 0 1 ∷ entry.Share 0 0 2 ∷ entry.Noticed 0 0 102 ∷ entry.Aged 0 1 101 102 ∷ entry.Claimed 0 5 ∷ entry.Batch 0 1 102 103 ∷ entry.Done 0 5 ∷ entry.Share 0 0 1 ∷ entry.Taken 0 0 ∷ entry.Claimed 0 4 ∷ entry.Claimed 0 0 ∷ entry.Batch 0 2 110 111 ∷ entry.Done 0 4 ∷ entry.Done 0 0 ∷ entry.Share 0 0 2 ∷ []) ([]) ([]) ∷ []; steps = []; bases = []; homes = []; left = left 1 1 ∷ []; strict = []; ending = ending.Done }
+
+-- broken 14 30
+abbrev pub case_goes_round_4_trace : Trace
+case_goes_round_4_trace = record { cpus = 2; cap = 1024; settings = settings 20 10 0 0; avail = avail 0 100000 ∷ []; devices = (record (chunked_device 25600 0 100 2) { cyclic = true }) ∷ []; cgroups = []; contexts = ageing_context 0 0 10 ∷ []; inodes = inode 0 0 5 ∷ inode 0 5 2 ∷ []; tasks = on_cpu 0 ∷ []; flushers = flusher 0 1 ∷ []; actions = action.Write 0 0 0 2 ∷ action.Write 0 1 0 1 ∷ action.Rest 0 109 ∷ action.Write 0 0 4 1 ∷ action.Write 0 0 0 2 ∷ []; order = []; halt = None }
+
+-- its journal, which breaks point 14 at line 30
+abbrev pub case_goes_round_4 : Journal
+case_goes_round_4 = record { timer = limits 0 1 19995 9985 19995 ∷ []; cpus = part (entry.Write 0 0 true ∷ entry.Write 0 1 true ∷ entry.Write 0 5 true ∷ entry.Write 0 4 true ∷ entry.Write 0 0 true ∷ entry.Write 0 1 true ∷ []) ([]) ([]) ∷ part (entry.Noticed 0 0 1 ∷ entry.Noticed 0 1 1 ∷ entry.Aged 0 0 101 101 ∷ entry.Claimed 0 0 ∷ entry.Claimed 0 1 ∷ entry.Batch 0 2 101 102 ∷ entry.Done 0 0 ∷ entry.Done 0 1 ∷ entry.Share 0 0 2 ∷ entry.Noticed 0 0 102 ∷ entry.Aged 0 1 101 102 ∷ entry.Claimed 0 5 ∷ entry.Batch 0 1 102 103 ∷ entry.Done 0 5 ∷ entry.Share 0 0 1 ∷ entry.Taken 0 0 ∷ entry.Claimed 0 4 ∷ entry.Claimed 0 0 ∷ entry.Claimed 0 1 ∷ entry.Batch 0 3 110 111 ∷ entry.Done 0 4 ∷ entry.Done 0 0 ∷ entry.Done 0 1 ∷ entry.Share 0 0 3 ∷ []) ([]) ([]) ∷ []; steps = []; bases = []; homes = []; left = []; strict = []; ending = ending.Done }
+
+-- broken 14 30
+abbrev pub case_goes_round_5_trace : Trace
+case_goes_round_5_trace = record { cpus = 2; cap = 1024; settings = settings 20 10 0 0; avail = avail 0 100000 ∷ []; devices = (record (chunked_device 25600 0 100 2) { cyclic = true }) ∷ []; cgroups = []; contexts = ageing_context 0 0 10 ∷ []; inodes = inode 0 0 5 ∷ inode 0 5 2 ∷ []; tasks = on_cpu 0 ∷ []; flushers = flusher 0 1 ∷ []; actions = action.Write 0 0 0 2 ∷ action.Write 0 1 0 1 ∷ action.Rest 0 109 ∷ action.Write 0 0 4 1 ∷ action.Write 0 0 0 2 ∷ []; order = []; halt = None }
+
+-- its journal, which breaks point 14 at line 30
+abbrev pub case_goes_round_5 : Journal
+case_goes_round_5 = record { timer = limits 0 1 19995 9985 19995 ∷ []; cpus = part (entry.Write 0 0 true ∷ entry.Write 0 1 true ∷ entry.Write 0 5 true ∷ entry.Write 0 4 true ∷ entry.Write 0 0 true ∷ entry.Write 0 1 true ∷ []) ([]) ([]) ∷ part (entry.Noticed 0 0 1 ∷ entry.Noticed 0 1 1 ∷ entry.Aged 0 0 101 101 ∷ entry.Claimed 0 0 ∷ entry.Claimed 0 1 ∷ entry.Batch 0 2 101 102 ∷ entry.Done 0 0 ∷ entry.Done 0 1 ∷ entry.Share 0 0 2 ∷ entry.Noticed 0 0 102 ∷ entry.Aged 0 1 101 102 ∷ entry.Claimed 0 5 ∷ entry.Batch 0 1 102 103 ∷ entry.Done 0 5 ∷ entry.Share 0 0 1 ∷ entry.Taken 0 0 ∷ entry.Claimed 0 4 ∷ entry.Claimed 0 0 ∷ entry.Batch 0 2 110 111 ∷ entry.Done 0 0 ∷ entry.Done 0 4 ∷ entry.Share 0 0 2 ∷ entry.Claimed 0 1 ∷ entry.Batch 0 1 111 112 ∷ entry.Done 0 1 ∷ entry.Share 0 0 1 ∷ []) ([]) ([]) ∷ []; steps = []; bases = []; homes = []; left = []; strict = []; ending = ending.Done }
+
+-- lawful
+abbrev pub case_goes_round_6_trace : Trace
+case_goes_round_6_trace = record { cpus = 2; cap = 1024; settings = settings 20 10 0 0; avail = avail 0 100000 ∷ []; devices = (record (chunked_device 25600 0 100 2) { cyclic = true }) ∷ []; cgroups = []; contexts = ageing_context 0 0 10 ∷ []; inodes = inode 0 0 5 ∷ inode 0 5 2 ∷ []; tasks = on_cpu 0 ∷ []; flushers = flusher 0 1 ∷ []; actions = action.Write 0 0 0 2 ∷ action.Write 0 1 0 1 ∷ action.Rest 0 109 ∷ action.Write 0 0 4 1 ∷ action.Write 0 0 0 2 ∷ []; order = []; halt = None }
+
+-- its journal, which is lawful
+abbrev pub case_goes_round_6 : Journal
+case_goes_round_6 = record { timer = limits 0 1 19995 9985 19995 ∷ []; cpus = part (entry.Write 0 0 true ∷ entry.Write 0 1 true ∷ entry.Write 0 5 true ∷ entry.Write 0 4 true ∷ entry.Write 0 0 true ∷ entry.Write 0 1 true ∷ []) ([]) ([]) ∷ part (entry.Noticed 0 0 1 ∷ entry.Noticed 0 1 1 ∷ entry.Aged 0 0 101 101 ∷ entry.Claimed 0 0 ∷ entry.Claimed 0 1 ∷ entry.Batch 0 2 101 102 ∷ entry.Done 0 0 ∷ entry.Done 0 1 ∷ entry.Share 0 0 2 ∷ entry.Noticed 0 0 102 ∷ entry.Aged 0 1 101 102 ∷ entry.Claimed 0 5 ∷ entry.Batch 0 1 102 103 ∷ entry.Done 0 5 ∷ entry.Share 0 0 1 ∷ entry.Taken 0 0 ∷ entry.Claimed 0 4 ∷ entry.Claimed 0 0 ∷ entry.Fault 0 2 ∷ entry.Back 0 4 false ∷ entry.Back 0 0 false ∷ entry.Claimed 0 1 ∷ entry.Claimed 0 4 ∷ entry.Batch 0 2 1110 1111 ∷ entry.Done 0 1 ∷ entry.Done 0 4 ∷ entry.Share 0 0 2 ∷ entry.Claimed 0 0 ∷ entry.Batch 0 1 1111 1112 ∷ entry.Done 0 0 ∷ entry.Share 0 0 1 ∷ []) ([]) ([]) ∷ []; steps = []; bases = []; homes = []; left = []; strict = []; ending = ending.Done }
+
+-- broken 13 36
+abbrev pub case_goes_round_7_trace : Trace
+case_goes_round_7_trace = record { cpus = 2; cap = 1024; settings = settings 20 10 0 0; avail = avail 0 100000 ∷ []; devices = (record (chunked_device 25600 0 100 2) { cyclic = true }) ∷ []; cgroups = []; contexts = ageing_context 0 0 10 ∷ []; inodes = inode 0 0 5 ∷ inode 0 5 2 ∷ []; tasks = on_cpu 0 ∷ []; flushers = flusher 0 1 ∷ []; actions = action.Write 0 0 0 2 ∷ action.Write 0 1 0 1 ∷ action.Rest 0 109 ∷ action.Write 0 0 4 1 ∷ action.Write 0 0 0 2 ∷ []; order = []; halt = None }
+
+-- its journal, which breaks point 13 at line 36
+abbrev pub case_goes_round_7 : Journal
+case_goes_round_7 = record { timer = limits 0 1 19995 9985 19995 ∷ []; cpus = part (entry.Write 0 0 true ∷ entry.Write 0 1 true ∷ entry.Write 0 5 true ∷ entry.Write 0 4 true ∷ entry.Write 0 0 true ∷ entry.Write 0 1 true ∷ []) ([]) ([]) ∷ part (entry.Noticed 0 0 1 ∷ entry.Noticed 0 1 1 ∷ entry.Aged 0 0 101 101 ∷ entry.Claimed 0 0 ∷ entry.Claimed 0 1 ∷ entry.Batch 0 2 101 102 ∷ entry.Done 0 0 ∷ entry.Done 0 1 ∷ entry.Share 0 0 2 ∷ entry.Noticed 0 0 102 ∷ entry.Aged 0 1 101 102 ∷ entry.Claimed 0 5 ∷ entry.Batch 0 1 102 103 ∷ entry.Done 0 5 ∷ entry.Share 0 0 1 ∷ entry.Taken 0 0 ∷ entry.Claimed 0 4 ∷ entry.Claimed 0 0 ∷ entry.Fault 0 2 ∷ entry.Back 0 4 false ∷ entry.Back 0 0 false ∷ entry.Claimed 0 1 ∷ entry.Batch 0 1 111 112 ∷ entry.Done 0 1 ∷ entry.Share 0 0 1 ∷ []) ([]) ([]) ∷ []; steps = []; bases = []; homes = []; left = []; strict = []; ending = ending.Done }
+
+-- lawful
 abbrev pub case_is_exempt_trace : Trace
 case_is_exempt_trace = record { cpus = 1; cap = 4; settings = settings 20 10 131072 4096; avail = avail 0 1000 ∷ []; devices = device 25600 0 100 ∷ []; cgroups = []; contexts = context 0 0 ∷ context 0 0 ∷ []; inodes = inode 0 0 40 ∷ inode 1 40 40 ∷ []; tasks = on_cpu 0 ∷ []; flushers = flusher 0 0 ∷ []; actions = action.Write 0 0 0 29 ∷ action.Write 0 1 0 6 ∷ []; order = []; halt = None }
 
@@ -512,6 +592,70 @@ case_older_triple_4_trace = record { cpus = 1; cap = 1; settings = settings 20 1
 -- its journal, which breaks point 7 at line 17
 abbrev pub case_older_triple_4 : Journal
 case_older_triple_4 = record { timer = limits 0 1 19995 9985 19995 ∷ limits 0 201 9997 4992 19683 ∷ []; cpus = part (entry.Write 0 0 true ∷ entry.Check 0 ∷ entry.Write 0 1 true ∷ entry.Check 1 ∷ entry.Est 0 ∷ entry.Write 0 2 true ∷ entry.Check 2 ∷ entry.Claimed 0 0 ∷ entry.Claimed 0 1 ∷ entry.Claimed 0 2 ∷ entry.Batch 0 3 201 202 ∷ entry.Done 0 0 ∷ entry.Done 0 1 ∷ entry.Done 0 2 ∷ entry.Share 0 0 3 ∷ []) (check 0 0 1 (read 0 0 19995 9985 19995 0 (pos 0) 0 0 1) None 0 (pos 0) 0 kind.Free 0 1 0 128 1 ∷ check 0 0 201 (read 0 0 19995 9985 19995 0 (pos 0) 0 0 1) None 0 (pos 0) 0 kind.Free 0 1 0 128 201 ∷ check 0 0 201 (read 0 0 19995 9985 19995 0 (pos 0) 0 0 1) None 0 (pos 0) 1 kind.Free 0 1 0 64 201 ∷ []) (estimate 0 1 24350 25600 25600 25600 0 0 201 ∷ []) ∷ []; steps = []; bases = []; homes = []; left = []; strict = []; ending = ending.Done }
+
+-- lawful
+abbrev pub case_rests_after_three_pages_trace : Trace
+case_rests_after_three_pages_trace = record { cpus = 1; cap = 1024; settings = settings 20 10 0 0; avail = avail 0 100000 ∷ []; devices = device 25600 0 100 ∷ []; cgroups = []; contexts = context 0 0 ∷ []; inodes = inode 0 0 7 ∷ []; tasks = (record (on_cpu 0) { pace = Some (record { pages = 3; ticks = 20 }) }) ∷ []; flushers = flusher 0 0 ∷ []; actions = action.Write 0 0 0 5 ∷ action.Write 0 0 5 2 ∷ []; order = []; halt = None }
+
+-- its journal, which is lawful
+abbrev pub case_rests_after_three_pages : Journal
+case_rests_after_three_pages = record { timer = limits 0 1 19995 9985 19995 ∷ []; cpus = part (entry.Write 0 0 true ∷ entry.Write 0 1 true ∷ entry.Write 0 2 true ∷ entry.Write 0 3 true ∷ entry.Write 0 4 true ∷ entry.Write 0 5 true ∷ entry.Write 0 6 true ∷ entry.Claimed 0 0 ∷ entry.Claimed 0 1 ∷ entry.Claimed 0 2 ∷ entry.Claimed 0 3 ∷ entry.Claimed 0 4 ∷ entry.Claimed 0 5 ∷ entry.Claimed 0 6 ∷ entry.Batch 0 7 41 42 ∷ entry.Done 0 0 ∷ entry.Done 0 1 ∷ entry.Done 0 2 ∷ entry.Done 0 3 ∷ entry.Done 0 4 ∷ entry.Done 0 5 ∷ entry.Done 0 6 ∷ entry.Share 0 0 7 ∷ []) ([]) ([]) ∷ []; steps = []; bases = []; homes = []; left = []; strict = []; ending = ending.Done }
+
+-- broken 12 7
+abbrev pub case_rests_after_three_pages_1_trace : Trace
+case_rests_after_three_pages_1_trace = record { cpus = 1; cap = 1024; settings = settings 20 10 0 0; avail = avail 0 100000 ∷ []; devices = device 25600 0 100 ∷ []; cgroups = []; contexts = context 0 0 ∷ []; inodes = inode 0 0 7 ∷ []; tasks = (record (on_cpu 0) { pace = Some (record { pages = 3; ticks = 20 }) }) ∷ []; flushers = flusher 0 0 ∷ []; actions = action.Write 0 0 0 5 ∷ action.Write 0 0 5 2 ∷ []; order = []; halt = None }
+
+-- its journal, which breaks point 12 at line 7
+abbrev pub case_rests_after_three_pages_1 : Journal
+case_rests_after_three_pages_1 = record { timer = limits 0 1 19995 9985 19995 ∷ []; cpus = part (entry.Write 0 0 true ∷ entry.Write 0 1 true ∷ entry.Write 0 2 true ∷ entry.Write 0 4 true ∷ entry.Write 0 5 true ∷ entry.Write 0 6 true ∷ entry.Claimed 0 0 ∷ entry.Claimed 0 1 ∷ entry.Claimed 0 2 ∷ entry.Claimed 0 3 ∷ entry.Claimed 0 4 ∷ entry.Claimed 0 5 ∷ entry.Claimed 0 6 ∷ entry.Batch 0 7 41 42 ∷ entry.Done 0 0 ∷ entry.Done 0 1 ∷ entry.Done 0 2 ∷ entry.Done 0 3 ∷ entry.Done 0 4 ∷ entry.Done 0 5 ∷ entry.Done 0 6 ∷ entry.Share 0 0 7 ∷ []) ([]) ([]) ∷ []; steps = []; bases = []; homes = []; left = []; strict = []; ending = ending.Done }
+
+-- broken 12 7
+abbrev pub case_rests_after_three_pages_2_trace : Trace
+case_rests_after_three_pages_2_trace = record { cpus = 1; cap = 1024; settings = settings 20 10 0 0; avail = avail 0 100000 ∷ []; devices = device 25600 0 100 ∷ []; cgroups = []; contexts = context 0 0 ∷ []; inodes = inode 0 0 7 ∷ []; tasks = (record (on_cpu 0) { pace = Some (record { pages = 3; ticks = 20 }) }) ∷ []; flushers = flusher 0 0 ∷ []; actions = action.Write 0 0 0 5 ∷ action.Write 0 0 5 2 ∷ []; order = []; halt = None }
+
+-- its journal, which breaks point 12 at line 7
+abbrev pub case_rests_after_three_pages_2 : Journal
+case_rests_after_three_pages_2 = record { timer = limits 0 1 19995 9985 19995 ∷ []; cpus = part (entry.Write 0 0 true ∷ entry.Write 0 1 true ∷ entry.Write 0 2 true ∷ entry.Write 0 2 false ∷ entry.Write 0 3 true ∷ entry.Write 0 4 true ∷ entry.Write 0 5 true ∷ entry.Write 0 6 true ∷ entry.Claimed 0 0 ∷ entry.Claimed 0 1 ∷ entry.Claimed 0 2 ∷ entry.Claimed 0 3 ∷ entry.Claimed 0 4 ∷ entry.Claimed 0 5 ∷ entry.Claimed 0 6 ∷ entry.Batch 0 7 41 42 ∷ entry.Done 0 0 ∷ entry.Done 0 1 ∷ entry.Done 0 2 ∷ entry.Done 0 3 ∷ entry.Done 0 4 ∷ entry.Done 0 5 ∷ entry.Done 0 6 ∷ entry.Share 0 0 7 ∷ []) ([]) ([]) ∷ []; steps = []; bases = []; homes = []; left = []; strict = []; ending = ending.Done }
+
+-- broken 16 26
+abbrev pub case_rests_after_three_pages_3_trace : Trace
+case_rests_after_three_pages_3_trace = record { cpus = 1; cap = 1024; settings = settings 20 10 0 0; avail = avail 0 100000 ∷ []; devices = device 25600 0 100 ∷ []; cgroups = []; contexts = context 0 0 ∷ []; inodes = inode 0 0 7 ∷ []; tasks = (record (on_cpu 0) { pace = Some (record { pages = 3; ticks = 20 }) }) ∷ []; flushers = flusher 0 0 ∷ []; actions = action.Write 0 0 0 5 ∷ action.Write 0 0 5 2 ∷ []; order = []; halt = None }
+
+-- its journal, which breaks point 16 at line 26
+abbrev pub case_rests_after_three_pages_3 : Journal
+case_rests_after_three_pages_3 = record { timer = limits 0 1 19995 9985 19995 ∷ []; cpus = part (entry.Write 0 0 true ∷ entry.Write 0 1 true ∷ entry.Write 0 2 true ∷ entry.Write 0 3 true ∷ entry.Write 0 4 true ∷ entry.Write 0 5 true ∷ entry.Claimed 0 0 ∷ entry.Claimed 0 1 ∷ entry.Claimed 0 2 ∷ entry.Claimed 0 3 ∷ entry.Claimed 0 4 ∷ entry.Claimed 0 5 ∷ entry.Batch 0 6 41 42 ∷ entry.Done 0 0 ∷ entry.Done 0 1 ∷ entry.Done 0 2 ∷ entry.Done 0 3 ∷ entry.Done 0 4 ∷ entry.Done 0 5 ∷ entry.Share 0 0 6 ∷ []) ([]) ([]) ∷ []; steps = []; bases = []; homes = []; left = []; strict = []; ending = ending.Done }
+
+-- lawful
+abbrev pub case_rests_by_its_pace_trace : Trace
+case_rests_by_its_pace_trace = record { cpus = 1; cap = 1024; settings = settings 20 10 143360 4096; avail = avail 0 1000 ∷ []; devices = device 25600 0 100 ∷ []; cgroups = []; contexts = given_context 0 0 1000 1000 3200 ∷ []; inodes = inode 0 0 40 ∷ []; tasks = (record (on_cpu 0) { pace = Some (record { pages = 4; ticks = 3 }) }) ∷ []; flushers = flusher 0 0 ∷ []; actions = action.Write 0 0 0 40 ∷ []; order = []; halt = None }
+
+-- its journal, which is lawful
+abbrev pub case_rests_by_its_pace : Journal
+case_rests_by_its_pace = record { timer = limits 0 1 35 1 35 ∷ []; cpus = part (entry.Write 0 0 true ∷ entry.Write 0 1 true ∷ entry.Write 0 2 true ∷ entry.Write 0 3 true ∷ entry.Write 0 4 true ∷ entry.Write 0 5 true ∷ entry.Write 0 6 true ∷ entry.Write 0 7 true ∷ folded (counter.Context 0) 1 (pos 8) ∷ entry.Write 0 8 true ∷ entry.Write 0 9 true ∷ entry.Write 0 10 true ∷ entry.Write 0 11 true ∷ entry.Write 0 12 true ∷ entry.Write 0 13 true ∷ entry.Write 0 14 true ∷ entry.Write 0 15 true ∷ folded (counter.Context 0) 2 (pos 8) ∷ entry.Check 0 ∷ entry.Write 0 16 true ∷ entry.Write 0 17 true ∷ entry.Write 0 18 true ∷ entry.Write 0 19 true ∷ entry.Check 1 ∷ entry.Write 0 20 true ∷ entry.Write 0 21 true ∷ entry.Write 0 22 true ∷ entry.Write 0 23 true ∷ folded (counter.Context 0) 3 (pos 8) ∷ entry.Check 2 ∷ entry.Write 0 24 true ∷ entry.Write 0 25 true ∷ entry.Write 0 26 true ∷ entry.Write 0 27 true ∷ entry.Check 3 ∷ entry.Write 0 28 true ∷ entry.Write 0 29 true ∷ entry.Write 0 30 true ∷ entry.Write 0 31 true ∷ folded (counter.Context 0) 4 (pos 8) ∷ folded (counter.Domain 0) 1 (pos 32) ∷ entry.Check 4 ∷ entry.Write 0 32 true ∷ entry.Write 0 33 true ∷ entry.Write 0 34 true ∷ entry.Write 0 35 true ∷ entry.Check 5 ∷ entry.Write 0 36 true ∷ entry.Write 0 37 true ∷ entry.Check 6 ∷ entry.Write 0 38 true ∷ entry.Write 0 39 true ∷ folded (counter.Context 0) 5 (pos 8) ∷ entry.Check 7 ∷ entry.Claimed 0 0 ∷ entry.Claimed 0 1 ∷ entry.Claimed 0 2 ∷ entry.Claimed 0 3 ∷ entry.Claimed 0 4 ∷ entry.Claimed 0 5 ∷ entry.Claimed 0 6 ∷ entry.Claimed 0 7 ∷ entry.Claimed 0 8 ∷ entry.Claimed 0 9 ∷ entry.Claimed 0 10 ∷ entry.Claimed 0 11 ∷ entry.Claimed 0 12 ∷ entry.Claimed 0 13 ∷ entry.Claimed 0 14 ∷ entry.Claimed 0 15 ∷ entry.Claimed 0 16 ∷ entry.Claimed 0 17 ∷ entry.Claimed 0 18 ∷ entry.Claimed 0 19 ∷ entry.Claimed 0 20 ∷ entry.Claimed 0 21 ∷ entry.Claimed 0 22 ∷ entry.Claimed 0 23 ∷ entry.Claimed 0 24 ∷ entry.Claimed 0 25 ∷ entry.Claimed 0 26 ∷ entry.Claimed 0 27 ∷ entry.Claimed 0 28 ∷ entry.Claimed 0 29 ∷ entry.Claimed 0 30 ∷ entry.Claimed 0 31 ∷ entry.Claimed 0 32 ∷ entry.Claimed 0 33 ∷ entry.Claimed 0 34 ∷ entry.Claimed 0 35 ∷ entry.Claimed 0 36 ∷ entry.Claimed 0 37 ∷ entry.Claimed 0 38 ∷ entry.Claimed 0 39 ∷ entry.Batch 0 40 33 35 ∷ entry.Done 0 0 ∷ entry.Done 0 1 ∷ entry.Done 0 2 ∷ entry.Done 0 3 ∷ entry.Done 0 4 ∷ entry.Done 0 5 ∷ entry.Done 0 6 ∷ entry.Done 0 7 ∷ folded (counter.Context 0) 6 (negsuc 7) ∷ entry.Done 0 8 ∷ entry.Done 0 9 ∷ entry.Done 0 10 ∷ entry.Done 0 11 ∷ entry.Done 0 12 ∷ entry.Done 0 13 ∷ entry.Done 0 14 ∷ entry.Done 0 15 ∷ folded (counter.Context 0) 7 (negsuc 7) ∷ entry.Done 0 16 ∷ entry.Done 0 17 ∷ entry.Done 0 18 ∷ entry.Done 0 19 ∷ entry.Done 0 20 ∷ entry.Done 0 21 ∷ entry.Done 0 22 ∷ entry.Done 0 23 ∷ folded (counter.Context 0) 8 (negsuc 7) ∷ entry.Done 0 24 ∷ entry.Done 0 25 ∷ entry.Done 0 26 ∷ entry.Done 0 27 ∷ entry.Done 0 28 ∷ entry.Done 0 29 ∷ entry.Done 0 30 ∷ entry.Done 0 31 ∷ folded (counter.Context 0) 9 (negsuc 7) ∷ entry.Done 0 32 ∷ entry.Done 0 33 ∷ entry.Done 0 34 ∷ entry.Done 0 35 ∷ entry.Done 0 36 ∷ entry.Done 0 37 ∷ entry.Done 0 38 ∷ entry.Done 0 39 ∷ folded (counter.Context 0) 10 (negsuc 7) ∷ folded (counter.Domain 0) 2 (negsuc 31) ∷ entry.Share 0 0 40 ∷ []) (check 0 0 10 (read 0 0 35 1 35 0 (pos 0) 0 0 1) None 2 (pos 16) 0 kind.Free 0 4 0 4 10 ∷ check 0 0 13 (read 0 0 35 1 35 0 (pos 0) 0 0 1) None 2 (pos 16) 0 kind.Free 0 4 0 4 13 ∷ check 0 0 16 (read 0 0 35 1 35 0 (pos 0) 0 0 1) None 3 (pos 24) 0 kind.Free 0 4 0 4 16 ∷ check 0 0 19 (read 0 0 35 1 35 0 (pos 0) 0 0 1) None 3 (pos 24) 0 kind.Free 0 4 0 4 19 ∷ check 0 0 22 (read 0 0 35 1 35 1 (pos 32) 0 0 1) None 4 (pos 32) 0 kind.Go 0 4 0 4 26 ∷ check 0 0 25 (read 0 0 35 1 35 1 (pos 32) 0 0 1) None 4 (pos 32) 0 kind.Go 5 2 0 2 33 ∷ check 0 0 33 (read 0 0 35 1 35 1 (pos 32) 0 0 1) None 4 (pos 32) 0 kind.Go 0 2 0 2 36 ∷ check 0 0 33 (read 0 0 35 1 35 1 (pos 32) 0 0 1) None 5 (pos 40) 0 kind.Go 6 3 0 3 39 ∷ []) ([]) ∷ []; steps = []; bases = []; homes = []; left = []; strict = []; ending = ending.Done }
+
+-- broken 7 67
+abbrev pub case_rests_by_its_pace_1_trace : Trace
+case_rests_by_its_pace_1_trace = record { cpus = 1; cap = 1024; settings = settings 20 10 143360 4096; avail = avail 0 1000 ∷ []; devices = device 25600 0 100 ∷ []; cgroups = []; contexts = given_context 0 0 1000 1000 3200 ∷ []; inodes = inode 0 0 40 ∷ []; tasks = (record (on_cpu 0) { pace = Some (record { pages = 4; ticks = 3 }) }) ∷ []; flushers = flusher 0 0 ∷ []; actions = action.Write 0 0 0 40 ∷ []; order = []; halt = None }
+
+-- its journal, which breaks point 7 at line 67
+abbrev pub case_rests_by_its_pace_1 : Journal
+case_rests_by_its_pace_1 = record { timer = limits 0 1 35 1 35 ∷ []; cpus = part (entry.Write 0 0 true ∷ entry.Write 0 1 true ∷ entry.Write 0 2 true ∷ entry.Write 0 3 true ∷ entry.Write 0 4 true ∷ entry.Write 0 5 true ∷ entry.Write 0 6 true ∷ entry.Write 0 7 true ∷ folded (counter.Context 0) 1 (pos 8) ∷ entry.Write 0 8 true ∷ entry.Write 0 9 true ∷ entry.Write 0 10 true ∷ entry.Write 0 11 true ∷ entry.Write 0 12 true ∷ entry.Write 0 13 true ∷ entry.Write 0 14 true ∷ entry.Write 0 15 true ∷ folded (counter.Context 0) 2 (pos 8) ∷ entry.Check 0 ∷ entry.Write 0 16 true ∷ entry.Write 0 17 true ∷ entry.Write 0 18 true ∷ entry.Write 0 19 true ∷ entry.Check 1 ∷ entry.Write 0 20 true ∷ entry.Write 0 21 true ∷ entry.Write 0 22 true ∷ entry.Write 0 23 true ∷ folded (counter.Context 0) 3 (pos 8) ∷ entry.Check 2 ∷ entry.Write 0 24 true ∷ entry.Write 0 25 true ∷ entry.Write 0 26 true ∷ entry.Write 0 27 true ∷ entry.Check 3 ∷ entry.Write 0 28 true ∷ entry.Write 0 29 true ∷ entry.Write 0 30 true ∷ entry.Write 0 31 true ∷ folded (counter.Context 0) 4 (pos 8) ∷ folded (counter.Domain 0) 1 (pos 32) ∷ entry.Check 4 ∷ entry.Write 0 32 true ∷ entry.Write 0 33 true ∷ entry.Write 0 34 true ∷ entry.Write 0 35 true ∷ entry.Check 5 ∷ entry.Write 0 36 true ∷ entry.Write 0 37 true ∷ entry.Check 6 ∷ entry.Write 0 38 true ∷ entry.Write 0 39 true ∷ folded (counter.Context 0) 5 (pos 8) ∷ entry.Check 7 ∷ entry.Claimed 0 0 ∷ entry.Claimed 0 1 ∷ entry.Claimed 0 2 ∷ entry.Claimed 0 3 ∷ entry.Claimed 0 4 ∷ entry.Claimed 0 5 ∷ entry.Claimed 0 6 ∷ entry.Claimed 0 7 ∷ entry.Claimed 0 8 ∷ entry.Claimed 0 9 ∷ entry.Claimed 0 10 ∷ entry.Claimed 0 11 ∷ entry.Claimed 0 12 ∷ entry.Claimed 0 13 ∷ entry.Claimed 0 14 ∷ entry.Claimed 0 15 ∷ entry.Claimed 0 16 ∷ entry.Claimed 0 17 ∷ entry.Claimed 0 18 ∷ entry.Claimed 0 19 ∷ entry.Claimed 0 20 ∷ entry.Claimed 0 21 ∷ entry.Claimed 0 22 ∷ entry.Claimed 0 23 ∷ entry.Claimed 0 24 ∷ entry.Claimed 0 25 ∷ entry.Claimed 0 26 ∷ entry.Claimed 0 27 ∷ entry.Claimed 0 28 ∷ entry.Claimed 0 29 ∷ entry.Claimed 0 30 ∷ entry.Claimed 0 31 ∷ entry.Claimed 0 32 ∷ entry.Claimed 0 33 ∷ entry.Claimed 0 34 ∷ entry.Claimed 0 35 ∷ entry.Claimed 0 36 ∷ entry.Claimed 0 37 ∷ entry.Claimed 0 38 ∷ entry.Claimed 0 39 ∷ entry.Batch 0 40 33 35 ∷ entry.Done 0 0 ∷ entry.Done 0 1 ∷ entry.Done 0 2 ∷ entry.Done 0 3 ∷ entry.Done 0 4 ∷ entry.Done 0 5 ∷ entry.Done 0 6 ∷ entry.Done 0 7 ∷ folded (counter.Context 0) 6 (negsuc 7) ∷ entry.Done 0 8 ∷ entry.Done 0 9 ∷ entry.Done 0 10 ∷ entry.Done 0 11 ∷ entry.Done 0 12 ∷ entry.Done 0 13 ∷ entry.Done 0 14 ∷ entry.Done 0 15 ∷ folded (counter.Context 0) 7 (negsuc 7) ∷ entry.Done 0 16 ∷ entry.Done 0 17 ∷ entry.Done 0 18 ∷ entry.Done 0 19 ∷ entry.Done 0 20 ∷ entry.Done 0 21 ∷ entry.Done 0 22 ∷ entry.Done 0 23 ∷ folded (counter.Context 0) 8 (negsuc 7) ∷ entry.Done 0 24 ∷ entry.Done 0 25 ∷ entry.Done 0 26 ∷ entry.Done 0 27 ∷ entry.Done 0 28 ∷ entry.Done 0 29 ∷ entry.Done 0 30 ∷ entry.Done 0 31 ∷ folded (counter.Context 0) 9 (negsuc 7) ∷ entry.Done 0 32 ∷ entry.Done 0 33 ∷ entry.Done 0 34 ∷ entry.Done 0 35 ∷ entry.Done 0 36 ∷ entry.Done 0 37 ∷ entry.Done 0 38 ∷ entry.Done 0 39 ∷ folded (counter.Context 0) 10 (negsuc 7) ∷ folded (counter.Domain 0) 2 (negsuc 31) ∷ entry.Share 0 0 40 ∷ []) (check 0 0 10 (read 0 0 35 1 35 0 (pos 0) 0 0 1) None 2 (pos 16) 0 kind.Free 0 4 0 4 10 ∷ check 0 0 13 (read 0 0 35 1 35 0 (pos 0) 0 0 1) None 2 (pos 16) 0 kind.Free 0 4 0 4 13 ∷ check 0 0 16 (read 0 0 35 1 35 0 (pos 0) 0 0 1) None 3 (pos 24) 0 kind.Free 0 4 0 4 16 ∷ check 0 0 19 (read 0 0 35 1 35 0 (pos 0) 0 0 1) None 3 (pos 24) 0 kind.Free 0 4 0 4 19 ∷ check 0 0 22 (read 0 0 35 1 35 1 (pos 32) 0 0 1) None 4 (pos 32) 0 kind.Go 0 4 0 4 26 ∷ check 0 0 25 (read 0 0 35 1 35 1 (pos 32) 0 0 1) None 4 (pos 32) 0 kind.Go 5 2 0 2 33 ∷ check 0 0 30 (read 0 0 35 1 35 1 (pos 32) 0 0 1) None 4 (pos 32) 0 kind.Go 0 2 0 2 36 ∷ check 0 0 33 (read 0 0 35 1 35 1 (pos 32) 0 0 1) None 5 (pos 40) 0 kind.Go 6 3 0 3 39 ∷ []) ([]) ∷ []; steps = []; bases = []; homes = []; left = []; strict = []; ending = ending.Done }
+
+-- broken 7 67
+abbrev pub case_rests_by_its_pace_2_trace : Trace
+case_rests_by_its_pace_2_trace = record { cpus = 1; cap = 1024; settings = settings 20 10 143360 4096; avail = avail 0 1000 ∷ []; devices = device 25600 0 100 ∷ []; cgroups = []; contexts = given_context 0 0 1000 1000 3200 ∷ []; inodes = inode 0 0 40 ∷ []; tasks = (record (on_cpu 0) { pace = Some (record { pages = 4; ticks = 3 }) }) ∷ []; flushers = flusher 0 0 ∷ []; actions = action.Write 0 0 0 40 ∷ []; order = []; halt = None }
+
+-- its journal, which breaks point 7 at line 67
+abbrev pub case_rests_by_its_pace_2 : Journal
+case_rests_by_its_pace_2 = record { timer = limits 0 1 35 1 35 ∷ []; cpus = part (entry.Write 0 0 true ∷ entry.Write 0 1 true ∷ entry.Write 0 2 true ∷ entry.Write 0 3 true ∷ entry.Write 0 4 true ∷ entry.Write 0 5 true ∷ entry.Write 0 6 true ∷ entry.Write 0 7 true ∷ folded (counter.Context 0) 1 (pos 8) ∷ entry.Write 0 8 true ∷ entry.Write 0 9 true ∷ entry.Write 0 10 true ∷ entry.Write 0 11 true ∷ entry.Write 0 12 true ∷ entry.Write 0 13 true ∷ entry.Write 0 14 true ∷ entry.Write 0 15 true ∷ folded (counter.Context 0) 2 (pos 8) ∷ entry.Check 0 ∷ entry.Write 0 16 true ∷ entry.Write 0 17 true ∷ entry.Write 0 18 true ∷ entry.Write 0 19 true ∷ entry.Check 1 ∷ entry.Write 0 20 true ∷ entry.Write 0 21 true ∷ entry.Write 0 22 true ∷ entry.Write 0 23 true ∷ folded (counter.Context 0) 3 (pos 8) ∷ entry.Check 2 ∷ entry.Write 0 24 true ∷ entry.Write 0 25 true ∷ entry.Write 0 26 true ∷ entry.Write 0 27 true ∷ entry.Check 3 ∷ entry.Write 0 28 true ∷ entry.Write 0 29 true ∷ entry.Write 0 30 true ∷ entry.Write 0 31 true ∷ folded (counter.Context 0) 4 (pos 8) ∷ folded (counter.Domain 0) 1 (pos 32) ∷ entry.Check 4 ∷ entry.Write 0 32 true ∷ entry.Write 0 33 true ∷ entry.Write 0 34 true ∷ entry.Write 0 35 true ∷ entry.Check 5 ∷ entry.Write 0 36 true ∷ entry.Write 0 37 true ∷ entry.Check 6 ∷ entry.Write 0 38 true ∷ entry.Write 0 39 true ∷ folded (counter.Context 0) 5 (pos 8) ∷ entry.Check 7 ∷ entry.Claimed 0 0 ∷ entry.Claimed 0 1 ∷ entry.Claimed 0 2 ∷ entry.Claimed 0 3 ∷ entry.Claimed 0 4 ∷ entry.Claimed 0 5 ∷ entry.Claimed 0 6 ∷ entry.Claimed 0 7 ∷ entry.Claimed 0 8 ∷ entry.Claimed 0 9 ∷ entry.Claimed 0 10 ∷ entry.Claimed 0 11 ∷ entry.Claimed 0 12 ∷ entry.Claimed 0 13 ∷ entry.Claimed 0 14 ∷ entry.Claimed 0 15 ∷ entry.Claimed 0 16 ∷ entry.Claimed 0 17 ∷ entry.Claimed 0 18 ∷ entry.Claimed 0 19 ∷ entry.Claimed 0 20 ∷ entry.Claimed 0 21 ∷ entry.Claimed 0 22 ∷ entry.Claimed 0 23 ∷ entry.Claimed 0 24 ∷ entry.Claimed 0 25 ∷ entry.Claimed 0 26 ∷ entry.Claimed 0 27 ∷ entry.Claimed 0 28 ∷ entry.Claimed 0 29 ∷ entry.Claimed 0 30 ∷ entry.Claimed 0 31 ∷ entry.Claimed 0 32 ∷ entry.Claimed 0 33 ∷ entry.Claimed 0 34 ∷ entry.Claimed 0 35 ∷ entry.Claimed 0 36 ∷ entry.Claimed 0 37 ∷ entry.Claimed 0 38 ∷ entry.Claimed 0 39 ∷ entry.Batch 0 40 33 35 ∷ entry.Done 0 0 ∷ entry.Done 0 1 ∷ entry.Done 0 2 ∷ entry.Done 0 3 ∷ entry.Done 0 4 ∷ entry.Done 0 5 ∷ entry.Done 0 6 ∷ entry.Done 0 7 ∷ folded (counter.Context 0) 6 (negsuc 7) ∷ entry.Done 0 8 ∷ entry.Done 0 9 ∷ entry.Done 0 10 ∷ entry.Done 0 11 ∷ entry.Done 0 12 ∷ entry.Done 0 13 ∷ entry.Done 0 14 ∷ entry.Done 0 15 ∷ folded (counter.Context 0) 7 (negsuc 7) ∷ entry.Done 0 16 ∷ entry.Done 0 17 ∷ entry.Done 0 18 ∷ entry.Done 0 19 ∷ entry.Done 0 20 ∷ entry.Done 0 21 ∷ entry.Done 0 22 ∷ entry.Done 0 23 ∷ folded (counter.Context 0) 8 (negsuc 7) ∷ entry.Done 0 24 ∷ entry.Done 0 25 ∷ entry.Done 0 26 ∷ entry.Done 0 27 ∷ entry.Done 0 28 ∷ entry.Done 0 29 ∷ entry.Done 0 30 ∷ entry.Done 0 31 ∷ folded (counter.Context 0) 9 (negsuc 7) ∷ entry.Done 0 32 ∷ entry.Done 0 33 ∷ entry.Done 0 34 ∷ entry.Done 0 35 ∷ entry.Done 0 36 ∷ entry.Done 0 37 ∷ entry.Done 0 38 ∷ entry.Done 0 39 ∷ folded (counter.Context 0) 10 (negsuc 7) ∷ folded (counter.Domain 0) 2 (negsuc 31) ∷ entry.Share 0 0 40 ∷ []) (check 0 0 10 (read 0 0 35 1 35 0 (pos 0) 0 0 1) None 2 (pos 16) 0 kind.Free 0 4 0 4 10 ∷ check 0 0 13 (read 0 0 35 1 35 0 (pos 0) 0 0 1) None 2 (pos 16) 0 kind.Free 0 4 0 4 13 ∷ check 0 0 16 (read 0 0 35 1 35 0 (pos 0) 0 0 1) None 3 (pos 24) 0 kind.Free 0 4 0 4 16 ∷ check 0 0 19 (read 0 0 35 1 35 0 (pos 0) 0 0 1) None 3 (pos 24) 0 kind.Free 0 4 0 4 19 ∷ check 0 0 22 (read 0 0 35 1 35 1 (pos 32) 0 0 1) None 4 (pos 32) 0 kind.Go 0 4 0 4 26 ∷ check 0 0 25 (read 0 0 35 1 35 1 (pos 32) 0 0 1) None 4 (pos 32) 0 kind.Go 5 2 0 2 33 ∷ check 0 0 33 (read 0 0 35 1 35 1 (pos 32) 0 0 1) None 4 (pos 32) 0 kind.Go 5 2 0 2 36 ∷ check 0 0 33 (read 0 0 35 1 35 1 (pos 32) 0 0 1) None 5 (pos 40) 0 kind.Go 6 3 0 3 39 ∷ []) ([]) ∷ []; steps = []; bases = []; homes = []; left = []; strict = []; ending = ending.Done }
+
+-- broken 8 29
+abbrev pub case_rests_by_its_pace_3_trace : Trace
+case_rests_by_its_pace_3_trace = record { cpus = 1; cap = 1024; settings = settings 20 10 143360 4096; avail = avail 0 1000 ∷ []; devices = device 25600 0 100 ∷ []; cgroups = []; contexts = given_context 0 0 1000 1000 3200 ∷ []; inodes = inode 0 0 40 ∷ []; tasks = (record (on_cpu 0) { pace = Some (record { pages = 4; ticks = 3 }) }) ∷ []; flushers = flusher 0 0 ∷ []; actions = action.Write 0 0 0 40 ∷ []; order = []; halt = None }
+
+-- its journal, which breaks point 8 at line 29
+abbrev pub case_rests_by_its_pace_3 : Journal
+case_rests_by_its_pace_3 = record { timer = limits 0 1 35 1 35 ∷ []; cpus = part (entry.Write 0 0 true ∷ entry.Write 0 1 true ∷ entry.Write 0 2 true ∷ entry.Write 0 3 true ∷ entry.Write 0 4 true ∷ entry.Write 0 5 true ∷ entry.Write 0 6 true ∷ entry.Write 0 7 true ∷ folded (counter.Context 0) 1 (pos 8) ∷ entry.Write 0 8 true ∷ entry.Write 0 9 true ∷ entry.Write 0 10 true ∷ entry.Write 0 11 true ∷ entry.Write 0 12 true ∷ entry.Write 0 13 true ∷ entry.Write 0 14 true ∷ entry.Write 0 15 true ∷ folded (counter.Context 0) 2 (pos 8) ∷ entry.Check 0 ∷ entry.Write 0 16 true ∷ entry.Write 0 17 true ∷ entry.Write 0 18 true ∷ entry.Write 0 19 true ∷ entry.Write 0 20 true ∷ entry.Write 0 21 true ∷ entry.Write 0 22 true ∷ entry.Write 0 23 true ∷ folded (counter.Context 0) 3 (pos 8) ∷ entry.Check 1 ∷ entry.Write 0 24 true ∷ entry.Write 0 25 true ∷ entry.Write 0 26 true ∷ entry.Write 0 27 true ∷ entry.Check 2 ∷ entry.Write 0 28 true ∷ entry.Write 0 29 true ∷ entry.Write 0 30 true ∷ entry.Write 0 31 true ∷ folded (counter.Context 0) 4 (pos 8) ∷ folded (counter.Domain 0) 1 (pos 32) ∷ entry.Check 3 ∷ entry.Write 0 32 true ∷ entry.Write 0 33 true ∷ entry.Write 0 34 true ∷ entry.Write 0 35 true ∷ entry.Check 4 ∷ entry.Write 0 36 true ∷ entry.Write 0 37 true ∷ entry.Check 5 ∷ entry.Write 0 38 true ∷ entry.Write 0 39 true ∷ folded (counter.Context 0) 5 (pos 8) ∷ entry.Check 6 ∷ entry.Claimed 0 0 ∷ entry.Claimed 0 1 ∷ entry.Claimed 0 2 ∷ entry.Claimed 0 3 ∷ entry.Claimed 0 4 ∷ entry.Claimed 0 5 ∷ entry.Claimed 0 6 ∷ entry.Claimed 0 7 ∷ entry.Claimed 0 8 ∷ entry.Claimed 0 9 ∷ entry.Claimed 0 10 ∷ entry.Claimed 0 11 ∷ entry.Claimed 0 12 ∷ entry.Claimed 0 13 ∷ entry.Claimed 0 14 ∷ entry.Claimed 0 15 ∷ entry.Claimed 0 16 ∷ entry.Claimed 0 17 ∷ entry.Claimed 0 18 ∷ entry.Claimed 0 19 ∷ entry.Claimed 0 20 ∷ entry.Claimed 0 21 ∷ entry.Claimed 0 22 ∷ entry.Claimed 0 23 ∷ entry.Claimed 0 24 ∷ entry.Claimed 0 25 ∷ entry.Claimed 0 26 ∷ entry.Claimed 0 27 ∷ entry.Claimed 0 28 ∷ entry.Claimed 0 29 ∷ entry.Claimed 0 30 ∷ entry.Claimed 0 31 ∷ entry.Claimed 0 32 ∷ entry.Claimed 0 33 ∷ entry.Claimed 0 34 ∷ entry.Claimed 0 35 ∷ entry.Claimed 0 36 ∷ entry.Claimed 0 37 ∷ entry.Claimed 0 38 ∷ entry.Claimed 0 39 ∷ entry.Batch 0 40 33 35 ∷ entry.Done 0 0 ∷ entry.Done 0 1 ∷ entry.Done 0 2 ∷ entry.Done 0 3 ∷ entry.Done 0 4 ∷ entry.Done 0 5 ∷ entry.Done 0 6 ∷ entry.Done 0 7 ∷ folded (counter.Context 0) 6 (negsuc 7) ∷ entry.Done 0 8 ∷ entry.Done 0 9 ∷ entry.Done 0 10 ∷ entry.Done 0 11 ∷ entry.Done 0 12 ∷ entry.Done 0 13 ∷ entry.Done 0 14 ∷ entry.Done 0 15 ∷ folded (counter.Context 0) 7 (negsuc 7) ∷ entry.Done 0 16 ∷ entry.Done 0 17 ∷ entry.Done 0 18 ∷ entry.Done 0 19 ∷ entry.Done 0 20 ∷ entry.Done 0 21 ∷ entry.Done 0 22 ∷ entry.Done 0 23 ∷ folded (counter.Context 0) 8 (negsuc 7) ∷ entry.Done 0 24 ∷ entry.Done 0 25 ∷ entry.Done 0 26 ∷ entry.Done 0 27 ∷ entry.Done 0 28 ∷ entry.Done 0 29 ∷ entry.Done 0 30 ∷ entry.Done 0 31 ∷ folded (counter.Context 0) 9 (negsuc 7) ∷ entry.Done 0 32 ∷ entry.Done 0 33 ∷ entry.Done 0 34 ∷ entry.Done 0 35 ∷ entry.Done 0 36 ∷ entry.Done 0 37 ∷ entry.Done 0 38 ∷ entry.Done 0 39 ∷ folded (counter.Context 0) 10 (negsuc 7) ∷ folded (counter.Domain 0) 2 (negsuc 31) ∷ entry.Share 0 0 40 ∷ []) (check 0 0 10 (read 0 0 35 1 35 0 (pos 0) 0 0 1) None 2 (pos 16) 0 kind.Free 0 4 0 4 10 ∷ check 0 0 16 (read 0 0 35 1 35 0 (pos 0) 0 0 1) None 3 (pos 24) 0 kind.Free 0 4 0 4 16 ∷ check 0 0 19 (read 0 0 35 1 35 0 (pos 0) 0 0 1) None 3 (pos 24) 0 kind.Free 0 4 0 4 19 ∷ check 0 0 22 (read 0 0 35 1 35 1 (pos 32) 0 0 1) None 4 (pos 32) 0 kind.Go 0 4 0 4 26 ∷ check 0 0 25 (read 0 0 35 1 35 1 (pos 32) 0 0 1) None 4 (pos 32) 0 kind.Go 5 2 0 2 33 ∷ check 0 0 33 (read 0 0 35 1 35 1 (pos 32) 0 0 1) None 4 (pos 32) 0 kind.Go 0 2 0 2 36 ∷ check 0 0 33 (read 0 0 35 1 35 1 (pos 32) 0 0 1) None 5 (pos 40) 0 kind.Go 6 3 0 3 39 ∷ []) ([]) ∷ []; steps = []; bases = []; homes = []; left = []; strict = []; ending = ending.Done }
 
 -- lawful
 abbrev pub case_waits_trace : Trace
