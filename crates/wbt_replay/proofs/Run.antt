@@ -3,7 +3,7 @@ use Rattle.std.proofs.Common.{◌≡◌, ℕ, length}
 use Rattle.wbt_trace.specs.Lawful.{IsLawful}
 use Rattle.wbt_trace.specs.declared.trace.Trace.{Trace}
 use Rattle.wbt_journal.specs.Lawful as law
-use Rattle.wbt_journal.specs.Lawful.{ChecksAreRight, CountsStayFresh, CountsSumFolds, EndingIsRight, EstimatesAreUp, FlushersAreInTurn, FoldsAreUp, FoundWereDirtied, FractionsAreOfShares, LedgerIsEven, LeftIsBounded, LeftPagesAreThere, NamesAreOfEstimates, NamesStayNew, PeriodsStayNew, TimerFollows, TimerHasOpened, TriplesAreOfTimer, TriplesStayNew, WritesAreInOrder, WaitsAreInOrder, WaitsAreOwn}
+use Rattle.wbt_journal.specs.Lawful.{FlushersAreInTurn, FoundWereDirtied, LedgerIsEven, LeftIsBounded, LeftPagesAreThere, WritesAreInOrder, WaitsAreOwn}
 use Rattle.wbt_journal.specs.declared.journal.Ending.TheVariants as ending
 use Rattle.wbt_replay_order.specs.Claims.Bound.{IsBounded, IsBoundedCloser, IsCounted, PeaksArePrinted, PrintsBound, HasEnded}
 use Rattle.wbt_replay_order.specs.Claims.Cleaned.{AreCleaned}
@@ -24,6 +24,7 @@ use Rattle.wbt_replay_order.proofs.Facts.Settings.{setting_is}
 use Rattle.wbt_replay_points.proofs.Lawful.Journal as points
 use Rattle.wbt_replay_points.proofs.StrictLines.Fitting.{checks_fit as fit}
 use Rattle.wbt_replay_points.proofs.StrictLines.Within.{stays_within}
+use Rattle.wbt_replay.specs.Claims.{AreAccounted, EndsByItself, GoesInOrder, HasPoints, StaysWithin}
 use Rattle.wbt_replay_order.specs.Claims.Complete.{CompletesAll}
 use Rattle.wbt_replay_order.specs.Claims.Ages.{AgedWereDue}
 use Rattle.wbt_replay_order.specs.Kept.InRange.{StaysInRange}
@@ -91,12 +92,6 @@ module _ (trace : Trace) (lawful : IsLawful trace) where
   pub cleaned : AreCleaned trace
   cleaned = claims.cleaned trace lawful sound followed unfailing
 
-  pub fresh : CountsStayFresh (journal_of trace)
-  fresh = claims.fresh trace lawful sound followed
-
-  pub sums : CountsSumFolds trace (journal_of trace)
-  sums = claims.sums trace lawful sound followed
-
   pub found_were_dirtied : FoundWereDirtied (journal_of trace)
   found_were_dirtied = claims.found_were_dirtied trace lawful sound followed
 
@@ -133,36 +128,6 @@ module _ (trace : Trace) (lawful : IsLawful trace) where
 
   -- ---- the points of a lawful journal
 
-  pub folds_up : FoldsAreUp trace (journal_of trace)
-  folds_up = points.folds trace lawful sound followed decided
-
-  pub triples : TriplesAreOfTimer (journal_of trace)
-  triples = points.triples trace lawful sound followed decided
-
-  pub triples_stay : TriplesStayNew (journal_of trace)
-  triples_stay = points.triples_stay trace lawful sound followed decided
-
-  pub fractions : FractionsAreOfShares trace (journal_of trace)
-  fractions = points.fractions trace lawful sound followed decided
-
-  pub periods : PeriodsStayNew (journal_of trace)
-  periods = points.periods trace lawful sound followed decided
-
-  pub estimates_up : EstimatesAreUp trace (journal_of trace)
-  estimates_up = points.estimates_up trace lawful sound followed decided
-
-  pub named : NamesAreOfEstimates trace (journal_of trace)
-  named = points.named trace lawful sound followed decided
-
-  pub names_stay : NamesStayNew (journal_of trace)
-  names_stay = points.names_stay trace lawful sound followed decided
-
-  pub timer_follows : TimerFollows trace (journal_of trace)
-  timer_follows = points.timer trace lawful sound followed decided
-
-  pub timer_opened : TimerHasOpened trace (journal_of trace)
-  timer_opened = points.opened trace lawful sound followed decided
-
   pub parts : length (journal_of trace).cpus ≡ trace.cpus
   parts = points.parts trace lawful sound followed decided
 
@@ -171,9 +136,6 @@ module _ (trace : Trace) (lawful : IsLawful trace) where
 
   pub flights : FlushersAreInTurn trace (journal_of trace)
   flights = points.flights trace lawful sound followed decided
-
-  pub waits : WaitsAreInOrder trace (journal_of trace)
-  waits = points.waits trace lawful sound followed decided
 
   pub own_waits : WaitsAreOwn trace (journal_of trace)
   own_waits = points.own_waits trace lawful sound followed decided
@@ -190,12 +152,6 @@ module _ (trace : Trace) (lawful : IsLawful trace) where
   pub left_bounded : LeftIsBounded trace (journal_of trace)
   left_bounded = points.left_bounded trace lawful sound followed decided
 
-  pub ending_right : ((journal_of trace).ending ≡ ending.Spent → ⊥) → EndingIsRight trace (journal_of trace)
-  ending_right unspent = points.ending_right trace lawful sound followed decided complete unspent
-
-  pub checks_right : ChecksAreRight trace (journal_of trace)
-  checks_right = points.checks_right trace lawful sound followed decided ended
-
   -- those of a legal journal, however the run ended
   pub is_legal : law.IsLegal trace (journal_of trace)
   is_legal = legally.is_legal trace lawful sound followed ended
@@ -207,3 +163,44 @@ module _ (trace : Trace) (lawful : IsLawful trace) where
 -- Each schedule is that of a lawful trace, whose run obeys it.
 pub shows_schedules : (trace : Trace) → IsLawful trace → ShowsSchedules trace
 shows_schedules trace lawful choices h = is_shown trace lawful choices h (obeyed (scheduled trace choices) (scheduled_lawful trace lawful choices h))
+
+-- ---- by subject
+
+module _ (trace : Trace) (lawful : IsLawful trace) where
+  pub accounted : AreAccounted trace
+  accounted = record { cleaned = cleaned trace lawful; unfailing = unfailing trace lawful; found_were_dirtied = found_were_dirtied trace lawful; left = left trace lawful }
+
+  pub within : StaysWithin trace
+  within = record {
+    counted = counted trace lawful;
+    bound = prints_bound trace lawful;
+    peaks = peaks_printed trace lawful;
+    bounded = bounded trace lawful;
+    bounded_closer = bounded_closer trace lawful;
+    strict = stays_strict trace lawful;
+  }
+
+  pub points_are : HasPoints trace (journal_of trace)
+  points_are = record {
+    legal = is_legal trace lawful;
+    parts = parts trace lawful;
+    writes = writes_in_order trace lawful;
+    left_pages = left_pages trace lawful;
+    ledger = ledger_even trace lawful;
+    flights = flights trace lawful;
+    own_waits = own_waits trace lawful;
+    left_bounded = left_bounded trace lawful;
+    ages = ages trace lawful;
+  }
+
+  pub ends_itself : EndsByItself trace
+  ends_itself = record { ended = ended trace lawful; ends = ends_so trace lawful; complete = complete trace lawful }
+
+  pub in_order : GoesInOrder trace
+  in_order = record {
+    clock = clock_right trace lawful;
+    obeyed = obeyed trace lawful;
+    fair = fair trace lawful;
+    turns = turns trace lawful;
+    schedules = shows_schedules trace lawful;
+  }

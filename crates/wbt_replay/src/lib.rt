@@ -1,8 +1,9 @@
 //! The ordered run of a trace: its own order of steps, one after another, and the journal that tells them.
 //!
-//! The layer above calls `replay` for the journal of a trace, whose text `wbt_journal::print` writes. What the run is stands in
-//! `wbt_replay_order`; its laws are shown of that definition, in the layers between, and `replay` hands them on. `wbt_replay_worked` has
-//! runs worked out byte for byte.
+//! The layer above calls `replay` for the journal of a trace, whose text `wbt_journal::print` writes. Who needs the run move by move has
+//! its machine by `machine_of`, its rotation by `round_of`, and makes its moves by `advance`. What the run is stands in `wbt_replay_order`;
+//! its laws are shown of that definition, in the layers between, and `replay` hands them on. `wbt_replay_worked` has runs worked out byte
+//! for byte.
 //!
 //! ```
 //! use wbt_replay::replay;
@@ -26,4 +27,7 @@ mod round;
 mod strict;
 mod turns;
 
-pub use ordered::replay;
+pub use opening::machine_of;
+pub use order::{advance, is_ended};
+pub use ordered::{bases_of, ending_of, replay};
+pub use round::round_of;

@@ -15,10 +15,10 @@ use wbt_expiry::Wheel;
 use wbt_flex::Half;
 use wbt_journal::TimerEntry;
 use wbt_limits::ratelimit_pages;
-use wbt_num::{Items, Limits, Queue, Row};
+use wbt_num::{Items, Limits, MOST_STEPS, Queue, Row};
 use wbt_replay_moves::{
-    Actor, Domain, Flusher, Machine, Pages, ReplayPhase, ReplayTask, ReplayWork, Stretch, Timer,
-    Writeback,
+    Actor, Domain, Flusher, Machine, Pages, ReplayPhase, ReplayTask, ReplayWork, Steps, Stretch,
+    Timer, Writeback,
 };
 use wbt_rules::{
     PERIOD_TICKS, TIMER_REST, domains_of, first_estimate, first_limits as first_limits_at,
@@ -36,9 +36,11 @@ const NO_COUNT: Count = Count {
     value: 0,
 };
 
-/// The state before the first step.
+/// The machine of a trace before its first step, with all its things by number. As many steps may be made as a replay may have.
+///
+/// It fails where memory is refused.
 #[tactic(auto, unfolding(wbt_replay_order::specs::Definition::Opening::opening))]
-pub fn opening(alloc: Global, trace: &Trace) -> Result<Machine, AllocError>
+pub fn machine_of(alloc: Global, trace: &Trace) -> Result<Machine, AllocError>
     requires { OpeningFits trace.now }
     ensures { IfOk result (λ machine. seen machine ≡ spec.opening trace.now) }
 {
@@ -64,7 +66,8 @@ pub fn opening(alloc: Global, trace: &Trace) -> Result<Machine, AllocError>
         orders: first_orders(alloc, trace)?,
         rotation: None,
         timer: first_timer(alloc, trace)?,
-        steps: Items::new(alloc),
+        steps: Steps::new(alloc),
+        most: MOST_STEPS,
     })
 }
 

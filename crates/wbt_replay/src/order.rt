@@ -36,8 +36,9 @@ pub fn run(machine: &mut Machine, trace: &Trace, round: &[u32]) -> Result<(), Al
     Ok(())
 }
 
-// Every CPU is stopped, or all tasks have ended and the flushers of all other CPUs are finished, or no further step may be made.
-fn is_ended(machine: &Machine) -> bool
+/// Whether the run has ended: every CPU is stopped, or all tasks have ended and the flushers of all other CPUs are finished, or a step was
+/// to be made after the last one that the run may have.
+pub fn is_ended(machine: &Machine) -> bool
     ensures { result ≡ spec.is_ended (seen machine.now) }
 {
     machine.spent
@@ -45,8 +46,12 @@ fn is_ended(machine: &Machine) -> bool
         || (machine.running == 0 && machine.working == 0)
 }
 
-// One move: first by the order lines, then by rotation.
-fn advance(machine: &mut Machine, trace: &Trace, round: &[u32]) -> Result<(), AllocError>
+/// Makes the next move of a run that hasn't ended: a step of an actor's turn, a move between two steps, the beginning of a turn, or a move
+/// of the clock. It goes by the order lines as long as one is left, and then by rotation. `round` tells for each place of the rotation
+/// the next one whose CPU has jobs.
+///
+/// It fails where memory is refused.
+pub fn advance(machine: &mut Machine, trace: &Trace, round: &[u32]) -> Result<(), AllocError>
     requires facts { Facts trace.now }
     requires sound { Sound trace.now (seen machine.old) }
     requires room { HasRoom trace.now (seen machine.old) }

@@ -11,7 +11,6 @@ ghost use Rattle.wbt_replay_moves.specs.Seen.{seen};
 
 use crate::ready::after;
 use std::alloc::AllocError;
-use wbt_num::MOST_STEPS;
 use wbt_replay_moves::{Actor, Machine, ReplayJob, ReplayPhase, Step, TimerTodo, Todo, Whose};
 use wbt_replay_order::{Ahead, Chance};
 use wbt_trace::Trace;
@@ -161,7 +160,7 @@ fn step_or_stop(
 fn is_full(machine: &Machine) -> bool
     ensures { result ≡ spec.is_full (seen machine.now) }
 {
-    machine.steps.as_slice().len() as u64 >= MOST_STEPS
+    machine.steps.is_at_least(machine.most)
 }
 
 // Whether a CPU that has made so many steps makes no more.

@@ -1,6 +1,7 @@
 mod Ageing
 mod Landing
 mod Loads
+mod Made
 mod Paging
 mod Parts
 mod Reading

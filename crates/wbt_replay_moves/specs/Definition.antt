@@ -4,6 +4,7 @@ pub mod Check
 pub mod Cpu
 pub mod Estimates
 pub mod Flight
+pub mod Forget
 pub mod Idle
 pub mod Perform
 pub mod Scan

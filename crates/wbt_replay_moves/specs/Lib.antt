@@ -2,3 +2,4 @@ pub mod Definition
 pub mod Kept
 pub mod Pages
 pub mod Seen
+pub mod Steps

@@ -1,6 +1,7 @@
 -- What a machine in memory stands for.
 use Rattle.wbt_replay_moves.specs.Definition.State.{State}
 use Rattle.wbt_replay_moves.specs.Pages.{book_of}
+use Rattle.wbt_replay_moves.specs.Steps.{steps_of}
 use Rattle.wbt_replay_moves.specs.declared.machine.Machine.{Machine}
 
 -- the state that a machine in memory stands for
@@ -24,5 +25,6 @@ seen m = record {
   orders = m.orders;
   rotation = m.rotation;
   timer = m.timer;
-  steps = m.steps;
+  steps = steps_of m.steps;
+  most = m.most;
 }

@@ -49,8 +49,8 @@ impl Machine {
 // The ratio is that of the global domain. What was dirtied is what was written and what the context's count reads.
 #[tactic(auto, using(crate::proofs::Reading::reads_few))]
 fn sample_by(turn: &ReplayTurn, read: &DomainRead, context: Writeback) -> Sample
-    requires few { context.written < 2 ^ 39 }
-    requires count { unsigned_abs turn.now.context.value ≤ 2 ^ 31 }
+    requires few { context.written ≤ 2 ^ 39 }
+    requires count { unsigned_abs turn.now.context.value ≤ 2 ^ 32 }
     requires began { turn.now.began < 2 ^ 62 }
     requires lawful { IsLawful read.now.limits }
     requires average { context.estimate.avg < 2 ^ 44 }

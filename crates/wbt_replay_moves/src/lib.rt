@@ -22,12 +22,14 @@ mod counters;
 pub mod cpu;
 mod estimates;
 mod flight;
+mod forget;
 mod idle;
 pub mod machine;
 pub mod pages;
 mod perform;
 mod scan;
 pub mod state;
+pub mod steps;
 mod timer;
 pub mod todo;
 mod weigh;
@@ -39,4 +41,5 @@ pub use state::{
     Actor, Cpu, Domain, Flusher, Found, Held, Load, ReplayJob, ReplayPhase, ReplayTask, ReplayTurn,
     ReplayWork, Stretch, Timer, Whose, Writeback,
 };
+pub use steps::Steps;
 pub use todo::{Silent, Step, TimerSilent, TimerStep, TimerTodo, Todo};

@@ -10,12 +10,13 @@ use crate::pages::Pages;
 use crate::state::{
     Actor, Cpu, Domain, Flusher, ReplayPhase, ReplayTask, Stretch, Timer, Whose, Writeback,
 };
+use crate::steps::Steps;
 use crate::todo::Todo;
 use std::alloc::AllocError;
 use wbt_counter::{Count, Counter};
 use wbt_grant::StepKind;
 use wbt_journal::{Entry, StepEntry};
-use wbt_num::{Items, Queue};
+use wbt_num::Queue;
 
 /// The state of a run, which is one for `specs/Definition/State.antt` by `seen`.
 #[derive(Drop)]
@@ -46,7 +47,7 @@ pub struct Machine {
     pub working: u64,
     /// How many CPUs are stopped.
     pub stopped: u64,
-    /// Whether a step was to be made after the last one that a replay may have.
+    /// Whether a step was to be made after the last one that the run may have.
     pub spent: bool,
     /// What the order lines still ask for.
     pub orders: Queue<Stretch>,
@@ -55,11 +56,14 @@ pub struct Machine {
     /// The timer.
     pub timer: Timer,
     /// The steps made.
-    pub steps: Items<StepEntry>,
+    pub steps: Steps,
+    /// How many steps may be made.
+    pub most: u64,
 }
 
 impl Machine {
     /// Notes a step, which changes the context's count so. `who` made it: a CPU's number, or the number of CPUs for the timer.
+    #[tactic(auto, using(crate::proofs::Made::made_more))]
     pub fn step(
         &mut self,
         who: u32,

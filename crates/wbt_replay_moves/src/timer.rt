@@ -56,6 +56,7 @@ impl Machine {
     }
 
     /// The step `peak`: raises the domain's peak to the hard limit that was found.
+    #[tactic(auto, using(crate::proofs::Made::made_more))]
     pub fn peak(&mut self, domain: u32) -> Result<(), AllocError>
         requires few { length (seen self.old).cpus < 2 ^ 32 }
         requires domain { domain < length (seen self.old).domains }

@@ -5,5 +5,6 @@ pub mod QuietItems
 pub mod QuietTurns
 pub mod Growing
 pub mod Grown
+pub mod Most
 pub mod Afresh
 pub mod Advancing

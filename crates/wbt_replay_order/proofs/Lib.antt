@@ -3,4 +3,5 @@ pub mod Outset
 pub mod Lists
 pub mod Frames
 pub mod Growth
+pub mod Further
 pub mod Written

@@ -2,6 +2,7 @@
 pub mod Ending
 pub mod Facts
 pub mod Following
+pub mod Further
 pub mod Horizon
 pub mod InRange
 pub mod Naming

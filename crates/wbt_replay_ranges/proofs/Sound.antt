@@ -12,6 +12,7 @@ pub mod Flights
 pub mod Idles
 pub mod Estimates
 pub mod Weighs
+pub mod Allowances
 pub mod Checks
 pub mod Writes
 pub mod TaskEnds

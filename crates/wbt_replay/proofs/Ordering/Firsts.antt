@@ -7,6 +7,7 @@ use Rattle.wbt_trace.specs.declared.trace.Action.TheVariants as action
 use Rattle.wbt_trace.specs.declared.trace.Trace.{Trace}
 use Rattle.wbt_book.specs.Book.{clean}
 use Rattle.wbt_journal.specs.Machine.{domains}
+use Rattle.wbt_num.specs.declared.most.TheConstants.{MOST_STEPS}
 use Rattle.wbt_limits.specs.Thresholds.{ratelimit_pages_of}
 use Rattle.wbt_replay_moves.specs.Definition.State.{State}
 use Rattle.wbt_replay_order.specs.Definition.Opening.{first_contexts, first_cpus, first_domains, first_flushers, first_limits, first_tasks, first_timer, opening, running_of, stretch_of}
@@ -19,9 +20,9 @@ pub opening_is : (trace : Trace) (s : State) → s.now ≡ 1 → s.pages ≡ pag
     → s.queues ≡ replicate (length trace.devices) [] → s.tasks ≡ first_tasks trace (length trace.tasks)
     → s.flushers ≡ first_flushers trace (length trace.flushers) → s.cpus ≡ first_cpus trace trace.cpus
     → s.running ≡ running_of (first_tasks trace (length trace.tasks)) → s.working ≡ length trace.flushers → s.stopped ≡ 0 → s.spent ≡ false
-    → s.orders ≡ map (stretch_of trace) trace.order → s.rotation ≡ None → s.timer ≡ first_timer trace → s.steps ≡ [] → s ≡ opening trace
+    → s.orders ≡ map (stretch_of trace) trace.order → s.rotation ≡ None → s.timer ≡ first_timer trace → s.steps ≡ [] → s.most ≡ MOST_STEPS → s ≡ opening trace
 unfolding opening
-opening_is trace s now pages book ratelimit_pages domains contexts marks queues tasks flushers cpus running working stopped spent orders rotation timer steps = λ i. record {
+opening_is trace s now pages book ratelimit_pages domains contexts marks queues tasks flushers cpus running working stopped spent orders rotation timer steps most = λ i. record {
   now = now i;
   pages = pages i;
   book = book i;
@@ -41,6 +42,7 @@ opening_is trace s now pages book ratelimit_pages domains contexts marks queues 
   rotation = rotation i;
   timer = timer i;
   steps = steps i;
+  most = most i;
 }
 
 -- ---- what a lawful trace gives

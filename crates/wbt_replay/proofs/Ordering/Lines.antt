@@ -31,6 +31,7 @@ lines_sound trace s lines sound fit same =
       holds = record {
         pages = h.pages;
         few = h.few;
+        long = h.long;
         domains = h.domains;
         contexts = h.contexts;
         written = h.written;

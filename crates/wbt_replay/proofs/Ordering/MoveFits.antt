@@ -57,7 +57,7 @@ module _ (trace : Trace) (facts : Facts trace) (s : State) (sound : Sound trace 
         record {
           there = omega (arith, on.there, sound.holds.tasks.many);
           writer = omega (arith, there, h.writers);
-          counted = record { dirtied = omega (arith, fit.dirtied, sound.holds.few); allowance = omega (arith, fit.allowance) };
+          counted = record { dirtied = omega (arith, fit.dirtied, sound.holds.few, sound.holds.long); allowance = omega (arith, fit.allowance) };
           reads = read_fits trace facts s sound (set s.cpus i (kept trace facts s sound i less t ts first made)) k there (cpu_of i s).turn (sound.holds.cpus.each i less).turn;
           cpus = cpus_fit trace facts s sound;
           cap = facts.some_cap;
@@ -81,7 +81,7 @@ module _ (trace : Trace) (facts : Facts trace) (s : State) (sound : Sound trace 
           contexts = h.writers ∙ sym sound.holds.contexts.many;
           few = omega (arith, sound.holds.contexts.many, facts.few_contexts);
           running = omega (arith, sound.holds.counted.tasks, runs, one);
-          leaks = omega (arith, leaks, leaked, pages, dirtied, sound.holds.dirtied, sound.holds.few);
+          leaks = omega (arith, leaks, leaked, pages, dirtied, sound.holds.dirtied, sound.holds.few, sound.holds.long);
         }
 
   -- ---- each silent move

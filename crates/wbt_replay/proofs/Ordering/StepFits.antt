@@ -35,11 +35,11 @@ use Rattle.wbt_replay_order.proofs.Facts.Scans.{scan_page}
 use Rattle.wbt_replay_order.proofs.Facts.Things.{cpus_fit, end_few, page_fits, inode_fits, flusher_there, taken_fits, flying_fits}
 
 module _ (trace : Trace) (facts : Facts trace) (s : State) (sound : Sound trace s) where
-  count_fits : (count : Count) (n : ℤ) → IsCount (length s.steps) count → unsigned_abs n ≤ 512 → CanFold n count
+  count_fits : (count : Count) (n : ℤ) → IsCount s.most (length s.steps) count → unsigned_abs n ≤ 512 → CanFold n count
   count_fits count n h few = record {
-    version = omega (arith, h.version, sound.holds.few);
+    version = omega (arith, h.version, sound.holds.few, sound.holds.long);
     own = omega (arith, few);
-    value = omega (arith, h.value, h.version, sound.holds.few);
+    value = omega (arith, h.value);
   }
 
   -- ---- what a task writes next
@@ -68,8 +68,8 @@ module _ (trace : Trace) (facts : Facts trace) (s : State) (sound : Sound trace 
         },
         record {
           there = writer;
-          dirtied = omega (arith, fit.dirtied, sound.holds.few);
-          since = omega (arith, since, sound.holds.few);
+          dirtied = omega (arith, fit.dirtied, sound.holds.few, sound.holds.long);
+          since = omega (arith, since, sound.holds.few, sound.holds.long);
         },
         since_fits (task_of task s).pace (task_of task s).since h.pace h.since,
       )

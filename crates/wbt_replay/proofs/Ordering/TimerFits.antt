@@ -37,7 +37,7 @@ module _ (trace : Trace) (facts : Facts trace) (s : State) (sound : Sound trace 
   domain_fits (suc g) less = let there : g < length trace.cgroups = omega (arith, less) in (there, (facts.cgroups g there).0, (facts.cgroups g there).1)
 
   has_next : (d : ℕ) → (domain_of d s).sequence < 2 ^ 62
-  has_next d = let was = (sound.holds.domains.each d).sequence in let few = sound.holds.few in omega (arith, was, few)
+  has_next d = let was = (sound.holds.domains.each d).sequence in let few = sound.holds.few in let long = sound.holds.long in omega (arith, was, few, long)
 
   item_is : (t : TimerTodo) (ts : List TimerTodo) → s.timer.todo ≡ t ∷ ts → TimerItemFits trace t
   item_is t ts first = All-head (TimerItemFits trace) t ts (subst (All (TimerItemFits trace)) first sound.holds.timer.todo)

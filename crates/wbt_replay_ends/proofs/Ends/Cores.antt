@@ -3,7 +3,6 @@ use Rattle.std.proofs.Common.{◌≡◌, ℕ, zero, suc, ◌+◌, ◌*◌, ◌<�
 use Rattle.std.specs.List.{sum_by, count_by}
 use Rattle.std.proofs.lemmas.Bool.{cond-false}
 use Rattle.std.proofs.lemmas.Bool.Decides.{nat_tests}
-use Rattle.wbt_num.specs.declared.most.TheConstants.{MOST_STEPS}
 use Rattle.wbt_flex.specs.Proportions.{after_period}
 use Rattle.wbt_flex.specs.declared.half.Half.{Half}
 use Rattle.wbt_journal.specs.Machine.{domains}
@@ -24,9 +23,9 @@ use Rattle.wbt_replay_moves.specs.declared.todo.TimerStep.{TimerStep}
 use Rattle.wbt_replay_moves.specs.declared.todo.TimerStep.TheVariants as timer_step
 use Rattle.wbt_replay_moves.specs.declared.todo.TimerTodo.{TimerTodo}
 use Rattle.wbt_replay_moves.specs.declared.todo.TimerTodo.TheVariants as timer_todo
-use Rattle.wbt_replay_order.specs.Claims.Ending.{is_made_by, is_over, may_step, IsSpentAt}
+use Rattle.wbt_replay_order.specs.Claims.Ending.{is_made_by, is_over, may_step}
 use Rattle.wbt_replay_order.specs.Definition.Order.{todo_ahead, timer_todo_ahead, ahead_of, is_halted, spend, with_orders, timer_on, is_full}
-use Rattle.wbt_replay_order.specs.Kept.Ending.{IsPaid, wait, timer_ahead_cost, timer_silent_cost, cpu_cost, task_cost, flusher_cost, timer_cost, steps_left, parts_cost, work_left, ArePaced, Ending}
+use Rattle.wbt_replay_order.specs.Kept.Ending.{IsPaid, wait, timer_ahead_cost, timer_silent_cost, cpu_cost, task_cost, flusher_cost, timer_cost, steps_left, parts_cost, work_left, ArePaced, IsSpentAfter, Ending}
 use Rattle.wbt_replay_order.specs.Kept.Facts.{Facts}
 use Rattle.wbt_replay_order.specs.declared.chance.Ahead.TheVariants as next
 use Rattle.wbt_replay_order.proofs.Facts.Actors.{ahead_still}
@@ -41,9 +40,10 @@ pub record Core : Type 0 where
   pub tasks : List ReplayTask
   pub flushers : List Flusher
   pub cpus : List Cpu
+  pub most : ℕ
 
 abbrev pub core : (s : State) → Core
-core s = record { tasks = s.tasks; flushers = s.flushers; cpus = s.cpus }
+core s = record { tasks = s.tasks; flushers = s.flushers; cpus = s.cpus; most = s.most }
 
 -- what all but the CPUs cost
 abbrev pub round_cost : (s : State) → ℕ
@@ -53,7 +53,7 @@ round_cost s = 16 * steps_left s + cond s.spent 0 1 + length s.orders + parts_co
 abbrev pub Counts : (s r : State) → Type 0
 Counts s r = (i : ℕ) → i < length s.cpus → count_by (is_made_by i) r.steps ≡ count_by (is_made_by i) s.steps
 
-module _ (trace : Trace) (s r : State) (same : core r ≡ core s) (h : Ending trace s) (counts : Counts s r) (spent : r.spent ≡ true → IsSpentAt trace r)
+module _ (trace : Trace) (s r : State) (same : core r ≡ core s) (h : Ending trace s) (counts : Counts s r) (spent : r.spent ≡ true → IsSpentAfter trace r.most r)
     (timer : timer_silent_cost r.timer.todo ≤ 2 + domains trace) where
   pub core_kept : Ending trace r
   core_kept = record {
@@ -74,7 +74,7 @@ module _ (trace : Trace) (s r : State) (same : core r ≡ core s) (h : Ending tr
 
 module _ (trace : Trace) (facts : Facts trace) (s : State) (at : Turning trace s) (h : Ending trace s) where
   -- a state whose timer alone did something
-  clock_ahead : (r : State) (made : ℕ) → core r ≡ core s → Counts s r → s.spent ≡ false → length r.steps ≡ length s.steps + made → length s.steps + made ≤ MOST_STEPS
+  clock_ahead : (r : State) (made : ℕ) → core r ≡ core s → Counts s r → s.spent ≡ false → length r.steps ≡ length s.steps + made → length s.steps + made ≤ s.most
       → r.now ≡ s.now → r.spent ≡ s.spent → r.orders ≡ s.orders → timer_silent_cost r.timer.todo ≤ 2 + domains trace
       → timer_cost s.now r.timer + 1 ≤ 16 * made + timer_cost s.now s.timer → Ahead trace s r
   clock_ahead r made same counts live steps room now spent orders timer less =
@@ -83,7 +83,8 @@ module _ (trace : Trace) (facts : Facts trace) (s : State) (at : Turning trace s
       let moment = ap (λ n. sum_by (task_cost n) r.tasks + sum_by (flusher_cost n) r.flushers + timer_cost n r.timer) now in
       let lines = ap (λ (l : List Stretch). length l) orders in
       let over = ap {A = Bool} {B = ℕ} (λ b. cond b 0 1) spent in
-      omega (arith, parts, moment, lines, over, steps, room, less))
+      let most = ap (λ (o : Core). o.most) same in
+      omega (arith, parts, moment, lines, over, most, steps, room, less))
 
 -- the timer's turn without its first item
 abbrev pub without_first : (more : List TimerTodo) (s : State) → State
@@ -125,7 +126,7 @@ module _ (trace : Trace) (facts : Facts trace) (s : State) (at : Turning trace s
   few_domains : domains trace ≤ 9
   few_domains = omega (arith, facts.few_cgroups)
 
-  tick_ahead : s.spent ≡ false → (item : TimerStep) (more : List TimerTodo) → s.timer.todo ≡ timer_todo.Step item ∷ more → length s.steps + 1 ≤ MOST_STEPS
+  tick_ahead : s.spent ≡ false → (item : TimerStep) (more : List TimerTodo) → s.timer.todo ≡ timer_todo.Step item ∷ more → length s.steps + 1 ≤ s.most
       → Ahead trace s (make_timer_step trace item (without_first more s))
   tick_ahead going item more is room =
       let r = make_timer_step trace item (without_first more s) in
@@ -142,7 +143,7 @@ module _ (trace : Trace) (facts : Facts trace) (s : State) (at : Turning trace s
 
   pub spend_ahead : s.spent ≡ false → is_full s ≡ true → is_over s ≡ false → (actor : Actor) → ahead_of actor s ≡ next.Step → may_step trace actor s ≡ true → Ahead trace s (spend s)
   spend_ahead going full unfinished actor due free = core_ahead trace s (spend s) refl h (λ i there. refl)
-      (λ is. record { steps = (let most : MOST_STEPS ≤ length s.steps = grind (arith, nat_tests) in omega (arith, most, at.steps)); ongoing = unfinished; who = actor; due = ahead_still actor s (spend s) refl refl refl ∙ due; free = free_still actor s (spend s) trace refl ∙ free })
+      (λ is. record { steps = (let most : s.most ≤ length s.steps = grind (arith, nat_tests) in omega (arith, most, at.steps)); ongoing = unfinished; who = actor; due = ahead_still actor s (spend s) refl refl refl ∙ due; free = free_still actor s (spend s) trace refl ∙ free })
       h.timer_paid (let over = ap {A = Bool} {B = ℕ} (λ b. cond b 0 1) going in omega (arith, over))
 
   pub drop_ahead : s.spent ≡ false → (o : Stretch) (more : List Stretch) → s.orders ≡ o ∷ more → Ahead trace s (with_orders more s)
@@ -178,7 +179,7 @@ module _ (trace : Trace) (facts : Facts trace) (s : State) (at : Turning trace s
   timer_goes going unfinished running [] is some = absurd (omega (arith, some))
   timer_goes going unfinished running (timer_todo.Step item ∷ more) is some = either (Ahead trace s) (is_full s) _ _
       (λ full. spend_ahead going full unfinished who.Timer (timer_due s running (ap timer_todo_ahead is)) refl)
-      (λ room. tick_ahead going item more is (let less : length s.steps < MOST_STEPS = grind (arith, nat_tests) in omega (arith, less)))
+      (λ room. tick_ahead going item more is (let less : length s.steps < s.most = grind (arith, nat_tests) in omega (arith, less)))
   timer_goes going unfinished running (timer_todo.Silent (timer_silent.Period domain) ∷ more) is some = period_ahead going domain more is
   timer_goes going unfinished running (timer_todo.Silent timer_silent.Rest ∷ more) is some = rest_ahead going more is
 

@@ -25,9 +25,10 @@ pub record Outside : Type 0 where
   pub orders : List Stretch
   pub spent : Bool
   pub timer : Timer
+  pub most : ℕ
 
 abbrev pub outside : (s : State) → Outside
-outside s = record { now = s.now; orders = s.orders; spent = s.spent; timer = s.timer }
+outside s = record { now = s.now; orders = s.orders; spent = s.spent; timer = s.timer; most = s.most }
 
 -- what no move of a CPU's turn changes of the CPU
 pub record Pace : Type 0 where

@@ -5,7 +5,6 @@ use Rattle.std.proofs.lemmas.Bool.{cases_lt}
 use Rattle.std.proofs.lemmas.List.{length-set, get_or-set_same, get_or-set_other, set-set, get_or_past}
 use Rattle.std.proofs.lemmas.List.Elements.{All-head}
 use Rattle.std.proofs.lemmas.List.Sums.{sum_by-set}
-use Rattle.wbt_num.specs.declared.most.TheConstants.{MOST_STEPS}
 use Rattle.wbt_journal.specs.Machine.{domains}
 use Rattle.wbt_journal.specs.declared.step.StepEntry.{StepEntry}
 use Rattle.wbt_trace.specs.declared.trace.Trace.{Trace}
@@ -84,15 +83,16 @@ module _ (trace : Trace) (i : ℕ) (b : State) (there : i < length b.cpus) (d : 
         let stop = ap {A = Bool} {B = ℕ} (λ x. cond x 0 1) stopped in
         omega (arith, costs, own, set, stop)
 
-    taken_work : length b.steps + made ≤ MOST_STEPS → most ≤ 16 * made + ahead_cost (is_last b.tasks (cpu_of i b).turn.whose) (cpu_of i b).todo → work_left r + 1 ≤ work_left b
+    taken_work : length b.steps + made ≤ b.most → most ≤ 16 * made + ahead_cost (is_last b.tasks (cpu_of i b).turn.whose) (cpu_of i b).todo → work_left r + 1 ≤ work_left b
     unfolding work_left
     taken_work room paid =
         let orders = ap (λ (o : Outside). length o.orders) goes.same in
         let spent = ap {A = Outside} {B = ℕ} (λ o. cond o.spent 0 1) goes.same in
         let timer = ap (λ (o : Outside). timer_cost o.now o.timer) goes.same in
-        omega (arith, taken_costs, orders, spent, timer, goes.steps, room, paid)
+        let limit = ap (λ (o : Outside). o.most) goes.same in
+        omega (arith, taken_costs, orders, spent, timer, limit, goes.steps, room, paid)
 
-    pub taken_ahead : Ending trace b → b.spent ≡ false → ArePaced trace.halt r.steps (set b.cpus i goes.cpu) → length b.steps + made ≤ MOST_STEPS → most ≤ 16 * made + ahead_cost (is_last b.tasks (cpu_of i b).turn.whose) (cpu_of i b).todo → Ahead trace b r
+    pub taken_ahead : Ending trace b → b.spent ≡ false → ArePaced trace.halt r.steps (set b.cpus i goes.cpu) → length b.steps + made ≤ b.most → most ≤ 16 * made + ahead_cost (is_last b.tasks (cpu_of i b).turn.whose) (cpu_of i b).todo → Ahead trace b r
     taken_ahead h live paced room paid = record { less = taken_work room paid; kept = taken_kept h live paced }
 
 -- ---- whose turn it is
@@ -155,7 +155,7 @@ module _ (trace : Trace) (i : ℕ) (b : State) (there : i < length b.cpus) (turn
 
   -- The turn's first step is made.
   pub step_ahead : (item : Step) → (cpu_of i b).todo ≡ todo.Step item ∷ d.todo → d.made ≡ (cpu_of i b).made + 1 → is_halted trace.halt (cpu_of i b).made ≡ false
-      → length b.steps + 1 ≤ MOST_STEPS → Ahead trace b (make_step trace i item (with_cpu i d b))
+      → length b.steps + 1 ≤ b.most → Ahead trace b (make_step trace i item (with_cpu i d b))
   step_ahead item is more free room =
       let some : 1 ≤ length (cpu_of i b).todo = omega (arith, ap (λ (l : List Todo). length l) is) in
       let agrees = All-head (Agrees trace b.tasks b.flushers (cpu_of i b).turn.whose) (todo.Step item) d.todo (subst (All (Agrees trace b.tasks b.flushers (cpu_of i b).turn.whose)) is (turning.agrees i there)) in

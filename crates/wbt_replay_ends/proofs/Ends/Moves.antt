@@ -5,7 +5,6 @@ use Rattle.std.proofs.lemmas.Bool.Decides.{nat_tests}
 use Rattle.std.proofs.lemmas.List.{length-set, get_or-set_same, set-set}
 use Rattle.std.proofs.lemmas.List.Elements.{All-get_or}
 use Rattle.std.proofs.lemmas.List.Sums.{sum_by-set}
-use Rattle.wbt_num.specs.declared.most.TheConstants.{MOST_STEPS}
 use Rattle.wbt_journal.specs.Machine.{domains}
 use Rattle.wbt_journal.specs.declared.step.StepEntry.{StepEntry}
 use Rattle.wbt_trace.specs.declared.trace.Trace.{Trace}
@@ -77,7 +76,8 @@ module _ (trace : Trace) (s : State) (at : Turning trace s) (h : Ending trace s)
         let orders = ap (λ (o : Outside). length o.orders) goes.same in
         let spent = ap {A = Outside} {B = ℕ} (λ o. cond o.spent 0 1) goes.same in
         let timer = ap (λ (o : Outside). timer_cost o.now o.timer) goes.same in
-        omega (arith, costs, own, free, before, set, stop, orders, spent, timer, goes.steps, at.steps)
+        let limit = ap (λ (o : Outside). o.most) goes.same in
+        omega (arith, costs, own, free, before, set, stop, orders, spent, timer, limit, goes.steps, at.steps)
 
     pub begun_ahead : Ahead trace s r
     begun_ahead = record { less = begun_work; kept = begun_kept }
@@ -102,7 +102,7 @@ module _ (trace : Trace) (facts : Facts trace) (s : State) (at : Turning trace s
       (λ on. either (Ahead trace s) (is_full s) _ _
       (λ full. spend_ahead trace facts s at h going full unfinished (who.Cpu i) (cpu_due s i running due) (free_cpu trace s h i there on))
       (λ room.
-      let less : length s.steps < MOST_STEPS = grind (arith, nat_tests) in
+      let less : length s.steps < s.most = grind (arith, nat_tests) in
       step_ahead trace i s there at h going (record (cpu_of i s) { todo = rest; made = (cpu_of i s).made + 1 }) refl refl running item is refl on (omega (arith, less))))
   cpu_goes_on going unfinished running (todo.Silent item ∷ rest) is some =
       silent_ahead trace i s there at h going (record (cpu_of i s) { todo = rest }) refl refl running item is refl

@@ -10,9 +10,9 @@ use Rattle.wbt_journal.specs.declared.step.StepEntry.{StepEntry}
 use Rattle.wbt_trace.specs.declared.trace.Trace.{Trace}
 use Rattle.wbt_replay_moves.specs.Definition.State.{State, no_cpu}
 use Rattle.wbt_replay_moves.specs.declared.state.Cpu.{Cpu}
-use Rattle.wbt_replay_order.specs.Claims.Ending.{is_made_by, IsSpentAt}
+use Rattle.wbt_replay_order.specs.Claims.Ending.{is_made_by}
 use Rattle.wbt_replay_order.specs.Definition.Order.{todo_ahead, is_halted}
-use Rattle.wbt_replay_order.specs.Kept.Ending.{IsWithin, IsPaced, ArePaced}
+use Rattle.wbt_replay_order.specs.Kept.Ending.{IsWithin, IsPaced, IsSpentAfter, ArePaced}
 use Rattle.wbt_replay_order.specs.declared.chance.Ahead.TheVariants as next
 use Rattle.wbt_replay_order.proofs.Facts.Lists.{set_each}
 
@@ -77,5 +77,5 @@ module _ (halt : Option ℕ) (steps : List StepEntry) (cpus : List Cpu) (paced :
         paced_at (record { made = h.made ∙ sym made; within = subst (IsWithin halt) (sym made) h.within; stopped = λ is. (halted, due) })
 
 -- a run that goes on isn't spent
-pub unspent : (trace : Trace) (s : State) → s.spent ≡ false → s.spent ≡ true → IsSpentAt trace s
+pub unspent : (trace : Trace) (s : State) → s.spent ≡ false → s.spent ≡ true → IsSpentAfter trace s.most s
 unspent trace s on is = absurd (cc (sym on ∙ is))

@@ -9,6 +9,7 @@ use Rattle.wbt_replay_order.specs.Definition.Run.{most_moves, state_at}
 use Rattle.wbt_replay_order.specs.Kept.Ending.{work_left, Ending}
 use Rattle.wbt_replay_order.specs.Kept.Facts.{Facts}
 use Rattle.wbt_replay_order.specs.Kept.Sound.{Sound}
+use Rattle.wbt_replay_order.proofs.Growth.Most.{most_at}
 use Rattle.wbt_replay_order.proofs.Growth.Runs.{run_along}
 use Rattle.wbt_replay_ends.proofs.Ends.Items.{Ahead}
 use Rattle.wbt_replay_ends.proofs.Ends.Opening.{opening_kept, opening_work}
@@ -53,5 +54,5 @@ module _ (trace : Trace) (facts : Facts trace) (Q : State → Type 0) (sound : (
   pub ended : HasEnded trace
   ended = (
     run_ends most_moves (opening trace) (first, opening_kept trace) (let work = opening_work trace facts in omega (arith, work)),
-    (sound (state_at trace most_moves) (both_at most_moves).0).holds.few,
+    (let few = (sound (state_at trace most_moves) (both_at most_moves).0).holds.few in omega (arith, few, most_at trace most_moves)),
   )

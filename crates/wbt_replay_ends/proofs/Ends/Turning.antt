@@ -1,7 +1,6 @@
 -- What a move needs of what is in range, so that it isn't asked again after an order line or the rotation was changed.
 use Rattle.std.proofs.Common.{◌≡◌, ℕ, ◌<◌, ◌≤◌, not, List, length, All, Option, refl, ◌∙◌, ap, arith, IfSome}
 use Rattle.std.specs.List.{sum_by, count_by}
-use Rattle.wbt_num.specs.declared.most.TheConstants.{MOST_STEPS}
 use Rattle.wbt_journal.specs.Machine.{domains}
 use Rattle.wbt_journal.specs.declared.step.StepEntry.{StepEntry}
 use Rattle.wbt_trace.specs.Lawful.{IsPace}
@@ -19,7 +18,7 @@ use Rattle.wbt_replay_order.specs.Kept.Turns.{Agrees}
 use Rattle.wbt_replay_order.proofs.Facts.Actors.{ahead_still}
 
 pub record Turning (trace : Trace) (s : State) : Type 0 where
-  pub steps : length s.steps ≤ MOST_STEPS
+  pub steps : length s.steps ≤ s.most
   pub domains : length s.domains ≡ domains trace
   pub tasks : length s.tasks ≡ length trace.tasks
   pub flushers : length s.flushers ≡ length trace.flushers

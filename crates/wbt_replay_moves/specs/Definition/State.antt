@@ -11,6 +11,7 @@ use Rattle.wbt_estimate.specs.Estimate.{first_at}
 use Rattle.wbt_expiry.specs.Waiting.{Waiting}
 use Rattle.wbt_flex.specs.declared.half.Half.{Half}
 use Rattle.wbt_grant.specs.declared.who.StepKind.{StepKind}
+use Rattle.wbt_grant.specs.declared.who.StepKind.TheVariants as kinds
 use Rattle.wbt_journal.specs.declared.step.StepEntry.{StepEntry}
 use Rattle.wbt_replay_moves.specs.declared.state.Actor.{Actor}
 use Rattle.wbt_replay_moves.specs.declared.state.Cpu.{Cpu}
@@ -48,7 +49,7 @@ pub record State : Type 0 where
   pub running : ℕ
   pub working : ℕ
   pub stopped : ℕ
-  -- a step was to be made after the last one that a replay may have
+  -- a step was to be made after the last one that the run may have
   pub spent : Bool
   -- what the order lines still ask for
   pub orders : List Stretch
@@ -57,6 +58,8 @@ pub record State : Type 0 where
   pub timer : Timer
   -- the steps made
   pub steps : List StepEntry
+  -- so many may be made
+  pub most : ℕ
 
 -- ---- what stands for nothing
 
@@ -127,6 +130,10 @@ no_domain = record { limits = no_limits; sequence = 0; peak = 0; count = no_coun
 -- a context that isn't there
 abbrev pub no_context : Writeback
 no_context = record { count = no_count; written = 0; estimate = first_at 0; part = no_half; cgroup_part = no_half }
+
+-- a step that was forgotten: it stands for nothing but its place among the steps made
+abbrev pub no_step : StepEntry
+no_step = record { who = 0; kind = kinds.Add; context = 0; change = pos 0; domain = 0; peak = 0 }
 
 -- ---- things by number
 

@@ -69,7 +69,7 @@ IsOwn batch n = unsigned_abs n < batch
 pub record CanFold (n : ℤ) (count : Count) : Type 0 where
   pub version : count.version < 2 ^ 62
   pub own : unsigned_abs n ≤ 2 ^ 31
-  pub value : unsigned_abs count.value ≤ 2 ^ 31
+  pub value : unsigned_abs count.value ≤ 2 ^ 32
 
 -- ---- things
 
@@ -124,7 +124,7 @@ pub record IsLine (line : DomainLine) : Type 0 where
 pub record TurnFits (turn : ReplayTurn) : Type 0 where
   pub global : IsLawful turn.global.limits
   pub cgroup : IsLawful turn.cgroup.limits
-  pub count : unsigned_abs turn.context.value ≤ 2 ^ 31
+  pub count : unsigned_abs turn.context.value ≤ 2 ^ 32
   pub began : turn.began < 2 ^ 62
 
 -- A turn that reads of a context finds it, with a sound estimate and parts that aren't ahead.
@@ -153,7 +153,7 @@ DecideFits trace s turn (whose.Flusher flusher) = Unit {0}
 -- An update of a context's estimate can measure what was written.
 pub record EstimateFits (trace : Trace) (context : ℕ) (turn : ReplayTurn) (s : State) : Type 0 where
   pub reads : ReadFits trace context turn s
-  pub few : (writeback_of context s).written < 2 ^ 39
+  pub few : (writeback_of context s).written ≤ 2 ^ 39
 
 -- The CPU holds lawful limits of the domain.
 pub record HoldsLimits (domain : ℕ) (c : Cpu) : Type 0 where

@@ -24,8 +24,8 @@ module _ (trace : Trace) (facts : Facts trace) (s : State) (sound : Sound trace 
   moment_fits = let h = sound.holds.horizon.clock in omega (arith, h)
 
   -- pages that were written
-  written_few : sum_by written_of s.contexts ≤ 2 ^ 22
-  written_few = omega (arith, sound.holds.written.total, sound.holds.few)
+  written_few : sum_by written_of s.contexts ≤ 2 ^ 39
+  written_few = omega (arith, sound.holds.written.total, sound.holds.few, sound.holds.long)
 
   -- ---- contexts
 
@@ -58,7 +58,7 @@ module _ (trace : Trace) (facts : Facts trace) (s : State) (sound : Sound trace 
     few_in_all = omega (arith, sound.holds.written.events (group_of trace k), written_few);
   }
 
-  pub written_fits : (k : ℕ) → k < length trace.contexts → (writeback_of k s).written ≤ 2 ^ 22
+  pub written_fits : (k : ℕ) → k < length trace.contexts → (writeback_of k s).written ≤ 2 ^ 39
   written_fits k less = let part = sum_part written_of s.contexts k no_context (omega (arith, less, sound.holds.contexts.many)) in omega (arith, part, written_few)
 
   turn_fits : (turn : ReplayTurn) → IsTurn s.now turn → TurnFits turn

@@ -25,8 +25,9 @@ use Rattle.wbt_replay_order.proofs.Growth.Afresh.{told_in, FreshIn, seen_in, fre
 abbrev pub HasNames : (c : Cpu) → Type 0
 HasNames c = InOrder (length c.checks) (length c.estimates) 0 0 c.entries × FreshIn (told_in c.checks c.estimates c.entries)
 
--- of the timer, the domains, the CPUs and the contexts of two states
-pub record QuietIn (clock clock' : Timer) (domains domains' : List Domain) (cpus cpus' : List Cpu) (contexts contexts' : List Writeback) : Type 0 where
+-- of the timer, the domains, the CPUs, the contexts and the steps that may be made of two states
+pub record QuietIn (clock clock' : Timer) (domains domains' : List Domain) (cpus cpus' : List Cpu) (contexts contexts' : List Writeback)
+    (most most' : ℕ) : Type 0 where
   pub timer : clock' ≡ clock
   pub peaks : (d : ℕ) → (get_or domains' d no_domain).peak ≡ (get_or domains d no_domain).peak
   pub many : length domains' ≡ length domains
@@ -36,13 +37,25 @@ pub record QuietIn (clock clock' : Timer) (domains domains' : List Domain) (cpus
   pub estimates : (i : ℕ) → (get_or cpus' i no_cpu).estimates ≡ (get_or cpus i no_cpu).estimates
   pub names : (i : ℕ) → HasNames (get_or cpus i no_cpu) → HasNames (get_or cpus' i no_cpu)
   pub estimate : (k : ℕ) → (get_or contexts' k no_context).estimate ≡ (get_or contexts k no_context).estimate
+  pub limit : most' ≡ most
 
 -- This state is that one in all of them.
 abbrev pub Quiet : (s u : State) → Type 0
-Quiet s u = QuietIn s.timer u.timer s.domains u.domains s.cpus u.cpus s.contexts u.contexts
+Quiet s u = QuietIn s.timer u.timer s.domains u.domains s.cpus u.cpus s.contexts u.contexts s.most u.most
 
 pub still : (s : State) → Quiet s s
-still s = record { timer = refl; peaks = λ d. refl; many = refl; seats = refl; places = refl; checks = λ i. refl; estimates = λ i. refl; names = λ i h. h; estimate = λ k. refl }
+still s = record {
+  timer = refl;
+  peaks = λ d. refl;
+  many = refl;
+  seats = refl;
+  places = refl;
+  checks = λ i. refl;
+  estimates = λ i. refl;
+  names = λ i h. h;
+  estimate = λ k. refl;
+  limit = refl;
+}
 
 pub then_still : (s u v : State) → Quiet s u → Quiet u v → Quiet s v
 then_still s u v h k = record {
@@ -55,6 +68,7 @@ then_still s u v h k = record {
   estimates = λ i. k.estimates i ∙ h.estimates i;
   names = λ i n. k.names i (h.names i n);
   estimate = λ n. k.estimate n ∙ h.estimate n;
+  limit = k.limit ∙ h.limit;
 }
 
 -- one place of a list is changed, but not what a function reads of it
@@ -117,6 +131,7 @@ quiet_cpu cpu c s checks estimates names = record {
   estimates = same_at (λ (x : Cpu). x.estimates) s.cpus cpu c no_cpu estimates;
   names = names_at s.cpus cpu c names;
   estimate = λ k. refl;
+  limit = refl;
 }
 
 pub quiet_domain : (domain : ℕ) (d : Domain) (s : State) → d.peak ≡ (domain_of domain s).peak → Quiet s (with_domain domain d s)
@@ -130,6 +145,7 @@ quiet_domain domain d s peak = record {
   estimates = λ i. refl;
   names = λ i h. h;
   estimate = λ k. refl;
+  limit = refl;
 }
 
 pub quiet_writeback : (context : ℕ) (w : Writeback) (s : State) → w.estimate ≡ (writeback_of context s).estimate → Quiet s (with_writeback context w s)
@@ -143,4 +159,5 @@ quiet_writeback context w s estimate = record {
   estimates = λ i. refl;
   names = λ i h. h;
   estimate = same_at (λ (x : Writeback). x.estimate) s.contexts context w no_context estimate;
+  limit = refl;
 }

@@ -5,6 +5,7 @@ use Rattle.std.proofs.lemmas.List.{get_or_past, get_or-replicate, length-replica
 use Rattle.std.proofs.lemmas.List.Elements.{All-nil, All-head, All-tail, All-push, All-map, All-weaker, All-replicate}
 use Rattle.std.proofs.lemmas.List.Folds.{sum_by-replicate}
 use Rattle.std.proofs.lemmas.List.Sums.{sum_by-cons}
+use Rattle.wbt_num.specs.declared.most.TheConstants.{MOST_STEPS}
 use Rattle.wbt_num.specs.Limits.{IsLawful as AreLawful}
 use Rattle.wbt_counter.specs.Batch.{domain_batch, context_batch}
 use Rattle.wbt_counter.specs.declared.counter.Counter.{Counter}
@@ -56,7 +57,7 @@ use Rattle.wbt_rules.specs.Age.{is_ageing}
 none_lawful : AreLawful no_limits
 none_lawful = record { bg_below_thresh = omega arith; thresh_below_hard = omega arith; hard_in_range = omega arith }
 
-no_domain_fits : IsDomain 0 no_domain
+no_domain_fits : IsDomain MOST_STEPS 0 no_domain
 no_domain_fits = record {
   limits = none_lawful;
   sequence = omega arith;
@@ -66,7 +67,7 @@ no_domain_fits = record {
   period = omega arith;
 }
 
-first_domain_fits : (trace : Trace) (d : ℕ) → IsDomain 0 (first_domain (first_limits trace d))
+first_domain_fits : (trace : Trace) (d : ℕ) → IsDomain MOST_STEPS 0 (first_domain (first_limits trace d))
 first_domain_fits trace d =
     let lawful = firsts_lawful trace d in
     record {
@@ -78,14 +79,14 @@ first_domain_fits trace d =
       period = omega arith;
     }
 
-domains_fit : (trace : Trace) → AreDomains trace 0 (first_domains trace (domains trace))
+domains_fit : (trace : Trace) → AreDomains trace MOST_STEPS 0 (first_domains trace (domains trace))
 domains_fit trace = record {
   many = numbered_length (first_domains trace) (λ d. first_domain (first_limits trace d)) no_domain refl (λ n. refl) (domains trace);
-  each = numbered_all (first_domains trace) (λ d. first_domain (first_limits trace d)) no_domain refl (λ n. refl) (λ d x. IsDomain 0 x)
+  each = numbered_all (first_domains trace) (λ d. first_domain (first_limits trace d)) no_domain refl (λ n. refl) (λ d x. IsDomain MOST_STEPS 0 x)
       (first_domain_fits trace) (λ d. no_domain_fits) (domains trace);
 }
 
-first_context_fits : (trace : Trace) → IsLawful trace → (ds : List Domain) (k : ℕ) → IsContext trace 0 opening_moment ds k (first_context trace k)
+first_context_fits : (trace : Trace) → IsLawful trace → (ds : List Domain) (k : ℕ) → IsContext trace MOST_STEPS 0 opening_moment ds k (first_context trace k)
 first_context_fits trace lawful ds k = record {
   count = record { version = omega arith; value = omega arith };
   estimate = first_sound trace k opening_moment ((facts trace lawful).firsts k) (omega arith);
@@ -94,10 +95,12 @@ first_context_fits trace lawful ds k = record {
   cgroup_part = omega arith;
 }
 
-contexts_fit : (trace : Trace) → IsLawful trace → (ds : List Domain) → AreContexts trace 0 opening_moment ds (first_contexts trace (length trace.contexts))
+contexts_fit : (trace : Trace) → IsLawful trace → (ds : List Domain)
+    → AreContexts trace MOST_STEPS 0 opening_moment ds (first_contexts trace (length trace.contexts))
 contexts_fit trace lawful ds = record {
   many = numbered_length (first_contexts trace) (first_context trace) no_context refl (λ n. refl) (length trace.contexts);
-  each = λ k less. subst (IsContext trace 0 opening_moment ds k) (sym (numbered_at (first_contexts trace) (first_context trace) no_context refl (λ n. refl) (length trace.contexts) k less))
+  each = λ k less. subst (IsContext trace MOST_STEPS 0 opening_moment ds k)
+      (sym (numbered_at (first_contexts trace) (first_context trace) no_context refl (λ n. refl) (length trace.contexts) k less))
       (first_context_fits trace lawful ds k);
 }
 
@@ -346,6 +349,7 @@ unfolding opening
 opening_holds trace lawful = record {
   pages = refl;
   few = omega arith;
+  long = omega arith;
   domains = domains_fit trace;
   contexts = contexts_fit trace lawful (first_domains trace (domains trace));
   written = written_fits trace;

@@ -1,6 +1,7 @@
 -- The state of a run before its first step: nothing is dirty, counted, marked or queued.
 use Rattle.std.specs.Prelude.{ℕ, zero, suc, ◌+◌, false, not, ◌==◌, ◌&&◌, if◌then◌else◌, pos, List, [], ◌∷◌, ◌++◌, length, map, flat_map, replicate, count_by, None, Option, Some}
 use Rattle.wbt_num.specs.declared.limits.Limits.{Limits}
+use Rattle.wbt_num.specs.declared.most.TheConstants.{MOST_STEPS}
 use Rattle.wbt_trace.specs.Sofar.{pages_in}
 use Rattle.wbt_trace.specs.declared.trace.Action.{Action}
 use Rattle.wbt_trace.specs.declared.trace.Action.TheVariants as action
@@ -260,4 +261,5 @@ opening trace = record {
   rotation = None;
   timer = first_timer trace;
   steps = [];
+  most = MOST_STEPS;
 }

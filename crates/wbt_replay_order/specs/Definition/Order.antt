@@ -1,6 +1,5 @@
 -- The order of a run: who makes the next move, and when the run ends.
 use Rattle.std.specs.Prelude.{ℕ, zero, suc, ◌+◌, ◌-◌, min, Bool, true, false, not, ◌&&◌, ◌||◌, if◌then◌else◌, ◌==◌, nat_le, nat_lt, List, [], ◌∷◌, length, get_or, count_by, Option, Some, None}
-use Rattle.wbt_num.specs.declared.most.TheConstants.{MOST_STEPS}
 use Rattle.wbt_trace.specs.declared.trace.Trace.{Trace}
 use Rattle.wbt_rules.specs.Flusher.{has_landed}
 use Rattle.wbt_replay_moves.specs.Definition.Perform.{make_step, make_move, make_timer_step, make_timer_move, begin_turn}
@@ -128,7 +127,7 @@ turn_at actor.Timer s = timer_turn s
 
 -- No further step may be made.
 abbrev pub is_full : (s : State) → Bool
-is_full s = nat_le MOST_STEPS (length s.steps)
+is_full s = nat_le s.most (length s.steps)
 
 -- the run's steps are spent
 abbrev pub spend : (s : State) → State

@@ -1,13 +1,13 @@
 -- What a run still has to do, as one sum that falls with every move, and what is kept for it and for the ending. Each step that may still be made is
 -- worth as much as what it may leave to be done without steps.
 use Rattle.std.specs.Prelude.{◌≡◌, ℕ, ◌+◌, ◌-◌, ◌*◌, ◌<◌, ◌≤◌, Bool, true, false, if◌then◌else◌, ◌==◌, nat_lt, List, [], ◌∷◌, length, get_or, sum_by, count_by, Option, Some, None}
-use Rattle.wbt_num.specs.declared.most.TheConstants.{MOST_STEPS}
 use Rattle.wbt_journal.specs.Machine.{domains}
 use Rattle.wbt_journal.specs.declared.step.StepEntry.{StepEntry}
 use Rattle.wbt_trace.specs.declared.trace.Trace.{Trace}
 use Rattle.wbt_replay_moves.specs.Definition.Check.{writer_of}
 use Rattle.wbt_replay_moves.specs.Definition.State.{State, no_task, no_cpu, cpu_of}
 use Rattle.wbt_replay_moves.specs.Definition.Writer.{has_nothing}
+use Rattle.wbt_replay_moves.specs.declared.state.Actor.{Actor}
 use Rattle.wbt_replay_moves.specs.declared.state.Cpu.{Cpu}
 use Rattle.wbt_replay_moves.specs.declared.state.Flusher.{Flusher}
 use Rattle.wbt_replay_moves.specs.declared.state.ReplayPhase.{ReplayPhase}
@@ -25,9 +25,9 @@ use Rattle.wbt_replay_moves.specs.declared.todo.TimerTodo.{TimerTodo}
 use Rattle.wbt_replay_moves.specs.declared.todo.TimerTodo.TheVariants as timer_todo
 use Rattle.wbt_replay_moves.specs.declared.todo.Todo.{Todo}
 use Rattle.wbt_replay_moves.specs.declared.todo.Todo.TheVariants as todo
-use Rattle.wbt_replay_order.specs.Definition.Order.{todo_ahead, is_halted}
+use Rattle.wbt_replay_order.specs.Definition.Order.{todo_ahead, ahead_of, is_halted}
 use Rattle.wbt_replay_order.specs.declared.chance.Ahead.TheVariants as ahead
-use Rattle.wbt_replay_order.specs.Claims.Ending.{is_made_by, IsSpentAt}
+use Rattle.wbt_replay_order.specs.Claims.Ending.{is_made_by, is_over, may_step}
 
 -- ---- turns
 
@@ -137,7 +137,7 @@ timer_cost now timer = timer_ahead_cost timer.todo + wait now timer.next
 
 -- how many steps the run may still make
 abbrev pub steps_left : (s : State) → ℕ
-steps_left s = MOST_STEPS - length s.steps
+steps_left s = s.most - length s.steps
 
 -- tasks and flushers
 abbrev pub parts_cost : (s : State) → ℕ
@@ -171,9 +171,17 @@ ArePaced halt steps cpus = (i : ℕ) → i < length cpus → IsPaced halt steps 
 
 -- ---- what is kept
 
+-- So many steps were made, the run isn't over, and an actor has a step to make next, which no halt line keeps it from.
+pub record IsSpentAfter (trace : Trace) (most : ℕ) (s : State) : Type 0 where
+  pub steps : length s.steps ≡ most
+  pub ongoing : is_over s ≡ false
+  pub who : Actor
+  pub due : ahead_of who s ≡ ahead.Step
+  pub free : may_step trace who s ≡ true
+
 -- what is kept for the ending at each moment of a run
 pub record Ending (trace : Trace) (s : State) : Type 0 where
   pub paid : (i : ℕ) → IsPaid (cpu_of i s).todo
   pub timer_paid : timer_silent_cost s.timer.todo ≤ 2 + domains trace
   pub paced : ArePaced trace.halt s.steps s.cpus
-  pub spent : s.spent ≡ true → IsSpentAt trace s
+  pub spent : s.spent ≡ true → IsSpentAfter trace s.most s

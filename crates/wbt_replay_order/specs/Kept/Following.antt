@@ -415,6 +415,7 @@ core s = record s {
   rotation = None;
   timer = record s.timer { began = 0; global = 0; next = 0; period = 0 };
   steps = [];
+  most = 0;
 }
 
 -- the peak of a domain and its sequence, which only rise

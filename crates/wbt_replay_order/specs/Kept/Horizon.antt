@@ -1,6 +1,5 @@
 -- No moment of a run is too late: what is still to come would not lead past the latest one.
 use Rattle.std.specs.Prelude.{ℕ, ◌+◌, ◌-◌, ◌*◌, ◌^◌, ◌≤◌, ◌==◌, if◌then◌else◌, List, [], ◌∷◌, length, get_or, sum_by, Option, None, Some}
-use Rattle.wbt_num.specs.declared.most.TheConstants.{MOST_STEPS}
 use Rattle.wbt_trace.specs.declared.ranges.TheConstants.{MOST_COUNT}
 use Rattle.wbt_trace.specs.declared.trace.Pace.{Pace}
 use Rattle.wbt_replay_moves.specs.Definition.State.{State, no_task, no_flusher}
@@ -23,6 +22,10 @@ use Rattle.wbt_replay_moves.specs.declared.todo.Todo.TheVariants as todo
 -- no moment of a run is later
 abbrev pub latest : ℕ
 latest = 31 * 2 ^ 57
+
+-- no run makes more steps
+abbrev pub most_ever : ℕ
+most_ever = 2 ^ 40
 
 -- by how many ticks a step, which may bring a rest for a pace nearer, may put a moment later
 abbrev pub step_ticks : ℕ
@@ -79,13 +82,13 @@ timer_credit (timer_todo.Step item ∷ more) = 0
 timer_credit (timer_todo.Silent item ∷ more) = silent_ticks
 
 -- by how much moments may still grow
-abbrev pub reserve_in : (steps : ℕ) (orders : List Stretch) (tasks : List ReplayTask) (cpus : List Cpu) (timer : List TimerTodo) → ℕ
-reserve_in steps orders tasks cpus timer =
-    step_ticks * (MOST_STEPS - steps) + sum_by ticks_of orders + sum_by rests_of tasks + sum_by credit_of cpus + timer_credit timer
+abbrev pub reserve_in : (most steps : ℕ) (orders : List Stretch) (tasks : List ReplayTask) (cpus : List Cpu) (timer : List TimerTodo) → ℕ
+reserve_in most steps orders tasks cpus timer =
+    step_ticks * (most - steps) + sum_by ticks_of orders + sum_by rests_of tasks + sum_by credit_of cpus + timer_credit timer
 
 -- by how many ticks the moments of a state may still grow
 abbrev pub reserve : (s : State) → ℕ
-reserve s = reserve_in (length s.steps) s.orders s.tasks s.cpus s.timer.todo
+reserve s = reserve_in s.most (length s.steps) s.orders s.tasks s.cpus s.timer.todo
 
 -- the moment that a flusher waits for
 abbrev pub until_of : (phase : ReplayPhase) → ℕ

@@ -1,7 +1,6 @@
 -- What of a state's ranges is needed to follow the step relation.
-use Rattle.std.specs.Prelude.{◌≡◌, ℕ, ◌<◌, ◌≤◌, true, List, [], ◌∷◌, length, get_or, All}
+use Rattle.std.specs.Prelude.{◌≡◌, ℕ, ◌^◌, ◌<◌, ◌≤◌, true, List, [], ◌∷◌, length, get_or, All}
 use Rattle.wbt_num.specs.Limits.{IsLawful}
-use Rattle.wbt_num.specs.declared.most.TheConstants.{MOST_STEPS}
 use Rattle.wbt_trace.specs.WriterList.{is_writer}
 use Rattle.wbt_trace.specs.declared.trace.Trace.{Trace}
 use Rattle.wbt_journal.specs.Machine.{domains}
@@ -57,6 +56,10 @@ pub record HasLimits (turn : ReplayTurn) : Type 0 where
   pub global : IsLawful turn.global.limits
   pub cgroup : IsLawful turn.cgroup.limits
 
+-- A run of no more steps is followed: its sequences and its page steps find room in the relation.
+abbrev pub most_followed : ℕ
+most_followed = 2 ^ 31
+
 -- each list of the state has one item for each thing of the trace, and what its items name is there
 pub record Ranges (trace : Trace) (s : State) : Type 0 where
   pub domains_are : length s.domains ≡ domains trace
@@ -78,5 +81,6 @@ pub record Ranges (trace : Trace) (s : State) : Type 0 where
   pub flusher : (f : ℕ) → f < length trace.flushers → IsInside trace (flusher_of f s).batch (flusher_of f s).phase
   pub places : (f : ℕ) → f < length trace.flushers → (n : ℕ) → n < length trace.inodes → get_or (flusher_of f s).places n 0 < (inode_of trace n).pages
   pub limits : (d : ℕ) → d < domains trace → IsLawful (domain_of d s).limits
-  pub sequences : (d : ℕ) → d < domains trace → (domain_of d s).sequence ≤ MOST_STEPS
+  pub sequences : (d : ℕ) → d < domains trace → (domain_of d s).sequence ≤ s.most
   pub timer_limits : IsLawful s.timer.limits
+  pub followed : s.most ≤ most_followed

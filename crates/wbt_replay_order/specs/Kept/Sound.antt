@@ -2,7 +2,6 @@
 use Rattle.std.specs.Prelude.{◌≡◌, ◌≢◌, ℕ, ◌+◌, ◌-◌, ◌*◌, ◌^◌, ◌<◌, ◌≤◌, Bool, true, false, not, if◌then◌else◌, unsigned_abs, List, [], ◌∷◌, length, get_or, count_by, sum_by, All, Option, None, Some, IfSome}
 use Rattle.wbt_num.specs.Limits.{IsLawful}
 use Rattle.wbt_num.specs.declared.limits.TheConstants.{MAX_LIMIT}
-use Rattle.wbt_num.specs.declared.most.TheConstants.{MOST_STEPS}
 use Rattle.wbt_counter.specs.declared.counter.Count.{Count}
 use Rattle.wbt_counter.specs.declared.counter.Counter.{Counter}
 use Rattle.wbt_estimate.specs.Estimate.{IsSound}
@@ -50,55 +49,59 @@ use Rattle.wbt_replay_order.specs.Definition.Opening.{first_cpu}
 use Rattle.wbt_replay_order.specs.Definition.Order.{is_finished}
 use Rattle.wbt_replay_order.specs.Claims.Setting.{writers_in}
 use Rattle.wbt_replay_order.specs.Kept.Facts.{IsPageOf, IsFlusherOn, IsTaskOn}
-use Rattle.wbt_replay_order.specs.Kept.Horizon.{horizon}
+use Rattle.wbt_replay_order.specs.Kept.Horizon.{horizon, most_ever}
 use Rattle.wbt_replay_order.specs.Kept.Turns.{ItemFits, AreInOrder, Settles, settles_next, Agrees, IsOpen, closes_in}
 use Rattle.wbt_expiry.specs.Waiting.{Waiting as Wheel, Each}
 
--- ---- domains and contexts, after so many steps
+-- ---- domains and contexts, after so many steps of at most so many
 
--- A count has one version a fold, and a fold brings at most 512 pages.
-pub record IsCount (steps : ℕ) (count : Count) : Type 0 where
+-- no shared count has more pages in absolute value
+abbrev pub most_counted : ℕ
+most_counted = 2 ^ 32
+
+-- A count has one version a fold. Each step that is left may fold at most 512 pages into it, and finds room.
+pub record IsCount (most steps : ℕ) (count : Count) : Type 0 where
   pub version : count.version ≤ steps
-  pub value : unsigned_abs count.value ≤ 512 * count.version
+  pub value : unsigned_abs count.value + 512 * (most - steps) ≤ most_counted
 
 -- a domain after so many steps: its limits are lawful and under its peak, and its sequence, count and period are in range
-pub record IsDomain (steps : ℕ) (d : Domain) : Type 0 where
+pub record IsDomain (most steps : ℕ) (d : Domain) : Type 0 where
   pub limits : IsLawful d.limits
   pub sequence : d.sequence ≤ steps
   pub under_peak : d.limits.hard ≤ d.peak
   pub peak : d.peak ≤ MAX_LIMIT
-  pub count : IsCount steps d.count
+  pub count : IsCount most steps d.count
   pub period : d.events.period ≤ LAST_PERIOD
 
 -- all domains of the trace, each in range
-pub record AreDomains (trace : Trace) (steps : ℕ) (ds : List Domain) : Type 0 where
+pub record AreDomains (trace : Trace) (most steps : ℕ) (ds : List Domain) : Type 0 where
   pub many : length ds ≡ domains trace
-  pub each : (d : ℕ) → IsDomain steps (get_or ds d no_domain)
+  pub each : (d : ℕ) → IsDomain most steps (get_or ds d no_domain)
 
 -- A part is never at a later period than its domain.
-pub record IsContext (trace : Trace) (steps now : ℕ) (ds : List Domain) (k : ℕ) (w : Writeback) : Type 0 where
-  pub count : IsCount steps w.count
+pub record IsContext (trace : Trace) (most steps now : ℕ) (ds : List Domain) (k : ℕ) (w : Writeback) : Type 0 where
+  pub count : IsCount most steps w.count
   pub estimate : IsSound w.estimate
   pub estimated : w.estimate.at ≤ now
   pub part : w.part.period ≤ (get_or ds 0 no_domain).events.period
   pub cgroup_part : w.cgroup_part.period ≤ (get_or ds (group_of trace k) no_domain).events.period
 
 -- all contexts of the trace, each in range
-pub record AreContexts (trace : Trace) (steps now : ℕ) (ds : List Domain) (cs : List Writeback) : Type 0 where
+pub record AreContexts (trace : Trace) (most steps now : ℕ) (ds : List Domain) (cs : List Writeback) : Type 0 where
   pub many : length cs ≡ length trace.contexts
-  pub each : (k : ℕ) → k < length trace.contexts → IsContext trace steps now ds k (get_or cs k no_context)
+  pub each : (k : ℕ) → k < length trace.contexts → IsContext trace most steps now ds k (get_or cs k no_context)
 
--- ---- pages that were completed
+-- ---- pages that were claimed and completed
 
--- pages of a flight that were completed
+-- steps that claimed a page of the batch, or claimed and completed one of the flight
 abbrev pub flown_at : (batch : List ℕ) (phase : ReplayPhase) → ℕ
 flown_at batch (phase.Idle until kept) = 0
 flown_at batch (phase.Taken inode) = 0
-flown_at batch (phase.Scanning scan) = 0
-flown_at batch (phase.Flying inode pages until) = pages - length batch
+flown_at batch (phase.Scanning scan) = length batch
+flown_at batch (phase.Flying inode pages until) = pages + (pages - length batch)
 flown_at batch phase.Finished = 0
 
--- pages of a flusher's flight that were completed
+-- steps of a flusher's that claimed or completed a page that isn't written yet
 abbrev pub flown_of : (f : Flusher) → ℕ
 flown_of f = flown_at f.batch f.phase
 
@@ -106,10 +109,10 @@ flown_of f = flown_at f.batch f.phase
 abbrev pub written_of : (w : Writeback) → ℕ
 written_of w = w.written
 
--- Each page that a context has written, or that a flight has behind it, was a step; so many steps aren't counted yet. Events are
--- pages written.
+-- Each page that a context has written was claimed and completed by a step; those of a flusher are counted likewise, and so many steps
+-- aren't counted yet. Events are pages written.
 pub record AreWritten (trace : Trace) (steps spare : ℕ) (ds : List Domain) (cs : List Writeback) (fs : List Flusher) : Type 0 where
-  pub total : sum_by written_of cs + sum_by flown_of fs + spare ≤ steps
+  pub total : 2 * sum_by written_of cs + sum_by flown_of fs + spare ≤ steps
   pub events : (d : ℕ) → (get_or ds d no_domain).events.events ≤ sum_by written_of cs + 1
   pub part : (k : ℕ) → (get_or cs k no_context).part.events ≤ sum_by written_of cs
   pub cgroup_part : (k : ℕ) → (get_or cs k no_context).cgroup_part.events ≤ sum_by written_of cs
@@ -267,14 +270,14 @@ abbrev pub IsWhose : (trace : Trace) (cpu : ℕ) (whose : Whose) → Type 0
 IsWhose trace cpu (whose.Task task) = IsTaskOn trace cpu task
 IsWhose trace cpu (whose.Flusher flusher) = IsFlusherOn trace cpu flusher
 
--- what a turn has loaded is in range: limits are lawful, and counts at most 2 ^ 31 pages in absolute value
+-- what a turn has loaded is in range: limits are lawful, and counts not too great in absolute value
 pub record IsTurn (now : ℕ) (turn : ReplayTurn) : Type 0 where
   pub began : turn.began ≤ now
   pub global : IsLawful turn.global.limits
   pub cgroup : IsLawful turn.cgroup.limits
-  pub global_count : unsigned_abs turn.global.count.value ≤ 2 ^ 31
-  pub cgroup_count : unsigned_abs turn.cgroup.count.value ≤ 2 ^ 31
-  pub context_count : unsigned_abs turn.context.value ≤ 2 ^ 31
+  pub global_count : unsigned_abs turn.global.count.value ≤ most_counted
+  pub cgroup_count : unsigned_abs turn.cgroup.count.value ≤ most_counted
+  pub context_count : unsigned_abs turn.context.value ≤ most_counted
 
 -- a CPU after so many steps: the trace's jobs and tasks, a turn in range, an own number for each counter, and held limits for each domain
 pub record IsCpu (trace : Trace) (steps now cpu : ℕ) (c : Cpu) : Type 0 where
@@ -393,9 +396,10 @@ pub record IsTimer (trace : Trace) (now : ℕ) (ds : List Domain) (timer : Timer
 -- all but what a CPU's own move suspends, where so many steps and ticks of the move aren't counted yet
 pub record Holds (trace : Trace) (steps ticks : ℕ) (s : State) : Type 0 where
   pub pages : s.pages ≡ pages_in trace.inodes
-  pub few : length s.steps ≤ MOST_STEPS
-  pub domains : AreDomains trace (length s.steps) s.domains
-  pub contexts : AreContexts trace (length s.steps) s.now s.domains s.contexts
+  pub few : length s.steps ≤ s.most
+  pub long : s.most ≤ most_ever
+  pub domains : AreDomains trace s.most (length s.steps) s.domains
+  pub contexts : AreContexts trace s.most (length s.steps) s.now s.domains s.contexts
   pub written : AreWritten trace (length s.steps) steps s.domains s.contexts s.flushers
   pub marks : length s.marks ≡ length trace.inodes
   pub queues : AreQueues trace s.queues

@@ -2,7 +2,6 @@
 use Rattle.std.proofs.Common.{◌≡◌, ℕ, ◌+◌, ◌<◌, negsuc, List, [], ◌∷◌, ◌++◌, length, All, refl, sym, ◌∙◌, ap, subst, arith}
 use Rattle.std.proofs.lemmas.List.Elements.{All-head}
 use Rattle.std.specs.List.{list_any}
-use Rattle.wbt_num.specs.declared.most.TheConstants.{MOST_STEPS}
 use Rattle.wbt_trace.specs.declared.trace.Trace.{Trace}
 use Rattle.wbt_counter.specs.Sums.{put}
 use Rattle.wbt_counter.proofs.Sums.{put_changes}
@@ -63,7 +62,7 @@ module _ (trace : Trace) (setting : Setting) (suits : Suits trace setting) (i : 
     complete_skipped : (is : (cpu_of i s).todo ≡ todo.Step item.Complete ∷ ts) → Moves trace setting s.steps s1 t
     complete_skipped is = let f = subst Tidy is (h.cpu i less).tidy in next.skipped (todo.Step item.Complete) ts is (λ a b none. none) refl f.0.claims f.1 refl
 
-    module _ (is : (cpu_of i s).todo ≡ todo.Step item.Complete ∷ ts) (room : length s.steps < MOST_STEPS) (f : ℕ) (on : IsFlusherOn trace i f)
+    module _ (is : (cpu_of i s).todo ≡ todo.Step item.Complete ∷ ts) (room : length s.steps < s.most) (f : ℕ) (on : IsFlusherOn trace i f)
         (turn : (cpu_of i s).turn.whose ≡ whose.Flusher f) (inode pages until : ℕ) (at : (flusher_of f s).phase ≡ phase.Flying inode pages until) where
       abbrev d0 : FollowsCpu trace setting i (record (cpu_of i s) { todo = todo.Step item.Complete ∷ ts }) s.tasks s.flushers (t.cpu i) (λ x. t.own x i)
       d0 = next.opened (todo.Step item.Complete) ts is
@@ -97,7 +96,10 @@ module _ (trace : Trace) (setting : Setting) (suits : Suits trace setting) (i : 
             cpu_is = next.on_cpu;
             page_is = suits.page inode page inside;
             holds_it = holds;
-            ready = record { owes_none = none_owed _ (d0.debts ∙ d0.tidy.0.debts); step_left = omega (arith, d0.paced, ranges.made i less, room, suits.page_steps) };
+            ready = record {
+              owes_none = none_owed _ (d0.debts ∙ d0.tidy.0.debts);
+              step_left = omega (arith, d0.paced, ranges.made i less, room, ranges.followed, suits.page_steps);
+            };
           })
           (ap (λ (n : ℕ). s.steps ++ change_entry i kind.Complete n (negsuc 0) ∷ []) (sym home))
           (one_cpu trace setting suits i c2 q2 s s2 t t2 next.there next.turns h (record {
@@ -137,7 +139,7 @@ module _ (trace : Trace) (setting : Setting) (suits : Suits trace setting) (i : 
       complete_first_moves [] batch = complete_skipped is
       complete_first_moves (page ∷ rest) batch = page_moves page rest batch
 
-    module _ (is : (cpu_of i s).todo ≡ todo.Step item.Complete ∷ ts) (room : length s.steps < MOST_STEPS) where
+    module _ (is : (cpu_of i s).todo ≡ todo.Step item.Complete ∷ ts) (room : length s.steps < s.most) where
       complete_in_moves : (f : ℕ) → IsFlusherOn trace i f → (cpu_of i s).turn.whose ≡ whose.Flusher f → (at : ReplayPhase)
           → (flusher_of f s).phase ≡ at → Moves trace setting s.steps (complete_in trace i f at s1) t
       complete_in_moves f on turn (phase.Idle until kept) at = complete_skipped is

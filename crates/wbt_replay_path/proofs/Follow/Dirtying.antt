@@ -4,7 +4,6 @@ use Rattle.std.proofs.Math.ListN.{set}
 use Rattle.std.proofs.lemmas.Bool.{cond-true, cond-false}
 use Rattle.std.proofs.lemmas.List.{get_or-set_same}
 use Rattle.std.specs.List.{list_any}
-use Rattle.wbt_num.specs.declared.most.TheConstants.{MOST_STEPS}
 use Rattle.wbt_trace.specs.WriterList.{is_writer}
 use Rattle.wbt_trace.specs.declared.trace.Trace.{Trace}
 use Rattle.wbt_counter.specs.Sums as sums
@@ -66,7 +65,7 @@ module _ (trace : Trace) (setting : Setting) (suits : Suits trace setting) (i : 
   turns : (j : ℕ) → j < trace.cpus → IsTurnOn trace j (cpu_of j s)
   turns j inside = ranges.turn_is j inside
 
-  module _ (ts : List Todo) (is : (cpu_of i s).todo ≡ todo.Step item.Dirty ∷ ts) (room : length s.steps < MOST_STEPS) where
+  module _ (ts : List Todo) (is : (cpu_of i s).todo ≡ todo.Step item.Dirty ∷ ts) (room : length s.steps < s.most) where
     abbrev c1 : Cpu
     c1 = record (cpu_of i s) { todo = ts; made = (cpu_of i s).made + 1 }
 
@@ -138,7 +137,7 @@ module _ (trace : Trace) (setting : Setting) (suits : Suits trace setting) (i : 
             some_left = omega (arith, least_is, one_left);
             ready = record {
               owes_none = none_owed _ (f.debts ∙ f.tidy.0.debts);
-              step_left = omega (arith, f.paced, ranges.made i less, room, suits.page_steps);
+              step_left = omega (arith, f.paced, ranges.made i less, room, ranges.followed, suits.page_steps);
             };
           }
 

@@ -4,7 +4,6 @@ use Rattle.std.proofs.lemmas.Bool.{cases_lt}
 use Rattle.std.proofs.lemmas.Bool.Decides.{nat_tests}
 use Rattle.std.proofs.lemmas.List.{get_or_past}
 use Rattle.std.proofs.lemmas.List.Elements.{All-head}
-use Rattle.wbt_num.specs.declared.most.TheConstants.{MOST_STEPS}
 use Rattle.wbt_trace.specs.declared.trace.Trace.{Trace}
 use Rattle.wbt_grant.specs.Setting.{Setting}
 use Rattle.wbt_grant.specs.State as throttle
@@ -79,7 +78,7 @@ pub record Fits (trace : Trace) (s : State) : Type 0 where
 module _ (trace : Trace) (setting : Setting) (suits : Suits trace setting) (facts : Facts trace) (s : State) (t : throttle.State) (fits : Fits trace s) (rule : Rule setting t)
     (h : Follows trace setting s t) where
   module _ (i : ℕ) (less : i < trace.cpus) (ts : List Todo) where
-    step_moves : (x : Step) → (cpu_of i s).todo ≡ todo.Step x ∷ ts → length s.steps < MOST_STEPS → StepFits trace x
+    step_moves : (x : Step) → (cpu_of i s).todo ≡ todo.Step x ∷ ts → length s.steps < s.most → StepFits trace x
         → Moves trace setting s.steps (make_step trace i x (stepping i ts s)) t
     unfolding make_step
     step_moves item.Dirty is room fit = dirty_moves trace setting suits i less s t facts fits.ranges h ts is room
@@ -125,7 +124,7 @@ module _ (trace : Trace) (setting : Setting) (suits : Suits trace setting) (fact
 
   -- ---- a turn goes on
 
-  not_full : is_full s ≡ false → length s.steps < MOST_STEPS
+  not_full : is_full s ≡ false → length s.steps < s.most
   not_full room = grind (arith, nat_tests)
 
   module _ (i : ℕ) (less : i < trace.cpus) where
@@ -207,6 +206,7 @@ moved_fits trace now orders turn s fits =
         limits = ranges.limits;
         sequences = ranges.sequences;
         timer_limits = ranges.timer_limits;
+        followed = ranges.followed;
       };
       placed = fits.placed;
       timer = fits.timer;

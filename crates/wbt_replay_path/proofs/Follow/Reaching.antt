@@ -1,5 +1,5 @@
--- A sound state has the ranges that following needs.
-use Rattle.std.proofs.Common.{◌≡◌, ℕ, ◌<◌, List, [], ◌∷◌, length, All, subst, arith}
+-- A sound state of a run that may be followed has the ranges that following needs.
+use Rattle.std.proofs.Common.{◌≡◌, ℕ, ◌<◌, ◌≤◌, List, [], ◌∷◌, length, All, subst, arith}
 use Rattle.std.proofs.lemmas.List.Elements.{All-head}
 use Rattle.wbt_trace.specs.declared.trace.Trace.{Trace}
 use Rattle.wbt_task.specs.History.{new_writer}
@@ -16,7 +16,7 @@ use Rattle.wbt_replay_moves.specs.declared.state.ReplayWork.TheVariants as work
 use Rattle.wbt_replay_moves.specs.declared.todo.Step.TheVariants as item
 use Rattle.wbt_replay_moves.specs.declared.todo.Todo.{Todo}
 use Rattle.wbt_replay_moves.specs.declared.todo.Todo.TheVariants as todo
-use Rattle.wbt_replay_order.specs.Kept.Ranges.{Ranges, IsTurnOf, WritesInside, IsWorker, IsInside}
+use Rattle.wbt_replay_order.specs.Kept.Ranges.{Ranges, IsTurnOf, WritesInside, IsWorker, IsInside, most_followed}
 use Rattle.wbt_replay_order.specs.Kept.Sound.{Sound, IsTask, WorkFits, IsAt, IsWhose, IsCpu}
 use Rattle.wbt_replay_order.specs.Kept.Turns.{Agrees}
 
@@ -58,8 +58,8 @@ module _ (trace : Trace) (s : State) (sound : Sound trace s) where
       (subst (All (Agrees trace s.tasks s.flushers (cpu_of i s).turn.whose)) is (sound.holds.agreed i less).items) in
       (subst (λ (w : Whose). Agrees trace s.tasks s.flushers w (todo.Step item.Dirty)) turn agreed).1
 
-  pub ranges_of : Ranges trace s
-  ranges_of = record {
+  pub ranges_of : s.most ≤ most_followed → Ranges trace s
+  ranges_of followed = record {
     domains_are = sound.holds.domains.many;
     contexts = sound.holds.contexts.many;
     marks = sound.holds.marks;
@@ -79,4 +79,5 @@ module _ (trace : Trace) (s : State) (sound : Sound trace s) where
     limits = λ d less. (sound.holds.domains.each d).limits;
     sequences = λ d less. (let was = (sound.holds.domains.each d).sequence in let few = sound.holds.few in omega (arith, was, few));
     timer_limits = sound.holds.timer.limits;
+    followed = followed;
   }

@@ -7,11 +7,12 @@ use Rattle.wbt_trace.specs.declared.trace.Trace.{Trace}
 use Rattle.wbt_journal.specs.declared.journal.Ending.TheVariants as ending
 use Rattle.wbt_replay_moves.specs.Definition.State.{State, no_cpu, cpu_of}
 use Rattle.wbt_replay_order.specs.Claims.Bound.{HasEnded}
-use Rattle.wbt_replay_order.specs.Claims.Ending.{is_over, IsStoppedAt, EndsSo}
+use Rattle.wbt_replay_order.specs.Claims.Ending.{is_over, IsSpentAt, IsStoppedAt, EndsSo}
 use Rattle.wbt_replay_order.specs.Definition.Order.{is_halted}
-use Rattle.wbt_replay_order.specs.Definition.Run.{last_state, ending_of, journal_of}
+use Rattle.wbt_replay_order.specs.Definition.Run.{most_moves, last_state, ending_of, journal_of}
 use Rattle.wbt_replay_order.specs.Kept.Ending.{IsWithin, Ending}
 use Rattle.wbt_replay_order.specs.Kept.Sound.{is_stopped, Sound}
+use Rattle.wbt_replay_order.proofs.Growth.Most.{most_at}
 
 -- ---- counts
 
@@ -102,6 +103,12 @@ module _ (trace : Trace) (sound : Sound trace (last_state trace)) (ended : HasEn
   over : (last_state trace).spent ≡ false → is_over (last_state trace) ≡ true
   over going = ap (λ (b : Bool). b || is_over (last_state trace)) (sym going) ∙ ended.0
 
+  -- a run that is spent has made as many steps as a replay may have
+  spent_at : (last_state trace).spent ≡ true → IsSpentAt trace (last_state trace)
+  spent_at is =
+      let after = kept.spent is in
+      record { steps = after.steps ∙ most_at trace most_moves; ongoing = after.ongoing; who = after.who; due = after.due; free = after.free }
+
   pub ends_so : EndsSo trace
   ends_so = by_case (which (last_state trace))
     where
@@ -109,7 +116,7 @@ module _ (trace : Trace) (sound : Sound trace (last_state trace)) (ended : HasEn
       by_case (inl spent) =
           let is = told ∙ spent.told in
           record {
-            spent = ((λ e. kept.spent spent.is), (λ at. is));
+            spent = ((λ e. spent_at spent.is), (λ at. is));
             halted = ((λ e. absurd (cc (sym is ∙ e))), (λ h. absurd (h.0 is)));
             done = ((λ e. absurd (cc (sym is ∙ e))), (λ h. absurd (h.0 is)));
             unhalted = λ none other. absurd (other is);

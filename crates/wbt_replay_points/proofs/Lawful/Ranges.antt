@@ -21,7 +21,7 @@ use Rattle.wbt_replay_moves.specs.declared.state.Load.{Load}
 use Rattle.wbt_replay_moves.specs.declared.state.ReplayTurn.{ReplayTurn}
 use Rattle.wbt_replay_moves.specs.declared.state.Stretch.{Stretch}
 use Rattle.wbt_replay_order.specs.Kept.Facts.{Facts}
-use Rattle.wbt_replay_order.specs.Kept.Sound.{IsTurn, Sound}
+use Rattle.wbt_replay_order.specs.Kept.Sound.{IsTurn, Sound, most_counted}
 use Rattle.wbt_replay_order.proofs.Facts.Things.{cgroup_part_fits, moment_fits, part_fits}
 
 -- ---- what was read
@@ -49,8 +49,8 @@ reads_few : (n : ℤ) (most : ℕ) → unsigned_abs n ≤ most → at_least_zero
 reads_few (pos n) most few = few
 reads_few (negsuc n) most few = omega arith
 
-pages_few : (n : ℤ) → unsigned_abs n ≤ 2 ^ 31 → at_least_zero n < 2 ^ 33
-pages_few n few = let reads = reads_few n (2 ^ 31) few in omega (arith, reads)
+pages_few : (n : ℤ) → unsigned_abs n ≤ most_counted → at_least_zero n < 2 ^ 33
+pages_few n few = let reads = reads_few n most_counted few in omega (arith, reads)
 
 sound_rate : (e : Estimate) → IsSound e → IsRate e
 sound_rate e sound = record { usable = record { average = sound.average; ratelimit = sound.ratelimit.0 }; ratelimit = sound.ratelimit.1 }
@@ -65,7 +65,7 @@ module _ (trace : Trace) (facts : Facts trace) (s : State) (sound : Sound trace 
   counted_few task k there less =
       let h = sound.holds.tasks.each task there in
       let fit = h.fit k (new_writer 0) (omega (arith, less, h.writers)) in
-      record { dirtied = omega (arith, fit.dirtied, sound.holds.few); allowance = omega (arith, fit.allowance) }
+      record { dirtied = omega (arith, fit.dirtied, sound.holds.few, sound.holds.long); allowance = omega (arith, fit.allowance) }
 
   -- a check of a task of this state, whatever it decides
   pub check_in_range : (orders : List Stretch) (rotation : Option Actor) (cs : List Cpu) (task k : ℕ) → task < length trace.tasks → k < length trace.contexts

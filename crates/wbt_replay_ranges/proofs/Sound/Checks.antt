@@ -15,7 +15,7 @@ use Rattle.wbt_pause.specs.declared.reads.Reads.{Reads}
 use Rattle.wbt_rules.proofs.Parts.{part_is_within}
 use Rattle.wbt_rules.specs.Strict.{is_strict}
 use Rattle.wbt_rules.specs.Things.{context_at, device_at}
-use Rattle.wbt_strict.proofs.Deciding.{counts_no_more, decision_small, leaves_within_cap, pauses_within_longest}
+use Rattle.wbt_strict.proofs.Deciding.{counts_no_more, leaves_within_cap, pauses_within_longest}
 use Rattle.wbt_strict.specs.Decision.{decision_for}
 use Rattle.wbt_task.specs.History.{new_writer, checked_writer, due_again}
 use Rattle.wbt_task.specs.declared.allowance.Due.TheVariants as due
@@ -29,6 +29,7 @@ use Rattle.wbt_replay_moves.specs.declared.state.Whose.TheVariants as whose
 use Rattle.wbt_replay_order.specs.Kept.Facts.{Facts, IsTaskOn}
 use Rattle.wbt_replay_order.specs.Kept.Horizon.{silent_ticks}
 use Rattle.wbt_replay_order.specs.Kept.Sound.{IsClosed, IsTask, WriterFits, dirtied_of, dirtied_by}
+use Rattle.wbt_replay_ranges.proofs.Sound.Allowances.{allowance_small}
 use Rattle.wbt_replay_ranges.proofs.Sound.FlusherTurn.{turn_task}
 use Rattle.wbt_replay_ranges.proofs.Sound.Going.{Going}
 use Rattle.wbt_replay_order.proofs.Lists.Numbered.{is_there, set_all, sum_set}
@@ -131,8 +132,9 @@ module _ (trace : Trace) (facts : Facts trace) (i : ℕ) (less : i < trace.cpus)
         let leaves = leaves_within_cap strict reads estimate (writer_of t).task s.now facts.some_cap in
         let lawful = (g.holds.cpus.each i less).turn.global in
         let few = g.holds.few in
+        let long = g.holds.long in
         let pause = pauses_within_longest strict reads estimate (writer_of t).task s.now in
         let longest = longest_within_200 reads.wb_dirty estimate.avg in
         so_done (decision_for strict reads estimate (writer_of t).task s.now) g free (counts_no_more strict reads estimate (writer_of t).task s.now)
-        (decision_small strict reads estimate (writer_of t).task s.now lawful part sound.ratelimit.1 (omega (arith, old.dirtied, few)) old.allowance)
+        (allowance_small (writer_of t).task s.now (omega (arith, old.dirtied, few, long)) old.allowance reads estimate lawful part sound.ratelimit.1 strict)
         leaves.0 leaves.1 (omega (arith, pause, longest))

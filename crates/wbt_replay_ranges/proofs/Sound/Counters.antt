@@ -1,5 +1,5 @@
 -- Steps on counters, and loads.
-use Rattle.std.proofs.Common.{◌≡◌, ℕ, zero, suc, ◌+◌, ◌^◌, ◌<◌, ◌≤◌, false, eqb, ℤ, pos, unsigned_abs, List, [], ◌∷◌, ◌++◌, length, get_or, All, ⊎_elim, refl, sym, ◌∙◌, subst, arith, eq-eqb, length-append}
+use Rattle.std.proofs.Common.{◌≡◌, ℕ, zero, suc, ◌+◌, ◌<◌, ◌≤◌, false, eqb, ℤ, pos, unsigned_abs, List, [], ◌∷◌, ◌++◌, length, get_or, All, ⊎_elim, refl, sym, ◌∙◌, subst, arith, eq-eqb, length-append}
 use Rattle.std.specs.Prelude.{◌+ℤ◌}
 use Rattle.std.proofs.lemmas.Int.{ints}
 use Rattle.std.proofs.Math.ListN.{set}
@@ -42,7 +42,7 @@ use Rattle.wbt_replay_moves.specs.declared.todo.Todo.TheVariants as todo
 use Rattle.wbt_replay_order.specs.Claims.Setting.{setting_of}
 use Rattle.wbt_replay_order.specs.Kept.Facts.{Facts, IsFlusherOn}
 use Rattle.wbt_replay_order.specs.Kept.Horizon.{credit_in, silent_ticks}
-use Rattle.wbt_replay_order.specs.Kept.Sound.{IsClosed, IsRoom, IsCount, IsTurn, IsWhose}
+use Rattle.wbt_replay_order.specs.Kept.Sound.{IsClosed, IsRoom, IsCount, IsTurn, IsWhose, most_counted}
 use Rattle.wbt_replay_order.specs.Kept.Turns.{IsCounter, ItemFits, AreInOrder, AreOthers, Settles, settles_next, Agrees, TaskAgrees, FlusherAgrees, IsOpen, closes_in}
 use Rattle.wbt_replay_order.proofs.Facts.Lists.{either}
 use Rattle.wbt_replay_ranges.proofs.Sound.Frames.{cpu_going}
@@ -357,9 +357,9 @@ module _ (trace : Trace) (facts : Facts trace) (i : ℕ) (less : i < trace.cpus)
         hold_done (suc d) x (limits_kept (suc d) x (cpu_of i s).turn) free (held_lawful (suc d))
         (record { began = t.began; global = t.global; cgroup = held_lawful (suc d); global_count = t.global_count; cgroup_count = t.cgroup_count; context_count = t.context_count }) refl
 
-    -- a count after so many steps is below 2 ^ 31
-    count_small : (count : Count) → IsCount (length (with_step (plain_entry i kind.Count) s).steps) count → unsigned_abs count.value ≤ 2 ^ 31
-    count_small count h = let few = (ready (plain_entry i kind.Count)).holds.few in omega (arith, h.version, h.value, few)
+    -- a count after so many steps has no more pages than any may have
+    count_small : (count : Count) → IsCount s.most (length (with_step (plain_entry i kind.Count) s).steps) count → unsigned_abs count.value ≤ most_counted
+    count_small count h = omega (arith, h.value)
 
     pub count_done : (x : Counter) → IsCounter trace x → Free trace i 0 s → Done trace i (load_count i x s)
     count_done (Domain zero) fits free =
@@ -380,8 +380,8 @@ module _ (trace : Trace) (facts : Facts trace) (i : ℕ) (less : i < trace.cpus)
 
     -- ---- a full number is folded
 
-    counted_fits : (n : ℕ) (own : ℤ) (count : Count) → IsCount n count → unsigned_abs own ≤ 512 → (m : ℕ) → m ≡ n + 1 → IsCount m (counted own count)
-    counted_fits n own count h few m more = record { version = omega (arith, h.version, more); value = omega (arith, ints, h.value, few) }
+    counted_fits : (n : ℕ) (own : ℤ) (count : Count) → IsCount s.most n count → unsigned_abs own ≤ 512 → (m : ℕ) → m ≡ n + 1 → m ≤ s.most → IsCount s.most m (counted own count)
+    counted_fits n own count h few m more left = record { version = omega (arith, h.version, more); value = omega (arith, ints, h.value, few, more, left) }
 
     folded_done : (x : Counter) (s' : State) → Going trace i 1 silent_ticks s' → s'.cpus ≡ s.cpus → s'.now ≡ s.now → IsRoom trace (cpu_of i s') → Opens s' (cpu_of i s').todo → IsWhose trace i (cpu_of i s').turn.whose → (es : List Entry)
         → Done trace i (record s' { cpus = set s'.cpus i (record (cpu_of i s') { entries = es }) })
@@ -392,7 +392,7 @@ module _ (trace : Trace) (facts : Facts trace) (i : ℕ) (less : i < trace.cpus)
         h.todo h.in_order (g.holds.agreed i less).items (omega arith) opens'
         (room_as c c.turn es c.checks c.estimates room)
 
-    pub fold_done : (x : Counter) → IsCounter trace x → IsRoom trace (cpu_of i s) → IsCount (length s.steps) (count_of x s) → Done trace i (fold i x s)
+    pub fold_done : (x : Counter) → IsCounter trace x → IsRoom trace (cpu_of i s) → IsCount s.most (length s.steps) (count_of x s) → Done trace i (fold i x s)
     fold_done (Domain d) fits room count =
         let c : Cpu = cpu_of i s in
         let g = ready (plain_entry i kind.Fold) in
@@ -402,7 +402,7 @@ module _ (trace : Trace) (facts : Facts trace) (i : ℕ) (less : i < trace.cpus)
         let after : Count = counted (own_of (Domain d) c) (domain_of d s).count in
         let one : length (with_step (plain_entry i kind.Fold) s).steps ≡ length s.steps + 1 = length-append s.steps (plain_entry i kind.Fold ∷ []) in
         let m = domain_going trace i 1 silent_ticks d (record (domain_of d s) { count = after }) (with_step (plain_entry i kind.Fold) s) g (omega (arith, g.holds.domains.many, fits))
-        (record { limits = at.limits; sequence = at.sequence; under_peak = at.under_peak; peak = at.peak; count = counted_fits (length s.steps) (own_of (Domain d) c) (domain_of d s).count count (omega (arith, few, most)) (length (with_step (plain_entry i kind.Fold) s).steps) one; period = at.period })
+        (record { limits = at.limits; sequence = at.sequence; under_peak = at.under_peak; peak = at.peak; count = counted_fits (length s.steps) (own_of (Domain d) c) (domain_of d s).count count (omega (arith, few, most)) (length (with_step (plain_entry i kind.Fold) s).steps) one g.holds.few; period = at.period })
         (omega arith) (omega arith) (g.holds.written.events d) in
         folded_done (Domain d) _ m refl refl room opens is (fold_of (Domain d) (domain_of d s).count c).entries
     fold_done (Context k) fits room count =
@@ -414,6 +414,6 @@ module _ (trace : Trace) (facts : Facts trace) (i : ℕ) (less : i < trace.cpus)
         let after : Count = counted (own_of (Context k) c) (writeback_of k s).count in
         let one : length (with_step (plain_entry i kind.Fold) s).steps ≡ length s.steps + 1 = length-append s.steps (plain_entry i kind.Fold ∷ []) in
         let m = context_going trace i 1 silent_ticks k (record (writeback_of k s) { count = after }) (with_step (plain_entry i kind.Fold) s) g (omega (arith, g.holds.contexts.many, fits))
-        (record { count = counted_fits (length s.steps) (own_of (Context k) c) (writeback_of k s).count count (omega (arith, few, most)) (length (with_step (plain_entry i kind.Fold) s).steps) one; estimate = at.estimate; estimated = at.estimated; part = at.part; cgroup_part = at.cgroup_part })
+        (record { count = counted_fits (length s.steps) (own_of (Context k) c) (writeback_of k s).count count (omega (arith, few, most)) (length (with_step (plain_entry i kind.Fold) s).steps) one g.holds.few; estimate = at.estimate; estimated = at.estimated; part = at.part; cgroup_part = at.cgroup_part })
         refl (g.holds.written.part k) (g.holds.written.cgroup_part k) in
         folded_done (Context k) _ m refl refl room opens is (fold_of (Context k) (writeback_of k s).count c).entries

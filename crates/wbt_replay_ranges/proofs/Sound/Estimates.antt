@@ -18,7 +18,7 @@ use Rattle.wbt_replay_moves.specs.Definition.State.{State, cpu_of, writeback_of,
 use Rattle.wbt_replay_moves.specs.declared.state.ReplayTurn.{ReplayTurn}
 use Rattle.wbt_replay_moves.specs.declared.state.Writeback.{Writeback}
 use Rattle.wbt_replay_order.specs.Kept.Facts.{Facts}
-use Rattle.wbt_replay_order.specs.Kept.Sound.{IsClosed, written_of}
+use Rattle.wbt_replay_order.specs.Kept.Sound.{IsClosed, most_counted, written_of}
 use Rattle.wbt_replay_ranges.proofs.Sound.Going.{Going}
 use Rattle.wbt_replay_order.proofs.Lists.Numbered.{sum_part}
 use Rattle.wbt_replay_ranges.proofs.Sound.Own.{Free, Done, done_free, logged_going, logged_free, is_set}
@@ -46,7 +46,7 @@ update_at old sample new is = by_age (ltb (elapsed_since old sample) 200) (updat
     by_age true made e at = absurd (cc e)
     by_age false made e at = let same : made ≡ new = cc e in ap (λ (x : Estimate). x.at) (sym same) ∙ at
 
-reading_small : (n : ℤ) → unsigned_abs n ≤ 2 ^ 31 → at_least_zero n ≤ 2 ^ 31
+reading_small : (n : ℤ) → unsigned_abs n ≤ most_counted → at_least_zero n ≤ most_counted
 reading_small (pos n) h = h
 reading_small (negsuc n) h = omega arith
 
@@ -58,11 +58,12 @@ module _ (trace : Trace) (facts : Facts trace) (i : ℕ) (less : i < trace.cpus)
       let part = sum_part written_of s.contexts k no_context (omega (arith, there, g.holds.contexts.many)) in
       let total = g.holds.written.total in
       let few = g.holds.few in
+      let long = g.holds.long in
       let reading = reading_small t.context.value h.context_count in
       let clock = g.holds.horizon.clock in
       record {
-        written = omega (arith, part, total, few);
-        dirtied = omega (arith, part, total, few, reading);
+        written = omega (arith, part, total, few, long);
+        dirtied = omega (arith, part, total, few, long, reading);
         ratio = ratio_fits (global_read trace k t s) (at_least_zero t.context.value) (writeback_of k s).estimate.avg;
         moment = omega (arith, h.began, clock);
       }

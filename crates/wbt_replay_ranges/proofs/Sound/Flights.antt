@@ -82,8 +82,8 @@ module _ (trace : Trace) (facts : Facts trace) (i : ℕ) (less : i < trace.cpus)
       where
         flown_one : (page : ℕ) (rest : List ℕ) → (flusher_of f s).batch ≡ page ∷ rest → length (page ∷ rest) ≤ pages → flown_of (record (flusher_of f s) { batch = rest }) + 0 ≤ flown_of (flusher_of f s) + 1
         flown_one page rest batch few =
-            let e : flown_of (record (flusher_of f s) { batch = rest }) ≡ pages - length rest = ap (λ p. flown_of (record (flusher_of f s) { phase = p; batch = rest })) is in
-            let e' : flown_of (flusher_of f s) ≡ pages - length (flusher_of f s).batch = ap (λ p. flown_of (record (flusher_of f s) { phase = p })) is in
+            let e : flown_of (record (flusher_of f s) { batch = rest }) ≡ pages + (pages - length rest) = ap (λ p. flown_of (record (flusher_of f s) { phase = p; batch = rest })) is in
+            let e' : flown_of (flusher_of f s) ≡ pages + (pages - length (flusher_of f s).batch) = ap (λ p. flown_of (record (flusher_of f s) { phase = p })) is in
             omega (arith, e, e', ap length batch, few)
 
     complete_done : (batch : List ℕ) → (flusher_of f s).batch ≡ batch → 1 ≤ length batch → Ready trace i s → Free trace i 2 s → Done trace i (complete_first trace i f (context_of trace inode) batch s)
@@ -219,7 +219,7 @@ module _ (trace : Trace) (facts : Facts trace) (i : ℕ) (less : i < trace.cpus)
         let sums = sum_set written_of s.contexts k w' no_context in_all in
         let most : ℕ = sum_by written_of s.contexts in
         let flown = sum_set flown_of s.flushers f y no_flusher (omega (arith, on.there, g.holds.flushers.many)) in
-        let was : flown_of (flusher_of f s) ≡ pages - length (flusher_of f s).batch = ap (λ p. flown_of (record (flusher_of f s) { phase = p })) is in
+        let was : flown_of (flusher_of f s) ≡ pages + (pages - length (flusher_of f s).batch) = ap (λ p. flown_of (record (flusher_of f s) { phase = p })) is in
         let total : sum_by written_of (set s.contexts k w') ≡ most + pages = omega (arith, sums) in
         let before = g.holds.contexts.each k there in
         let g2 = context_frame trace i 0 0 k w' z m.going in_all (record { count = before.count; estimate = before.estimate; estimated = before.estimated; part = before.part; cgroup_part = before.cgroup_part })

@@ -46,6 +46,7 @@ module _ (trace : Trace) (facts : Facts trace) (i : ℕ) (less : i < trace.cpus)
         holds = record {
           pages = h.pages;
           few = h.few;
+          long = h.long;
           domains = h.domains;
           contexts = h.contexts;
           written = record { total = omega (arith, h.written.total, sums, flown); events = h.written.events; part = h.written.part; cgroup_part = h.written.cgroup_part };

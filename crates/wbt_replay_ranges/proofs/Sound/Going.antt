@@ -1,7 +1,6 @@
 -- A state in the midst of a CPU's move: what the move suspends of that CPU is left out; what one more step makes of it.
 use Rattle.std.proofs.Common.{◌≡◌, ◌≢◌, ℕ, false, ◌+◌, ◌<◌, ◌≤◌, List, length, get_or, arith}
 use Rattle.std.proofs.lemmas.List.Elements.{All-weaker}
-use Rattle.wbt_num.specs.declared.most.TheConstants.{MOST_STEPS}
 use Rattle.wbt_counter.specs.declared.counter.Count.{Count}
 use Rattle.wbt_journal.specs.declared.step.StepEntry.{StepEntry}
 use Rattle.wbt_task.specs.declared.history.Writer.{Writer}
@@ -26,27 +25,27 @@ pub record Going (trace : Trace) (i steps ticks : ℕ) (s : State) : Type 0 wher
 
 -- ---- more steps were made
 
-count_more : (n m : ℕ) (c : Count) → n ≤ m → IsCount n c → IsCount m c
-count_more n m c more h = record { version = omega (arith, more, h.version); value = h.value }
+count_more : (most n m : ℕ) (c : Count) → n ≤ m → IsCount most n c → IsCount most m c
+count_more most n m c more h = record { version = omega (arith, more, h.version); value = omega (arith, more, h.value) }
 
-pub domains_more : (trace : Trace) (n m : ℕ) (ds : List Domain) → n ≤ m → AreDomains trace n ds → AreDomains trace m ds
-domains_more trace n m ds more h = record {
+pub domains_more : (trace : Trace) (most n m : ℕ) (ds : List Domain) → n ≤ m → AreDomains trace most n ds → AreDomains trace most m ds
+domains_more trace most n m ds more h = record {
   many = h.many;
   each = λ d. let x = h.each d in record {
     limits = x.limits;
     sequence = omega (arith, more, x.sequence);
     under_peak = x.under_peak;
     peak = x.peak;
-    count = count_more n m (get_or ds d no_domain).count more x.count;
+    count = count_more most n m (get_or ds d no_domain).count more x.count;
     period = x.period;
   };
 }
 
-pub contexts_more : (trace : Trace) (n m now later : ℕ) (ds : List Domain) (cs : List Writeback) → n ≤ m → now ≤ later → AreContexts trace n now ds cs → AreContexts trace m later ds cs
-contexts_more trace n m now later ds cs more on h = record {
+pub contexts_more : (trace : Trace) (most n m now later : ℕ) (ds : List Domain) (cs : List Writeback) → n ≤ m → now ≤ later → AreContexts trace most n now ds cs → AreContexts trace most m later ds cs
+contexts_more trace most n m now later ds cs more on h = record {
   many = h.many;
   each = λ k less. let x = h.each k less in record {
-    count = count_more n m (get_or cs k no_context).count more x.count;
+    count = count_more most n m (get_or cs k no_context).count more x.count;
     estimate = x.estimate;
     estimated = omega (arith, x.estimated, on);
     part = x.part;
@@ -105,7 +104,7 @@ cpus_more trace n m now later cs more on h = record {
 }
 
 -- A step is made, which isn't counted yet.
-pub step_going : (trace : Trace) (i e t : ℕ) (xs : List StepEntry) (s : State) → Going trace i e t s → length xs ≡ length s.steps + 1 → length xs ≤ MOST_STEPS
+pub step_going : (trace : Trace) (i e t : ℕ) (xs : List StepEntry) (s : State) → Going trace i e t s → length xs ≡ length s.steps + 1 → length xs ≤ s.most
     → Going trace i (e + 1) (t + step_ticks) (record s { steps = xs })
 step_going trace i e t xs s g one few =
     let h = g.holds in
@@ -116,8 +115,9 @@ step_going trace i e t xs s g one few =
       holds = record {
         pages = h.pages;
         few = few;
-        domains = domains_more trace n m s.domains more h.domains;
-        contexts = contexts_more trace n m s.now s.now s.domains s.contexts more (omega arith) h.contexts;
+        long = h.long;
+        domains = domains_more trace s.most n m s.domains more h.domains;
+        contexts = contexts_more trace s.most n m s.now s.now s.domains s.contexts more (omega arith) h.contexts;
         written = record { total = omega (arith, h.written.total, one); events = h.written.events; part = h.written.part; cgroup_part = h.written.cgroup_part };
         marks = h.marks;
         queues = h.queues;
@@ -147,6 +147,7 @@ spare_going trace i e e' t t' s fewer less g = let h = g.holds in record {
   holds = record {
     pages = h.pages;
     few = h.few;
+    long = h.long;
     domains = h.domains;
     contexts = h.contexts;
     written = record { total = omega (arith, h.written.total, fewer); events = h.written.events; part = h.written.part; cgroup_part = h.written.cgroup_part };

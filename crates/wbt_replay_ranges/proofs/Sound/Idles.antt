@@ -253,7 +253,7 @@ module _ (trace : Trace) (facts : Facts trace) (i : ℕ) (less : i < trace.cpus)
         wheel = (g.holds.flushers.each f).wheel;
         places = (g.holds.flushers.each f).places;
       })
-      (omega arith) (omega arith) (omega arith) (omega arith) (ap (λ (q : ReplayPhase). s.working + one_if (not (is_finished q))) is) in
+      (omega (arith, ap length at.0)) (omega arith) (omega arith) (omega arith) (ap (λ (q : ReplayPhase). s.working + one_if (not (is_finished q))) is) in
       stays_done trace facts i less s f on turn 0 silent_ticks 2 (record x { flushers = set x.flushers f y; working = s.working }) m.going m.free turn (subst (IsOpen trace) (sym m.is) (some_pages, omega (arith, ap length at.0, room)))
 
   pub unmark_at : (p : ReplayPhase) → (flusher_of f s).phase ≡ p → Ready trace i s → Free trace i 2 s → IsTaken p → Done trace i (unmark_in trace i f p s)

@@ -1,7 +1,6 @@
 -- Each item of a CPU's turn keeps the state sound.
 use Rattle.std.proofs.Common.{◌≡◌, ℕ, ◌+◌, ◌<◌, ◌≤◌, false, List, [], ◌∷◌, length, refl, sym, subst, arith}
 use Rattle.std.proofs.Math.ListN.{set}
-use Rattle.wbt_num.specs.declared.most.TheConstants.{MOST_STEPS}
 use Rattle.wbt_counter.specs.Counters.{is_same}
 use Rattle.wbt_counter.specs.declared.counter.Counter.{Counter}
 use Rattle.wbt_counter.specs.declared.counter.Counter.TheVariants.{Domain, Context}
@@ -134,7 +133,7 @@ clears_settles y [] h = absurd h
 clears_settles y (t ∷ ts) h = subst (λ (u : Todo). Settles (u ∷ ts)) (sym h.0) h.1
 
 module _ (trace : Trace) (facts : Facts trace) (i : ℕ) (less : i < trace.cpus) (s : State) (sound : Sound trace s) (room : HasRoom trace s) (live : (cpu_of i s).stopped ≡ false) where
-  count_fits : (x : Counter) (cs : List Cpu) → IsCounter trace x → IsCount (length s.steps) (count_of x (record s { cpus = cs }))
+  count_fits : (x : Counter) (cs : List Cpu) → IsCounter trace x → IsCount s.most (length s.steps) (count_of x (record s { cpus = cs }))
   count_fits (Domain d) cs fits = (sound.holds.domains.each d).count
   count_fits (Context k) cs fits = (sound.holds.contexts.each k fits).count
 
@@ -142,7 +141,7 @@ module _ (trace : Trace) (facts : Facts trace) (i : ℕ) (less : i < trace.cpus)
   abbrev behind : (ts : List Todo) (made : ℕ) → State
   behind ts made = record s { cpus = set s.cpus i (record (cpu_of i s) { todo = ts; made = made }) }
 
-  module _ (item : Step) (ts : List Todo) (first : (cpu_of i s).todo ≡ todo.Step item ∷ ts) (few : length s.steps < MOST_STEPS) where
+  module _ (item : Step) (ts : List Todo) (first : (cpu_of i s).todo ≡ todo.Step item ∷ ts) (few : length s.steps < s.most) where
     abbrev now : State
     now = behind ts ((cpu_of i s).made + 1)
 
@@ -170,7 +169,7 @@ module _ (trace : Trace) (facts : Facts trace) (i : ℕ) (less : i < trace.cpus)
     since : (cpu_of i now).local.since_check ≤ length s.steps
     since = pop_since trace facts i less s sound room live (todo.Step item) ts first ((cpu_of i s).made + 1)
 
-  pub step_done : (item : Step) (ts : List Todo) → (cpu_of i s).todo ≡ todo.Step item ∷ ts → length s.steps < MOST_STEPS → Done trace i (make_step trace i item (behind ts ((cpu_of i s).made + 1)))
+  pub step_done : (item : Step) (ts : List Todo) → (cpu_of i s).todo ≡ todo.Step item ∷ ts → length s.steps < s.most → Done trace i (make_step trace i item (behind ts ((cpu_of i s).made + 1)))
   unfolding make_step
   step_done step.Dirty ts first few = let x : State = behind ts ((cpu_of i s).made + 1) in
       dirty_item trace facts i less x (cpu_of i x).turn.whose refl (on step.Dirty ts first few) (ready_to_write step.Dirty ts first few) (free step.Dirty ts first few refl) (since step.Dirty ts first few) (agrees step.Dirty ts first few)

@@ -4,7 +4,6 @@ use Rattle.std.specs.List.{count_by}
 use Rattle.std.proofs.Math.ListN.{set}
 use Rattle.std.proofs.lemmas.Bool.Decides.{nat_tests}
 use Rattle.std.proofs.lemmas.List.{length-set}
-use Rattle.wbt_num.specs.declared.most.TheConstants.{MOST_STEPS}
 use Rattle.std.specs.Prelude.{unsigned_abs}
 use Rattle.wbt_counter.specs.declared.counter.Counter.{Counter}
 use Rattle.wbt_counter.specs.declared.counter.Counter.TheVariants.{Domain, Context}
@@ -58,6 +57,7 @@ module _ (trace : Trace) (facts : Facts trace) (s : State) (sound : Sound trace 
           holds = record {
             pages = h.pages;
             few = h.few;
+            long = h.long;
             domains = h.domains;
             contexts = h.contexts;
             written = h.written;
@@ -119,8 +119,8 @@ module _ (trace : Trace) (facts : Facts trace) (s : State) (sound : Sound trace 
 
   -- ---- a CPU goes on
 
-  has_room : (n : ℕ) → leb MOST_STEPS n ≡ false → n < MOST_STEPS
-  has_room n e = grind (arith, nat_tests)
+  has_room : (most n : ℕ) → leb most n ≡ false → n < most
+  has_room most n e = grind (arith, nat_tests)
 
   step_kept : (i : ℕ) → i < trace.cpus → (cpu_of i s).stopped ≡ false → (item : Step) (ts : List Todo) → (cpu_of i s).todo ≡ todo.Step item ∷ ts → Keeps trace (step_or_stop trace i item ts s)
   step_kept i less live item ts first =
@@ -129,7 +129,7 @@ module _ (trace : Trace) (facts : Facts trace) (s : State) (sound : Sound trace 
       (λ halted. stop_kept i less live)
       (λ goes. either (Keeps trace) (is_full s) (spend s) (make_step trace i item x)
       (λ full. spend_kept trace s sound room)
-      (λ more. is_done trace facts i less (make_step trace i item x) (step_done trace facts i less s sound room live item ts first (has_room (length s.steps) more))))
+      (λ more. is_done trace facts i less (make_step trace i item x) (step_done trace facts i less s sound room live item ts first (has_room s.most (length s.steps) more))))
 
   cpu_on_kept : (i : ℕ) → i < trace.cpus → (cpu_of i s).stopped ≡ false → (todos : List Todo) → (cpu_of i s).todo ≡ todos → Keeps trace (cpu_on trace i todos s)
   cpu_on_kept i less live [] e = (sound, room)
@@ -142,7 +142,7 @@ module _ (trace : Trace) (facts : Facts trace) (s : State) (sound : Sound trace 
   timer_step_on : (ts : List TimerTodo) (item : TimerStep) → s.timer.todo ≡ timer_todo.Step item ∷ ts → Keeps trace (timer_step_or_end trace item ts s)
   timer_step_on ts item e = either (Keeps trace) (is_full s) (spend s) (make_timer_step trace item (record s { timer = record s.timer { todo = ts } }))
       (λ full. spend_kept trace s sound room)
-      (λ more. timer_step_kept trace facts s sound room item ts e (has_room (length s.steps) more))
+      (λ more. timer_step_kept trace facts s sound room item ts e (has_room s.most (length s.steps) more))
 
   timer_on_kept : (todos : List TimerTodo) → s.timer.todo ≡ todos → Keeps trace (timer_on trace todos s)
   timer_on_kept [] e = (sound, room)

@@ -5,7 +5,6 @@ use Rattle.std.proofs.lemmas.List.Elements.{All-head, All-tail}
 use mathlib.Core.Logic.{dite}
 use native.Mathlib.Decide.{ℕ_discrete}
 use Rattle.std.specs.Prelude.{unsigned_abs}
-use Rattle.wbt_num.specs.declared.most.TheConstants.{MOST_STEPS}
 use Rattle.wbt_counter.specs.declared.counter.Counter.{Counter}
 use Rattle.wbt_counter.specs.declared.counter.Counter.TheVariants.{Domain, Context}
 use Rattle.wbt_trace.specs.declared.trace.Trace.{Trace}
@@ -119,7 +118,7 @@ module _ (trace : Trace) (facts : Facts trace) (i : ℕ) (less : i < trace.cpus)
         refl (omega arith) (omega (arith, was, credit)) (omega arith)
 
     -- a step may be made
-    pub pop_ready_to_write : length s.steps < MOST_STEPS → ReadyToWrite trace i (record s { cpus = set s.cpus i (record (cpu_of i s) { todo = ts; made = (cpu_of i s).made + 1 }) })
+    pub pop_ready_to_write : length s.steps < s.most → ReadyToWrite trace i (record s { cpus = set s.cpus i (record (cpu_of i s) { todo = ts; made = (cpu_of i s).made + 1 }) })
     pop_ready_to_write few x =
         let one : length (s.steps ++ x ∷ []) ≡ length s.steps + 1 = length-append s.steps (x ∷ []) in
         let g = step_going trace i 0 0 (s.steps ++ x ∷ []) s (start_going s sound room live) one (omega (arith, one, few)) in
@@ -127,7 +126,7 @@ module _ (trace : Trace) (facts : Facts trace) (i : ℕ) (less : i < trace.cpus)
         let small = credit_few ts in
         pop_going ((cpu_of i s).made + 1) 1 step_ticks write_ticks (with_step x s) g refl refl refl (omega (arith, one, made)) (omega (arith, small))
 
-    pub pop_ready : length s.steps < MOST_STEPS → Ready trace i (record s { cpus = set s.cpus i (record (cpu_of i s) { todo = ts; made = (cpu_of i s).made + 1 }) })
+    pub pop_ready : length s.steps < s.most → Ready trace i (record s { cpus = set s.cpus i (record (cpu_of i s) { todo = ts; made = (cpu_of i s).made + 1 }) })
     pop_ready few x = spare_going trace i 1 1 write_ticks silent_ticks _ (omega arith) (omega arith) (pop_ready_to_write few x)
 
     -- a silent move is under way

@@ -37,7 +37,7 @@ use Rattle.wbt_replay_moves.specs.declared.todo.Todo.TheVariants as todo
 use Rattle.wbt_replay_order.specs.Definition.Order.{is_finished}
 use Rattle.wbt_replay_order.specs.Kept.Facts.{Facts, IsFlusherOn, IsPageOf}
 use Rattle.wbt_replay_order.specs.Kept.Horizon.{silent_ticks}
-use Rattle.wbt_replay_order.specs.Kept.Sound.{IsAt, IsScanAt, IsQuotaOf, ArePlaces}
+use Rattle.wbt_replay_order.specs.Kept.Sound.{IsAt, IsScanAt, IsQuotaOf, ArePlaces, flown_of}
 use Rattle.wbt_replay_order.specs.Kept.Turns.{Agrees, FlusherAgrees, IsScanning, IsOpen, IsOpenAt}
 use Rattle.wbt_rules.proofs.Places.{place_below}
 use Rattle.wbt_replay_order.proofs.Facts.Lists.{either}
@@ -91,6 +91,10 @@ module _ (trace : Trace) (facts : Facts trace) (i : ℕ) (less : i < trace.cpus)
     still_works : (x : Flusher) → is_finished x.phase ≡ false → s.working + one_if (works (flusher_of f s)) ≡ s.working + one_if (works x)
     still_works x now = ap (λ (p : ReplayPhase). s.working + one_if (not (is_finished p))) is ∙ sym (ap (λ (b : Bool). s.working + one_if (not b)) now)
 
+    -- each page of its batch was claimed by a step
+    flown_is : flown_of (flusher_of f s) ≡ length (flusher_of f s).batch
+    flown_is = ap (λ (p : ReplayPhase). flown_of (record (flusher_of f s) { phase = p })) is
+
     -- ---- a look
 
     passed_done : (b : Bool) → Ready trace i s → Free trace i 2 s → scan.passed < scan.pages
@@ -102,7 +106,7 @@ module _ (trace : Trace) (facts : Facts trace) (i : ℕ) (less : i < trace.cpus)
         let y : Flusher = record (flusher_of f s) { phase = phase.Scanning (record scan { passed = scan.passed + 1; noted = b }) } in
         let m = turn_flusher trace facts i less f y s.working 1 0 silent_ticks silent_ticks 0 x on turn g (free_step 2 (plain_entry i kind.Look) free)
         (record { phase = record { there = at.there; first_is = at.first_is; pages_is = at.pages_is; start = at.start; behind = omega (arith, at.behind); within = omega (arith, more); some = at.some; few = at.few; ours = at.ours }; quota = subst (IsQuotaOf trace f) is (g.holds.flushers.each f).quota; hard = (g.holds.flushers.each f).hard; measures = (g.holds.flushers.each f).measures; weighs = (g.holds.flushers.each f).weighs; wheel = (g.holds.flushers.each f).wheel; places = (g.holds.flushers.each f).places })
-        (omega arith) (omega arith) (omega arith) (omega arith) (still_works y refl) in
+        (omega (arith, flown_is)) (omega arith) (omega arith) (omega arith) (still_works y refl) in
         put_close 0 silent_ticks (record x { flushers = set x.flushers f y; working = s.working }) m.going m.free (omega arith) turn (subst (λ (z : Flusher). IsScanning z.phase) (sym m.is) tt)
 
     look_done : Ready trace i s → Free trace i 2 s → IsOpenAt trace (flusher_of f s).batch (phase.Scanning scan) → Done trace i (look_in i f (phase.Scanning scan) s)
@@ -151,7 +155,7 @@ module _ (trace : Trace) (facts : Facts trace) (i : ℕ) (less : i < trace.cpus)
           wheel = (g.holds.flushers.each f).wheel;
           places = (g.holds.flushers.each f).places;
         })
-        (omega arith) (omega arith) (omega arith) (omega arith) (still_works y refl) in
+        (omega (arith, flown_is, longer)) (omega arith) (omega arith) (omega arith) (still_works y refl) in
         let z : State = record x { flushers = set x.flushers f y; working = s.working } in
         let es : List Entry = (cpu_of i s).entries ++ entry.Claimed f (page_of scan) ∷ [] in
         let logged = logged_going trace facts i less es (cpu_of i s).checks (cpu_of i s).estimates 0 silent_ticks z m.going in
@@ -242,7 +246,7 @@ module _ (trace : Trace) (facts : Facts trace) (i : ℕ) (less : i < trace.cpus)
         let y : Flusher = record (flusher_of f s) { phase = phase.Flying scan.inode pages until } in
         let m = turn_flusher trace facts i less f y s.working 0 0 silent_ticks 0 silent_ticks s on turn g free
         (record { phase = record { there = at.there; rest = omega arith; few = few; ours = at.ours }; quota = tt; hard = (g.holds.flushers.each f).hard; measures = (g.holds.flushers.each f).measures; weighs = (g.holds.flushers.each f).weighs; wheel = (g.holds.flushers.each f).wheel; places = (g.holds.flushers.each f).places })
-        (omega arith) (omega arith) (omega (arith, time, few, most)) (omega arith) (still_works y refl) in
+        (omega (arith, flown_is)) (omega arith) (omega (arith, time, few, most)) (omega arith) (still_works y refl) in
         let z : State = record s { flushers = set s.flushers f y; working = s.working } in
         let es : List Entry = (cpu_of i s).entries ++ entry.Batch f pages s.now until ∷ [] in
         let logged = logged_going trace facts i less es (cpu_of i s).checks (cpu_of i s).estimates 0 0 z m.going in

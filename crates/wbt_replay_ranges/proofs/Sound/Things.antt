@@ -33,7 +33,7 @@ publishes_more P Q f (timer_todo.Silent item ∷ more) h = tt
 module _ (trace : Trace) (i e t : ℕ) where
   -- ---- a domain, whose period, peak and events don't fall behind
 
-  pub domain_going : (d : ℕ) (x : Domain) (s : State) → Going trace i e t s → d < length s.domains → IsDomain (length s.steps) x
+  pub domain_going : (d : ℕ) (x : Domain) (s : State) → Going trace i e t s → d < length s.domains → IsDomain s.most (length s.steps) x
       → (domain_of d s).events.period ≤ x.events.period → (domain_of d s).peak ≤ x.peak → x.events.events ≤ sum_by written_of s.contexts + 1
       → Going trace i e t (record s { domains = set s.domains d x })
   domain_going d x s g there is period peak events =
@@ -47,9 +47,10 @@ module _ (trace : Trace) (i e t : ℕ) where
         holds = record {
           pages = h.pages;
           few = h.few;
+          long = h.long;
           domains = record {
             many = length-set s.domains d x ∙ h.domains.many;
-            each = set_all (λ j y. IsDomain (length s.steps) y) s.domains d x no_domain is h.domains.each;
+            each = set_all (λ j y. IsDomain s.most (length s.steps) y) s.domains d x no_domain is h.domains.each;
           };
           contexts = record {
             many = h.contexts.many;
@@ -94,7 +95,7 @@ module _ (trace : Trace) (i e t : ℕ) where
 
   -- ---- a context
 
-  pub context_frame : (k : ℕ) (x : Writeback) (s : State) → Going trace i e t s → k < length s.contexts → IsContext trace (length s.steps) s.now s.domains k x
+  pub context_frame : (k : ℕ) (x : Writeback) (s : State) → Going trace i e t s → k < length s.contexts → IsContext trace s.most (length s.steps) s.now s.domains k x
       → AreWritten trace (length s.steps) e s.domains (set s.contexts k x) s.flushers → Going trace i e t (record s { contexts = set s.contexts k x })
   context_frame k x s g there is written =
       let h = g.holds in
@@ -102,10 +103,11 @@ module _ (trace : Trace) (i e t : ℕ) where
         holds = record {
           pages = h.pages;
           few = h.few;
+          long = h.long;
           domains = h.domains;
           contexts = record {
             many = length-set s.contexts k x ∙ h.contexts.many;
-            each = set_each (λ j y. j < length trace.contexts → IsContext trace (length s.steps) s.now s.domains j y) s.contexts k x no_context there (λ l. is) (λ j n. h.contexts.each j);
+            each = set_each (λ j y. j < length trace.contexts → IsContext trace s.most (length s.steps) s.now s.domains j y) s.contexts k x no_context there (λ l. is) (λ j n. h.contexts.each j);
           };
           written = written;
           marks = h.marks;
@@ -126,7 +128,7 @@ module _ (trace : Trace) (i e t : ℕ) where
       }
 
   -- which has written as much
-  pub context_going : (k : ℕ) (x : Writeback) (s : State) → Going trace i e t s → k < length s.contexts → IsContext trace (length s.steps) s.now s.domains k x
+  pub context_going : (k : ℕ) (x : Writeback) (s : State) → Going trace i e t s → k < length s.contexts → IsContext trace s.most (length s.steps) s.now s.domains k x
       → x.written ≡ (writeback_of k s).written → x.part.events ≤ sum_by written_of s.contexts → x.cgroup_part.events ≤ sum_by written_of s.contexts
       → Going trace i e t (record s { contexts = set s.contexts k x })
   context_going k x s g there is same part cgroup_part =
@@ -148,6 +150,7 @@ module _ (trace : Trace) (i e t : ℕ) where
     holds = record {
       pages = h.pages;
       few = h.few;
+      long = h.long;
       domains = h.domains;
       contexts = h.contexts;
       written = h.written;
@@ -179,6 +182,7 @@ module _ (trace : Trace) (i e t : ℕ) where
     holds = record {
       pages = h.pages;
       few = h.few;
+      long = h.long;
       domains = h.domains;
       contexts = h.contexts;
       written = h.written;
@@ -213,8 +217,9 @@ module _ (trace : Trace) (i e t : ℕ) where
     holds = record {
       pages = h.pages;
       few = h.few;
+      long = h.long;
       domains = h.domains;
-      contexts = contexts_more trace (length s.steps) (length s.steps) s.now moment s.domains s.contexts (omega arith) on h.contexts;
+      contexts = contexts_more trace s.most (length s.steps) (length s.steps) s.now moment s.domains s.contexts (omega arith) on h.contexts;
       written = h.written;
       marks = h.marks;
       queues = h.queues;

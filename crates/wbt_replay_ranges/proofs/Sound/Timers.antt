@@ -6,7 +6,6 @@ use Rattle.std.proofs.lemmas.List.Elements.{All-head, All-tail}
 use Rattle.wbt_num.specs.Limits.{IsLawful}
 use Rattle.wbt_num.specs.declared.limits.Limits.{Limits}
 use Rattle.wbt_num.specs.declared.limits.TheConstants.{MAX_LIMIT}
-use Rattle.wbt_num.specs.declared.most.TheConstants.{MOST_STEPS}
 use Rattle.wbt_counter.specs.History.{at_least_zero}
 use Rattle.wbt_grant.specs.declared.who.StepKind.TheVariants as kind
 use Rattle.wbt_journal.specs.declared.step.StepEntry.{StepEntry}
@@ -97,10 +96,10 @@ module _ (trace : Trace) (facts : Facts trace) (s : State) (sound : Sound trace 
     pub credit : timer_credit s.timer.todo ≡ timer_credit (t ∷ ts)
     credit = ap timer_credit first
 
-    stepped_going : (x : StepEntry) → length s.steps < MOST_STEPS → Going trace trace.cpus 1 step_ticks (with_step x s)
+    stepped_going : (x : StepEntry) → length s.steps < s.most → Going trace trace.cpus 1 step_ticks (with_step x s)
     stepped_going x few = let one : length (s.steps ++ x ∷ []) ≡ length s.steps + 1 = length-append s.steps (x ∷ []) in step_going trace trace.cpus 0 0 (s.steps ++ x ∷ []) s g0 one (omega (arith, one, few))
 
-  load_kept : (d : ℕ) (ts : List TimerTodo) → s.timer.todo ≡ todo.Step (step.Count d) ∷ ts → length s.steps < MOST_STEPS → Sound trace (load trace d (with_timer (record s.timer { todo = ts }) s)) × HasRoom trace (load trace d (with_timer (record s.timer { todo = ts }) s))
+  load_kept : (d : ℕ) (ts : List TimerTodo) → s.timer.todo ≡ todo.Step (step.Count d) ∷ ts → length s.steps < s.most → Sound trace (load trace d (with_timer (record s.timer { todo = ts }) s)) × HasRoom trace (load trace d (with_timer (record s.timer { todo = ts }) s))
   load_kept d ts first few =
       let x : StepEntry = plain_entry (length s.cpus) kind.Count in
       let g = stepped_going (todo.Step (step.Count d)) ts first x few in
@@ -138,7 +137,7 @@ module _ (trace : Trace) (facts : Facts trace) (s : State) (sound : Sound trace 
             period = h.period;
           }) (omega arith) (omega (arith, small))
 
-  peak_kept : (d : ℕ) (ts : List TimerTodo) → s.timer.todo ≡ todo.Step (step.Peak d) ∷ ts → length s.steps < MOST_STEPS → Sound trace (peak d (with_timer (record s.timer { todo = ts }) s)) × HasRoom trace (peak d (with_timer (record s.timer { todo = ts }) s))
+  peak_kept : (d : ℕ) (ts : List TimerTodo) → s.timer.todo ≡ todo.Step (step.Peak d) ∷ ts → length s.steps < s.most → Sound trace (peak d (with_timer (record s.timer { todo = ts }) s)) × HasRoom trace (peak d (with_timer (record s.timer { todo = ts }) s))
   peak_kept d ts first few =
       let x : StepEntry = record { who = length s.cpus; kind = kind.Peak; context = 0; change = pos 0; domain = d; peak = s.timer.limits.hard } in
       let g = stepped_going (todo.Step (step.Peak d)) ts first x few in
@@ -179,7 +178,7 @@ module _ (trace : Trace) (facts : Facts trace) (s : State) (sound : Sound trace 
   next_under d ds ts mine next = none_next (λ n. n ≡ d) (λ n. s.timer.limits.hard ≤ (get_or ds n no_domain).peak) ts
       (λ n e. subst (λ (m : ℕ). s.timer.limits.hard ≤ (get_or ds m no_domain).peak) (sym e) mine) next
 
-  unseal_kept : (d : ℕ) (ts : List TimerTodo) → s.timer.todo ≡ todo.Step (step.Unseal d) ∷ ts → length s.steps < MOST_STEPS → Sound trace (unseal d (with_timer (record s.timer { todo = ts }) s)) × HasRoom trace (unseal d (with_timer (record s.timer { todo = ts }) s))
+  unseal_kept : (d : ℕ) (ts : List TimerTodo) → s.timer.todo ≡ todo.Step (step.Unseal d) ∷ ts → length s.steps < s.most → Sound trace (unseal d (with_timer (record s.timer { todo = ts }) s)) × HasRoom trace (unseal d (with_timer (record s.timer { todo = ts }) s))
   unseal_kept d ts first few =
       let x : StepEntry = plain_entry (length s.cpus) kind.Unseal in
       let g = stepped_going (todo.Step (step.Unseal d)) ts first x few in
@@ -199,7 +198,7 @@ module _ (trace : Trace) (facts : Facts trace) (s : State) (sound : Sound trace 
       (record { todo = item.1; in_order = o.1; under_peak = next_under d (set s.domains d y) ts mine o.0; began = h.began; limits = h.limits; period = h.period }) (omega arith) (omega (arith, small)) in
       nobody_sound trace 1 0 (record z { timer = tm }) g2
 
-  thresh_kept : (d : ℕ) (ts : List TimerTodo) → s.timer.todo ≡ todo.Step (step.Thresh d) ∷ ts → length s.steps < MOST_STEPS → Sound trace (thresh (with_timer (record s.timer { todo = ts }) s)) × HasRoom trace (thresh (with_timer (record s.timer { todo = ts }) s))
+  thresh_kept : (d : ℕ) (ts : List TimerTodo) → s.timer.todo ≡ todo.Step (step.Thresh d) ∷ ts → length s.steps < s.most → Sound trace (thresh (with_timer (record s.timer { todo = ts }) s)) × HasRoom trace (thresh (with_timer (record s.timer { todo = ts }) s))
   thresh_kept d ts first few =
       let x : StepEntry = plain_entry (length s.cpus) kind.Thresh in
       let g = stepped_going (todo.Step (step.Thresh d)) ts first x few in
@@ -212,7 +211,7 @@ module _ (trace : Trace) (facts : Facts trace) (s : State) (sound : Sound trace 
       (record { todo = item.1; in_order = o.1; under_peak = next_under d s.domains ts (peaks (todo.Step (step.Thresh d)) ts first) o.0; began = h.began; limits = h.limits; period = h.period }) (omega arith) (omega (arith, small)) in
       nobody_sound trace 1 0 (record (with_step x s) { timer = tm }) g2
 
-  publish_kept : (d : ℕ) (ts : List TimerTodo) → s.timer.todo ≡ todo.Step (step.Publish d) ∷ ts → length s.steps < MOST_STEPS → Sound trace (publish d (with_timer (record s.timer { todo = ts }) s)) × HasRoom trace (publish d (with_timer (record s.timer { todo = ts }) s))
+  publish_kept : (d : ℕ) (ts : List TimerTodo) → s.timer.todo ≡ todo.Step (step.Publish d) ∷ ts → length s.steps < s.most → Sound trace (publish d (with_timer (record s.timer { todo = ts }) s)) × HasRoom trace (publish d (with_timer (record s.timer { todo = ts }) s))
   publish_kept d ts first few =
       let x : StepEntry = plain_entry (length s.cpus) kind.Publish in
       let g = stepped_going (todo.Step (step.Publish d)) ts first x few in
@@ -231,7 +230,7 @@ module _ (trace : Trace) (facts : Facts trace) (s : State) (sound : Sound trace 
       (record { todo = item.1; in_order = o.1; under_peak = next_any (set s.domains d y) s.timer.limits ts o.0; began = h.began; limits = h.limits; period = h.period }) (omega arith) (omega (arith, small)) in
       nobody_sound trace 1 0 (record z { timer = tm }) g2
 
-  pub timer_step_kept : (item : TimerStep) (ts : List TimerTodo) → s.timer.todo ≡ todo.Step item ∷ ts → length s.steps < MOST_STEPS
+  pub timer_step_kept : (item : TimerStep) (ts : List TimerTodo) → s.timer.todo ≡ todo.Step item ∷ ts → length s.steps < s.most
       → Sound trace (make_timer_step trace item (with_timer (record s.timer { todo = ts }) s)) × HasRoom trace (make_timer_step trace item (with_timer (record s.timer { todo = ts }) s))
   unfolding make_timer_step
   timer_step_kept (step.Count d) ts first few = load_kept d ts first few

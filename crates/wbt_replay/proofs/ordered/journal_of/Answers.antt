@@ -13,8 +13,8 @@ use Rattle.wbt_replay.proofs.Ordering.Firsts.{opening_fits}
 use Rattle.wbt_replay_order.proofs.Outset.Sound.{opening_room, opening_sound}
 use Rattle.wbt_replay.proofs.ordered.journal_of.Goals as goal
 
-pub opening-requires : goal.opening-requires
-opening-requires c = opening_fits c.args.trace.now c.requires
+pub machine_of-requires : goal.machine_of-requires
+machine_of-requires c = opening_fits c.args.trace.now c.requires
 
 pub round_of-requires-clause-few : goal.round_of-requires-clause-few
 round_of-requires-clause-few c =

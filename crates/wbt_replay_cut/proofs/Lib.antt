@@ -1,0 +1,6 @@
+mod Apply
+mod Changes
+mod Lists
+mod Order
+mod Parts
+mod Whole
