@@ -1,13 +1,14 @@
 #!/usr/bin/env python3
-"""An independent program of a replay: it reads a lawful trace and prints the journal that is wanted.
+"""An independent program of a replay: it reads a lawful trace and prints the journal that is wanted, or the forecast.
 
 It is written from the laws and from the description of the turns alone, with a turn as a generator that stops before each of its
 steps. The formulas are those of tools/laws. Nothing rests on it: worked runs and tools/check-runs take their texts from it, so that
 a definition that is changed together with its code is noticed.
 
-usage: tools/replay.py [--as-wbsim] < TRACE
+usage: tools/replay.py [--as-wbsim] [forecast EVERY] < TRACE
 """
 import os
+import re
 import sys
 from bisect import insort
 
@@ -33,6 +34,9 @@ from program.statuses import Status, sentence  # noqa: E402
 
 MOST_STEPS = 1 << 22
 LAST_MOMENT = 1 << 63
+MOST_EVERY = 10**9
+"""Ticks of the longest interval of a forecast."""
+
 TIMER_REST, PERIOD, FLUSHER_REST = 200, 3000, 100
 
 
@@ -100,7 +104,7 @@ class Machine:
 
     def __init__(self, text):
         """Of the text of a trace. Raises `Fault` where it is none."""
-        trace = trace_of(WholeText("standard input", text.encode("latin-1")))
+        self.trace = trace = trace_of(WholeText("standard input", text.encode("latin-1")))
         self.settings, self.cap, self.halt, self.avail = trace.settings, trace.cap, trace.halt, trace.avail
         self.cpus = [Thing() for _ in range(trace.cpus)]
         self.devices = [Thing(rate=it.rate, least=it.least, most=it.greatest, is_strict=it.is_strict, chunk=it.chunk,
@@ -523,12 +527,16 @@ class Machine:
         if actor is not self.timer and self.halt is not None and actor.made >= self.halt:
             actor.stopped = True
             self.stopped += 1
-        elif len(self.steps) == MOST_STEPS:
+        elif self.is_full():
             self.spent = True
         else:
             if actor is not self.timer:
                 actor.made += 1
             self.ahead(actor)
+
+    def is_full(self):
+        """Whether no further step may be made."""
+        return len(self.steps) == MOST_STEPS
 
     def start(self, actor):
         """Begins a turn up to its first step, where the actor can begin one."""
@@ -563,7 +571,7 @@ class Machine:
         actors = [*self.cpus, self.timer]
         for number, wanted in self.orders:
             if number is None:
-                self.clock += wanted
+                self.come(self.clock + wanted)
             else:
                 self.stretch(actors[number], wanted)
         while not self.is_over():
@@ -574,7 +582,11 @@ class Machine:
                 moments = [it.until for it in self.tasks if not it.ended]
                 moments += [it.until for it in self.flushers if it.phase in ("idle", "flying")]
                 moments += [self.timer.next] if self.running else []
-                self.clock = min(it for it in moments if it > self.clock)
+                self.come(min(it for it in moments if it > self.clock))
+
+    def come(self, moment):
+        """The clock comes to a later moment."""
+        self.clock = moment
 
     def journal(self):
         yield "timer"
@@ -595,25 +607,61 @@ class Machine:
                 writers = sum(number in task.contexts for task in self.tasks)
                 bound = strict_bound(it.greatest_limit, len(self.cpus), writers, self.cap)
                 yield f"strict {number} {it.most} {bound}"
-        yield "end " + ("spent" if self.spent else "halted" if self.stopped else "done")
+        yield self.ending()
+
+    def ending(self):
+        """The line of how the run has ended."""
+        return "end " + ("spent" if self.spent else "halted" if self.stopped else "done")
 
 
 NO_MEMORY, SPENT, INPUT_TOO_LONG = 6, 7, 8
 """Statuses of wbsim that no tool here has."""
 
 
-def main():
-    """Prints the journal of standard input, and answers the status."""
-    parser = Parser(prog="replay.py", usage="tools/replay.py [--as-wbsim] < TRACE", description=__doc__.partition("\n")[0],
+def words():
+    """What was given: whether the program ends as wbsim does, and how many ticks an interval of a forecast has, or None where the journal is
+    wanted."""
+    parser = Parser(prog="replay.py", usage="tools/replay.py [--as-wbsim] [forecast EVERY] < TRACE", description=__doc__.partition("\n")[0],
                     epilog=sentence())
-    parser.add_argument("--as-wbsim", action="store_true", help="ends with the statuses and the sentences of 'wbsim replay'")
-    as_wbsim = parser.parse_args().as_wbsim
+    parser.add_argument("--as-wbsim", action="store_true", help="ends with the statuses and the sentences of 'wbsim'")
+    parser.add_argument("words", nargs="*", metavar="forecast EVERY", help="the run by intervals of EVERY ticks, 1 to 10^9, while it goes on")
+    given = parser.parse_args()
+    if not given.words:
+        return given.as_wbsim, None
+    if len(given.words) != 2 or given.words[0] != "forecast" or not is_number(given.words[1], 1, MOST_EVERY):
+        parser.error(f"other words: {' '.join(given.words)}")
+    return given.as_wbsim, int(given.words[1])
+
+
+def is_number(text, least, most):
+    """Whether a text is a number in a range, spelled as in a trace."""
+    return re.fullmatch("0|[1-9][0-9]{0,17}", text) is not None and least <= int(text) <= most
+
+
+def machine_of(text, every):
+    """The machine of a trace, whose journal is wanted or whose forecast."""
+    if every is None:
+        return Machine(text)
+    # The machine of a forecast is a machine of this file.
+    from forecasting.machine import Forecast
+
+    return Forecast(text, every, write)
+
+
+def write(lines):
+    """Prints lines, which are there at once."""
+    sys.stdout.writelines(line + "\n" for line in lines)
+    sys.stdout.flush()
+
+
+def main():
+    """Prints the journal or the forecast of standard input, and answers the status."""
+    as_wbsim, every = words()
     machine = None
     try:
-        machine = Machine(read_whole("-").data.decode("latin-1"))
+        machine = machine_of(read_whole("-").data.decode("latin-1"), every)
         machine.run()
-        sys.stdout.writelines(line + "\n" for line in machine.journal())
-        sys.stdout.flush()
+        write(machine.journal())
     except Error as error:
         return ended_as_wbsim(error) if as_wbsim else say(f"replay.py: {error}", error.status)
     except OSError as error:

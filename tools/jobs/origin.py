@@ -19,7 +19,7 @@ NOTE = "program"
 BUILT, PYTHON = "built", "python"
 """What is chosen: the program that ./wbsim would run, tools/replay.py, or else a path."""
 
-PYTHON_SOURCES = ("replay.py", "laws", "journals", "program")
+PYTHON_SOURCES = ("replay.py", "laws", "journals", "program", "forecasting")
 """What tools/replay.py stands on."""
 
 

@@ -104,7 +104,7 @@ def run(*words: str, given: str = "") -> tuple[int, str, str]:
 class Program(unittest.TestCase):
     def test_its_help(self) -> None:
         status, said, _ = run("--help")
-        self.assertEqual((status, said.splitlines()[0]), (0, "usage: tools/replay.py [--as-wbsim] < TRACE"))
+        self.assertEqual((status, said.splitlines()[0]), (0, "usage: tools/replay.py [--as-wbsim] [forecast EVERY] < TRACE"))
 
     def test_how_it_ends(self) -> None:
         self.assertEqual(run(), (2, "", "replay.py: standard input: missing cpus: no line says how many CPUs there are\n"))

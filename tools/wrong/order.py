@@ -171,7 +171,7 @@ STEP = """\
 MADE = """\
 actor.made >= self.halt:
 """ + STOPPED + """\
-        elif len(self.steps) == MOST_STEPS:
+        elif self.is_full():
             self.spent = True
         else:
             if actor is not self.timer:
@@ -287,7 +287,7 @@ OF_NEXT_TURNS = (
 )
 
 OF_MOMENTS = (
-    Rule("a tick line moves the clock to that moment", REPLAY, "self.clock += wanted", "self.clock = max(self.clock, wanted)"),
+    Rule("a tick line moves the clock to that moment", REPLAY, "self.come(self.clock + wanted)", "self.come(max(self.clock, wanted))"),
     Rule("the clock moves to the timer's moment only where nothing else waits", REPLAY,
          "moments += [self.timer.next] if self.running else []",
          "moments += [self.timer.next] if self.running and max(moments) <= self.clock else []"),
@@ -295,7 +295,7 @@ OF_MOMENTS = (
          '[it.until for it in self.flushers if it.phase in ("idle", "flying")]',
          '[it.until for it in self.flushers if it.phase in ("idle", "flying") and not any(at > self.clock for at in moments)]'),
     Rule("the clock moves to the greatest of the moments that it waits for", REPLAY,
-         "self.clock = min(it for it in moments", "self.clock = max(it for it in moments"),
+         "self.come(min(it for it in moments", "self.come(max(it for it in moments"),
     Rule("a task goes on after its moment, not at it", REPLAY, "job[place].until <= self.clock", "job[place].until < self.clock"),
     Rule("a flusher's rest is over after its moment, not at it", REPLAY,
          "return it.until <= self.clock or not self.running", "return it.until < self.clock or not self.running"),

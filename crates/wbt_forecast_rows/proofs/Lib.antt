@@ -1,0 +1,8 @@
+mod Numbered
+mod Counting
+mod Smalls
+mod Gaining
+mod Adding
+mod Going
+mod Looping
+mod Paging

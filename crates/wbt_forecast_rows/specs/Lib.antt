@@ -1,0 +1,9 @@
+pub mod Between
+pub mod Counts
+pub mod Rows
+pub mod Forecast
+pub mod Text
+pub mod Tally
+pub mod Small
+pub mod Laws
+pub mod Worked

@@ -1,0 +1,3 @@
+-- The counts of a forecast are within their bounds.
+pub mod Peaks
+pub mod Rows
