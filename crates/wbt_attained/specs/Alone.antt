@@ -14,6 +14,7 @@ hard_limit cpus batches = batches * domain_batch cpus
 abbrev pub all_pages : (cpus batches cap : ℕ) → ℕ
 all_pages cpus batches cap = (hard_limit cpus batches + cpus * domain_batch cpus) + cpus * cap
 
+-- its first limits, which are all the same
 abbrev pub limits_of : (cpus batches : ℕ) → Limits
 limits_of cpus batches = record { thresh = hard_limit cpus batches; bg = hard_limit cpus batches; hard = hard_limit cpus batches }
 

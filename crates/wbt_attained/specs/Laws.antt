@@ -15,6 +15,7 @@ IsAtBound set s = domain_count set s.book 0 ≡ closer_bound set (greatest_hard 
 abbrev pub IsAttained : (set : Setting) → Type 0
 IsAttained set = (steps : List Step) × AreAllowed set steps (opening set) × IsAtBound set (run set steps (opening set))
 
+-- on every such machine the closer bound is attained: no smaller one holds there
 abbrev pub Attained : Type 0
 Attained = (cpus batches cap : ℕ) → IsAlone cpus batches cap → IsAttained (alone cpus batches cap)
 

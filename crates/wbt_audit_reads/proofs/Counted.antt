@@ -5,7 +5,7 @@ use Rattle.wbt_counter.specs.Counters.{is_same}
 use Rattle.wbt_counter.specs.declared.counter.Counter.{Counter}
 use Rattle.wbt_counter.specs.declared.record.Fold.{Fold}
 use Rattle.wbt_trace.specs.declared.trace.Trace.{Trace}
-use Rattle.wbt_journal.specs.Counts.{Load, Version, cgroup_reads, count_fault, is_fresh, is_sum, load_of_read, loads_of, of_counter, read_loads, sum_to, version_of_fold, versions_after, versions_in, versions_of}
+use Rattle.wbt_journal.specs.Counts.{Load, Version, cgroup_reads, count_fault, is_fresh_count, is_sum, load_of_read, loads_of, of_counter, read_loads, sum_to, version_of_fold, versions_after, versions_in, versions_of}
 use Rattle.wbt_journal.specs.Effects.{effect, of_part}
 use Rattle.wbt_journal.specs.Items.{begins, tells}
 use Rattle.wbt_journal.specs.Machine.{domains, contexts, has_counter}
@@ -75,21 +75,21 @@ no_left a b is = rw is
 
 module _ (trace : Trace) (all : List Fold) (kept : Counts) (seen : List Version) (keeps : KeepsCounts trace all kept seen) where
   test_by : (load : Load) (place : Option ℕ) → counter_place kept.places.domains kept.places.contexts load.counter ≡ place
-      → (is_sum trace all load && is_fresh seen load) ≡ test_at kept place load.count
+      → (is_sum trace all load && is_fresh_count seen load) ≡ test_at kept place load.count
   test_by load None here =
-      no_left (is_sum trace all load) (is_fresh seen load)
+      no_left (is_sum trace all load) (is_fresh_count seen load)
       (no_left (has_counter trace load.counter) _ (lacks_place trace load.counter (of_places trace kept.places load.counter None keeps.places here)))
   test_by load (Some p) here =
       let there : place_in trace load.counter ≡ Some p = of_places trace kept.places load.counter (Some p) keeps.places here in
       let sum_is : Bool =
       nat_le load.count.version (length (of_counter load.counter all)) && int_eq load.count.value (sum_to load.count.version (of_counter load.counter all)) in
-      ap (λ b. (b && sum_is) && is_fresh seen load) (has_place trace load.counter p there)
+      ap (λ b. (b && sum_is) && is_fresh_count seen load) (has_place trace load.counter p there)
       ∙ ap (λ b. sum_is && b) (keeps.newest.each load.counter p there load.count.version)
       ∙ ap (λ b. b && nat_le (get_or kept.newest p 0) load.count.version)
       (sym (is_sum_of-if (nat_le load.count.version (length (of_counter load.counter all))) (sum_to load.count.version (of_counter load.counter all)) load.count.value)
       ∙ ap (λ s. is_sum_of s load.count.value) (sym (keeps.sums load.counter p there load.count.version)))
 
-  test_is : (load : Load) → (is_sum trace all load && is_fresh seen load) ≡ load_test kept load
+  test_is : (load : Load) → (is_sum trace all load && is_fresh_count seen load) ≡ load_test kept load
   test_is load = test_by load (counter_place kept.places.domains kept.places.contexts load.counter) refl
 
 failed_alike : {A : Type 0} (f g : A → Bool) (line : ℕ) (xs : List A) → ((x : A) → f x ≡ g x) → first_failed f line xs ≡ first_failed g line xs
@@ -126,7 +126,7 @@ module _ (trace : Trace) (all : List Fold) (old new : Counts) (cpu : ℕ) (entry
   pub unchecked : (fold : Option Fold) → (effect entry).check ≡ None → (effect entry).fold ≡ fold → Sees old new (versions_by fold)
       → Judges (count_fault trace all) versions_after (KeepsCounts trace all old) (KeepsCounts trace all new) (tells cpu entry) None
   unchecked fold none is sees s keeps = record {
-    answer = ap (λ (c : Option CheckEntry). first_failed (λ load. is_sum trace all load && is_fresh s load) 0 (of_part [] loads_of c)) none;
+    answer = ap (λ (c : Option CheckEntry). first_failed (λ load. is_sum trace all load && is_fresh_count s load) 0 (of_part [] loads_of c)) none;
     goes_on = λ _.
         subst (λ vs. KeepsCounts trace all new (vs ++ s)) (sym (versions_by_both entry fold None is none ∙ append-nil (versions_by fold))) (sees trace all s keeps);
   }
@@ -135,8 +135,8 @@ module _ (trace : Trace) (all : List Fold) (old new : Counts) (cpu : ℕ) (entry
       → Judges (count_fault trace all) versions_after (KeepsCounts trace all old) (KeepsCounts trace all new) (tells cpu entry) found
   check_judged check found is judges s keeps = record {
     answer =
-        ap (λ (c : Option CheckEntry). first_failed (λ load. is_sum trace all load && is_fresh s load) 0 (of_part [] loads_of c)) is
-        ∙ failed_alike (λ load. is_sum trace all load && is_fresh s load) (load_test old) 0 (loads_of check) (test_is trace all old s keeps)
+        ap (λ (c : Option CheckEntry). first_failed (λ load. is_sum trace all load && is_fresh_count s load) 0 (of_part [] loads_of c)) is
+        ∙ failed_alike (λ load. is_sum trace all load && is_fresh_count s load) (load_test old) 0 (loads_of check) (test_is trace all old s keeps)
         ∙ sym judges.0;
     goes_on = λ none.
         subst (λ vs. KeepsCounts trace all new (vs ++ s)) (sym (versions_by_both entry None (Some check) (only_check entry check is) is))

@@ -18,7 +18,7 @@ use Rattle.wbt_journal.specs.Told.{Told}
 use Rattle.wbt_journal.specs.Walk.{unless}
 use Rattle.wbt_audit_reads.specs.declared.folds.Seen.{Seen}
 use Rattle.wbt_audit_walk.specs.declared.places.Places.{Places}
-use Rattle.wbt_audit_reads.specs.Folding.{AreOf, place_in, mark_of, AreMarks, KeepsSeen, IsSeen, kept_batch, is_unseen, may_mark, more_at, one_more, HaveNone}
+use Rattle.wbt_audit_reads.specs.Folding.{AreOf, place_in, mark_of, AreMarks, KeepsSeen, IsSeen, kept_batch, is_unseen, may_mark, mark_more_at, one_mark_more, HaveNone}
 use Rattle.wbt_audit_walk.specs.Places.{below, behind, counter_place}
 use Rattle.wbt_audit_walk.specs.Rows.{row_of, cell, push_cell, put_cell}
 use Rattle.wbt_audit_walk.specs.Walking.{IsJudged}
@@ -291,21 +291,21 @@ module _ (places : Places) where
 
   by_place : (folds : List Fold) (marks : List (List Bool)) (i : ℕ) (d fold : Fold) (place : Option ℕ) → i < length folds → fold ≡ get_or folds i d
       → length marks ≡ places.domains + places.contexts → HaveNone places (take i folds) marks → counter_place places.domains places.contexts fold.counter ≡ place
-      → HaveNone places (take (i + 1) folds) (more_at place marks)
+      → HaveNone places (take (i + 1) folds) (mark_more_at place marks)
   by_place folds marks i d fold None lt is room have here x p there =
       have x p there
       ∙ ap (λ n. replicate n false) (sym (more_of folds i d fold x false lt is ((counters_apart places.domains places.contexts).other x fold.counter p there here) ∙ add-zero (length (of_counter x (take i folds)))))
   by_place folds marks i d fold (Some q) lt is room have here x p there = at_place folds marks i d fold x p q lt is room have there here (cases_eq p q)
 
   one_made : (folds : List Fold) (marks : List (List Bool)) (i : ℕ) (d fold : Fold) → i < length folds → fold ≡ get_or folds i d
-      → length marks ≡ places.domains + places.contexts → HaveNone places (take i folds) marks → HaveNone places (take (i + 1) folds) (one_more places fold marks)
+      → length marks ≡ places.domains + places.contexts → HaveNone places (take i folds) marks → HaveNone places (take (i + 1) folds) (one_mark_more places fold marks)
   one_made folds marks i d fold lt is room have = by_place folds marks i d fold (counter_place places.domains places.contexts fold.counter) lt is room have refl
 
-  room_kept : (place : Option ℕ) (marks : List (List Bool)) → length (more_at place marks) ≡ length marks
+  room_kept : (place : Option ℕ) (marks : List (List Bool)) → length (mark_more_at place marks) ≡ length marks
   room_kept None marks = refl
   room_kept (Some p) marks = length-set marks p (row_of marks p ++ false ∷ [])
 
-  pub made_on : (d : Fold) (folds : List Fold) (marks new : List (List Bool)) (i : ℕ) → new ≡ one_more places (get_or folds i d) marks → i < length folds
+  pub made_on : (d : Fold) (folds : List Fold) (marks new : List (List Bool)) (i : ℕ) → new ≡ one_mark_more places (get_or folds i d) marks → i < length folds
       → length marks ≡ places.domains + places.contexts → HaveNone places (take i folds) marks
       → (length new ≡ places.domains + places.contexts) × HaveNone places (take (i + 1) folds) new
   made_on d folds marks new i is lt room have =

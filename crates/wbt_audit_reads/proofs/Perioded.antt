@@ -7,7 +7,7 @@ use Rattle.std.proofs.lemmas.List.{get_or-replicate, length-set, take_more}
 use Rattle.wbt_journal.specs.Reads.{periods_from}
 use Rattle.wbt_journal.specs.declared.timer.TimerEntry.{TimerEntry}
 use Rattle.wbt_journal.specs.declared.timer.TimerEntry.TheVariants as timer
-use Rattle.wbt_audit_reads.specs.Periods.{ArePeriods, IsRising, last_in, more_at, one_more}
+use Rattle.wbt_audit_reads.specs.Periods.{ArePeriods, IsRising, last_in, period_more_at, one_period_more}
 use Rattle.wbt_audit_walk.specs.Places.{below}
 use Rattle.wbt_audit_walk.specs.Rows.{row_of}
 use Rattle.wbt_audit_walk.specs.declared.places.Places.{Places}
@@ -141,10 +141,10 @@ module _ (places : Places) where
 
   at_place : (periods : List (List ℕ)) (front : List ℕ) (of k domain p q : ℕ) → length periods ≡ places.domains
       → below places.domains domain ≡ Some p → below places.domains of ≡ Some q → row_of periods p ≡ front → (p ≡ q) ⊎ (p ≡ q → ⊥)
-      → row_of (more_at (Some q) k periods) p ≡ front ++ more_of domain (timer.Period of k) (last_in front)
+      → row_of (period_more_at (Some q) k periods) p ≡ front ++ more_of domain (timer.Period of k) (last_in front)
   unfolding more_of
   at_place periods front of k domain p q room there here is (inl e) =
-      ap (row_of (more_at (Some q) k periods)) e
+      ap (row_of (period_more_at (Some q) k periods)) e
       ∙ row-set_same periods q (row_of periods q ++ (last_in (row_of periods q) + k) ∷ []) (rw room ((numbers_apart places.domains).within of q here))
       ∙ ap (λ r. r ++ (last_in r + k) ∷ []) (ap (row_of periods) (sym e) ∙ is)
       ∙ ap (λ b. front ++ (if b then (last_in front + k) ∷ [] else []))
@@ -158,7 +158,7 @@ module _ (places : Places) where
 
   by_place : (periods : List (List ℕ)) (front : List ℕ) (of k domain p : ℕ) (place : Option ℕ) → length periods ≡ places.domains
       → below places.domains domain ≡ Some p → below places.domains of ≡ place → row_of periods p ≡ front
-      → row_of (more_at place k periods) p ≡ front ++ more_of domain (timer.Period of k) (last_in front)
+      → row_of (period_more_at place k periods) p ≡ front ++ more_of domain (timer.Period of k) (last_in front)
   unfolding more_of
   by_place periods front of k domain p None room there here is =
       is ∙ sym (append-nil front)
@@ -166,20 +166,21 @@ module _ (places : Places) where
   by_place periods front of k domain p (Some q) room there here is = at_place periods front of k domain p q room there here is (cases_eq p q)
 
   one_begun : (periods : List (List ℕ)) (front : List ℕ) (entry : TimerEntry) (domain p : ℕ) → length periods ≡ places.domains
-      → below places.domains domain ≡ Some p → row_of periods p ≡ front → row_of (one_more places entry periods) p ≡ front ++ more_of domain entry (last_in front)
+      → below places.domains domain ≡ Some p → row_of periods p ≡ front → row_of (one_period_more places entry periods) p ≡ front ++ more_of domain entry (last_in front)
   unfolding more_of
   one_begun periods front (timer.Limits of now limits) domain p room there is = is ∙ sym (append-nil front)
   one_begun periods front (timer.Period of k) domain p room there is = by_place periods front of k domain p (below places.domains of) room there refl is
 
-  room_at : (place : Option ℕ) (k : ℕ) (periods : List (List ℕ)) → length (more_at place k periods) ≡ length periods
+  room_at : (place : Option ℕ) (k : ℕ) (periods : List (List ℕ)) → length (period_more_at place k periods) ≡ length periods
   room_at None k periods = refl
   room_at (Some p) k periods = length-set periods p (row_of periods p ++ (last_in (row_of periods p) + k) ∷ [])
 
-  room_kept : (entry : TimerEntry) (periods : List (List ℕ)) → length (one_more places entry periods) ≡ length periods
+  room_kept : (entry : TimerEntry) (periods : List (List ℕ)) → length (one_period_more places entry periods) ≡ length periods
   room_kept (timer.Limits of now limits) periods = refl
   room_kept (timer.Period of k) periods = room_at (below places.domains of) k periods
 
-  pub periods_on : (d : TimerEntry) (entries : List TimerEntry) (periods new : List (List ℕ)) (i : ℕ) → new ≡ one_more places (get_or entries i d) periods
+  pub periods_on : (d : TimerEntry) (entries : List TimerEntry) (periods new : List (List ℕ)) (i : ℕ)
+      → new ≡ one_period_more places (get_or entries i d) periods
       → i < length entries → length periods ≡ places.domains → ArePeriods places (take i entries) periods
       → (length new ≡ places.domains) × ArePeriods places (take (i + 1) entries) new
   periods_on d entries periods new i is lt room are = (

@@ -12,7 +12,7 @@ use Rattle.wbt_counter.specs.declared.record.Fold.{Fold}
 use Rattle.wbt_journal.specs.Counts.{of_counter, sum_to}
 use Rattle.wbt_audit_reads.specs.Counting.{sum_at}
 use Rattle.wbt_audit_walk.specs.Rows.{row_of, cell, push_cell}
-use Rattle.wbt_audit_reads.specs.Summing.{AddsSome, AddsSomeRows, AddsUp, AreParts, AreSumsBy, AreZeros, Mixed, Parts, add_cell, add_to, all_mixed, before_at, fold_at, mixed, more_at, one_more, part_at, place_by, sum_of, with_before, with_fold}
+use Rattle.wbt_audit_reads.specs.Summing.{AddsSome, AddsSomeRows, AddsUp, AreParts, AreSumsBy, AreZeros, Mixed, Parts, add_cell, add_to, all_mixed, before_at, fold_at, mixed, zero_more_at, one_zero_more, part_at, place_by, sum_of, with_before, with_fold}
 use Rattle.wbt_audit_walk.specs.declared.places.Places.{Places}
 use Rattle.wbt_audit_walk.proofs.Placing.{counters_apart}
 use Rattle.wbt_audit_walk.proofs.Rowing.{cell-put_same, cell-put_place, row-set_same, row-set_other}
@@ -211,18 +211,18 @@ module _ (places : Places) where
 
   zero_at : (sums : List (List ℤ)) (front : List Fold) (fold : Fold) (x : Counter) (p : ℕ) (place : Option ℕ) → length sums ≡ places.domains + places.contexts
       → place_by places x ≡ Some p → place_by places fold.counter ≡ place → row_of sums p ≡ replicate (1 + length (of_counter x front)) (pos 0)
-      → row_of (more_at place sums) p ≡ replicate (1 + length (of_counter x front ++ (if is_same x fold.counter then fold ∷ [] else []))) (pos 0)
+      → row_of (zero_more_at place sums) p ≡ replicate (1 + length (of_counter x front ++ (if is_same x fold.counter then fold ∷ [] else []))) (pos 0)
   zero_at sums front fold x p None room there here row =
       row
       ∙ ap (λ fs. replicate (1 + length fs) (pos 0)) (sym (append-nil (of_counter x front)))
       ∙ ap (λ b. replicate (1 + length (of_counter x front ++ (if b then fold ∷ [] else []))) (pos 0)) (sym ((counters_apart places.domains places.contexts).other x fold.counter p there here))
   zero_at sums front fold x p (Some q) room there here row = zero_row sums front fold x p q room there here row (cases_eq p q)
 
-  room_at : (place : Option ℕ) (sums : List (List ℤ)) → length (more_at place sums) ≡ length sums
+  room_at : (place : Option ℕ) (sums : List (List ℤ)) → length (zero_more_at place sums) ≡ length sums
   room_at None sums = refl
   room_at (Some p) sums = length-set sums p (row_of sums p ++ pos 0 ∷ [])
 
-  pub zeros_on : (d : Fold) (folds : List Fold) (sums new : List (List ℤ)) (i : ℕ) → new ≡ one_more places (get_or folds i d) sums → i < length folds
+  pub zeros_on : (d : Fold) (folds : List Fold) (sums new : List (List ℤ)) (i : ℕ) → new ≡ one_zero_more places (get_or folds i d) sums → i < length folds
       → length sums ≡ places.domains + places.contexts → AreZeros places (take i folds) sums
       → (length new ≡ places.domains + places.contexts) × AreZeros places (take (i + 1) folds) new
   zeros_on d folds sums new i is lt room are =

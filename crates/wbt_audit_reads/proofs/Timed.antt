@@ -6,7 +6,7 @@ use Rattle.std.proofs.lemmas.Option.{slice_get-map, slice_get_within}
 use Rattle.wbt_num.specs.declared.limits.Limits.{Limits}
 use Rattle.wbt_trace.specs.declared.trace.Trace.{Trace}
 use Rattle.wbt_journal.specs.Machine.{domains}
-use Rattle.wbt_journal.specs.Timer.{Line, is_opening, limits_by, line_follows, lines_after, one_line, timer_fault}
+use Rattle.wbt_journal.specs.Timer.{LastLine, is_opening, limits_by, line_follows, lines_after, one_line, timer_fault}
 use Rattle.wbt_journal.specs.Walk.{after, first_fault, first_of, unless}
 use Rattle.wbt_journal.specs.Estimates.{opened_at}
 use Rattle.wbt_journal.specs.Verdict.{timers_fault}
@@ -27,7 +27,7 @@ lines_of-set (l ∷ last) (suc domain) line = ap (λ ls. line_of l ∷ ls) (line
 lt_is : (v n : ℕ) → v < n → nat_lt v n ≡ true
 lt_is v n lt = grind (arith, tests, lt)
 
-put_at : (domain now : ℕ) (limits : Limits) (lines : List Line) → domain < length lines
+put_at : (domain now : ℕ) (limits : Limits) (lines : List LastLine) → domain < length lines
     → put domain now limits lines ≡ set lines domain (record { now = now; hard = limits.hard })
 put_at domain now limits lines lt =
     ap (λ b. if b then set lines domain (record { now = now; hard = limits.hard }) else lines ++ record { now = now; hard = limits.hard } ∷ []) (lt_is domain (length lines) lt)
@@ -36,13 +36,13 @@ length-lines : (last : List KeptLine) → length (lines_of last) ≡ length last
 length-lines [] = refl
 length-lines (l ∷ last) = ap suc (length-lines last)
 
-pub opening_is : (trace : Trace) (opened : ℕ) (kept : Lines) (lines : List Line) → Keeps trace opened kept lines
+pub opening_is : (trace : Trace) (opened : ℕ) (kept : Lines) (lines : List LastLine) → Keeps trace opened kept lines
     → nat_lt (length kept.last.items) kept.domains ≡ is_opening trace lines
 opening_is trace opened kept lines keeps =
     ap (nat_lt (length kept.last.items)) keeps.count
     ∙ ap (λ n. nat_lt n (domains trace)) (sym (length-lines kept.last.items) ∙ ap length keeps.last)
 
-module _ (trace : Trace) (opened : ℕ) (old new : Lines) (lines : List Line) (domain now : ℕ) (limits : Limits) (keeps : Keeps trace opened old lines) where
+module _ (trace : Trace) (opened : ℕ) (old new : Lines) (lines : List LastLine) (domain now : ℕ) (limits : Limits) (keeps : Keeps trace opened old lines) where
   found : (before : KeptLine) → slice_get old.last.items domain ≡ Some before → slice_get lines domain ≡ Some (line_of before)
   found before is = ap (λ ls. slice_get ls domain) (sym keeps.last) ∙ slice_get-map line_of old.last.items domain ∙ ap (option_map line_of) is
 
@@ -88,7 +88,7 @@ module _ (trace : Trace) (opened : ℕ) where
   pub begin_entries : (entries : List TimerEntry) (kept : Lines) → Keeps trace opened kept [] → Goes trace opened entries 0 kept
   begin_entries entries kept keeps = record { lines = []; keeps = keeps; to_come = refl; at_end = refl }
 
-  split : (line : ℕ) (lines : List Line) (entry : TimerEntry) (more : List TimerEntry) (found : Option ℕ) → timer_fault trace opened lines entry ≡ found
+  split : (line : ℕ) (lines : List LastLine) (entry : TimerEntry) (more : List TimerEntry) (found : Option ℕ) → timer_fault trace opened lines entry ≡ found
       → first_fault (timer_fault trace opened) lines_after one_line line lines (entry ∷ more)
       ≡ elim found [ None ↦ first_fault (timer_fault trace opened) lines_after one_line (line + 1) (lines_after lines entry) more | Some at ↦ Some (line + at) ]
   split line lines entry more found is =

@@ -23,7 +23,7 @@ use Rattle.wbt_audit_reads.specs.Counting.{context_load}
 use Rattle.wbt_audit_reads.specs.Folding.{AreOf}
 use Rattle.wbt_audit_walk.specs.Newest.{seen_at}
 use Rattle.wbt_audit_walk.specs.Places.{below}
-use Rattle.wbt_audit_reads.specs.Reading.{AreSeen, ArePublished, KeepsTriples, Sees, JudgesCheck, more_at, one_more, place_by, test, test_at}
+use Rattle.wbt_audit_reads.specs.Reading.{AreSeen, ArePublished, KeepsTriples, Sees, JudgesCheck, triple_more_at, one_triple_more, place_by, test, test_at}
 use Rattle.wbt_audit_walk.specs.Rows.{row_of, push_cell}
 use Rattle.wbt_audit_walk.specs.Walking.{IsJudged, Judges}
 use Rattle.wbt_audit_walk.specs.declared.places.Places.{Places}
@@ -156,27 +156,27 @@ module _ (places : Places) where
 
   by_place : (published : List (List Limits)) (front : List Limits) (of now : ℕ) (limits : Limits) (domain p : ℕ) (place : Option ℕ) → length published ≡ places.domains
       → place_by places domain ≡ Some p → place_by places of ≡ place → row_of published p ≡ front
-      → row_of (more_at place limits published) p ≡ front ++ triple_in domain (timer.Limits of now limits)
+      → row_of (triple_more_at place limits published) p ≡ front ++ triple_in domain (timer.Limits of now limits)
   by_place published front of now limits domain p None room there here is =
       is ∙ sym (append-nil front)
       ∙ ap (λ b. front ++ (if b then limits ∷ [] else [])) (sym ((numbers_apart places.domains).other domain of p there here))
   by_place published front of now limits domain p (Some q) room there here is = at_place published front of now limits domain p q room there here is (cases_eq p q)
 
   one_published : (published : List (List Limits)) (front : List Limits) (entry : TimerEntry) (domain p : ℕ) → length published ≡ places.domains
-      → place_by places domain ≡ Some p → row_of published p ≡ front → row_of (one_more places entry published) p ≡ front ++ triple_in domain entry
+      → place_by places domain ≡ Some p → row_of published p ≡ front → row_of (one_triple_more places entry published) p ≡ front ++ triple_in domain entry
   one_published published front (timer.Limits of now limits) domain p room there is =
       by_place published front of now limits domain p (place_by places of) room there refl is
   one_published published front (timer.Period of k) domain p room there is = is ∙ sym (append-nil front)
 
-  room_at : (place : Option ℕ) (limits : Limits) (published : List (List Limits)) → length (more_at place limits published) ≡ length published
+  room_at : (place : Option ℕ) (limits : Limits) (published : List (List Limits)) → length (triple_more_at place limits published) ≡ length published
   room_at None limits published = refl
   room_at (Some p) limits published = length-set published p (row_of published p ++ limits ∷ [])
 
-  room_kept : (entry : TimerEntry) (published : List (List Limits)) → length (one_more places entry published) ≡ length published
+  room_kept : (entry : TimerEntry) (published : List (List Limits)) → length (one_triple_more places entry published) ≡ length published
   room_kept (timer.Limits of now limits) published = room_at (place_by places of) limits published
   room_kept (timer.Period of k) published = refl
 
-  pub published_on : (d : TimerEntry) (entries : List TimerEntry) (published new : List (List Limits)) (i : ℕ) → new ≡ one_more places (get_or entries i d) published
+  pub published_on : (d : TimerEntry) (entries : List TimerEntry) (published new : List (List Limits)) (i : ℕ) → new ≡ one_triple_more places (get_or entries i d) published
       → i < length entries → length published ≡ places.domains → ArePublished places (take i entries) published
       → (length new ≡ places.domains) × ArePublished places (take (i + 1) entries) new
   published_on d entries published new i is lt room are = (

@@ -78,13 +78,13 @@ abbrev pub may_mark : (marks : List (List Bool)) (place version : ℕ) → Bool
 may_mark marks place version = nat_le 1 version && is_unseen (cell marks place (version - 1))
 
 -- one mark more for the fold's counter
-abbrev pub more_at : (place : Option ℕ) (marks : List (List Bool)) → List (List Bool)
-more_at None marks = marks
-more_at (Some place) marks = push_cell marks place false
+abbrev pub mark_more_at : (place : Option ℕ) (marks : List (List Bool)) → List (List Bool)
+mark_more_at None marks = marks
+mark_more_at (Some place) marks = push_cell marks place false
 
 -- one mark more for the counter of a fold
-abbrev pub one_more : (places : Places) (fold : Fold) (marks : List (List Bool)) → List (List Bool)
-one_more places fold marks = more_at (counter_place places.domains places.contexts fold.counter) marks
+abbrev pub one_mark_more : (places : Places) (fold : Fold) (marks : List (List Bool)) → List (List Bool)
+one_mark_more places fold marks = mark_more_at (counter_place places.domains places.contexts fold.counter) marks
 
 -- each counter has as many marks as folds, and none says that its version was seen
 abbrev pub HaveNone : (places : Places) (folds : List Fold) (marks : List (List Bool)) → Type 0

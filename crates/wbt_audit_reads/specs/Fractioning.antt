@@ -46,15 +46,15 @@ abbrev pub AreRising : (kept : Fractions) → Type 0
 AreRising kept = (row : ℕ) → IsRising (row_of kept.periods row)
 
 -- whether a read's fraction is a part of the whole, of a period that there was and of no more than was added
-abbrev pub part_at : (kept : Fractions) (place : ℕ) (read : DomainLine) → Bool
-part_at kept place read =
+abbrev pub is_part_at : (kept : Fractions) (place : ℕ) (read : DomainLine) → Bool
+is_part_at kept place read =
     nat_le 1 read.share.den && (nat_le read.share.num read.share.den
     && (list_any (λ period. period == read.share.period) (row_of kept.periods read.domain) && nat_le read.share.num (get_or kept.added.items place 0)))
 
 -- and of no earlier period than was seen
 abbrev pub test_at : (kept : Fractions) (place : Option ℕ) (read : DomainLine) → Bool
 test_at kept None read = false
-test_at kept (Some place) read = part_at kept place read && nat_le (get_or kept.newest place 0) read.share.period
+test_at kept (Some place) read = is_part_at kept place read && nat_le (get_or kept.newest place 0) read.share.period
 
 -- whether a context's fraction in a domain passes the test
 abbrev pub test : (kept : Fractions) (context : ℕ) (read : DomainLine) → Bool

@@ -20,11 +20,11 @@ abbrev pub ArePeriods : (places : Places) (entries : List TimerEntry) (periods :
 ArePeriods places entries periods = (domain p : ℕ) → below places.domains domain ≡ Some p → row_of periods p ≡ periods_from domain 0 entries
 
 -- so many periods more at a domain's place
-abbrev pub more_at : (place : Option ℕ) (k : ℕ) (periods : List (List ℕ)) → List (List ℕ)
-more_at None k periods = periods
-more_at (Some place) k periods = push_cell periods place (last_in (row_of periods place) + k)
+abbrev pub period_more_at : (place : Option ℕ) (k : ℕ) (periods : List (List ℕ)) → List (List ℕ)
+period_more_at None k periods = periods
+period_more_at (Some place) k periods = push_cell periods place (last_in (row_of periods place) + k)
 
 -- the periods after an entry of the timer
-abbrev pub one_more : (places : Places) (entry : TimerEntry) (periods : List (List ℕ)) → List (List ℕ)
-one_more places (timer.Limits domain now limits) periods = periods
-one_more places (timer.Period domain k) periods = more_at (below places.domains domain) k periods
+abbrev pub one_period_more : (places : Places) (entry : TimerEntry) (periods : List (List ℕ)) → List (List ℕ)
+one_period_more places (timer.Limits domain now limits) periods = periods
+one_period_more places (timer.Period domain k) periods = period_more_at (below places.domains domain) k periods

@@ -31,14 +31,14 @@ abbrev pub ArePublished : (places : Places) (entries : List TimerEntry) (publish
 ArePublished places entries published = (domain p : ℕ) → place_by places domain ≡ Some p → row_of published p ≡ triples_of domain entries
 
 -- one triple more at a domain's place
-abbrev pub more_at : (place : Option ℕ) (limits : Limits) (published : List (List Limits)) → List (List Limits)
-more_at None limits published = published
-more_at (Some place) limits published = push_cell published place limits
+abbrev pub triple_more_at : (place : Option ℕ) (limits : Limits) (published : List (List Limits)) → List (List Limits)
+triple_more_at None limits published = published
+triple_more_at (Some place) limits published = push_cell published place limits
 
 -- the triples after an entry of the timer
-abbrev pub one_more : (places : Places) (entry : TimerEntry) (published : List (List Limits)) → List (List Limits)
-one_more places (timer.Limits domain now limits) published = more_at (place_by places domain) limits published
-one_more places (timer.Period domain k) published = published
+abbrev pub one_triple_more : (places : Places) (entry : TimerEntry) (published : List (List Limits)) → List (List Limits)
+one_triple_more places (timer.Limits domain now limits) published = triple_more_at (place_by places domain) limits published
+one_triple_more places (timer.Period domain k) published = published
 
 -- by domain there is the newest triple that the CPU has read
 abbrev pub AreSeen : (trace : Trace) (seen : List DomainLine) (newest : List ℕ) → Type 0

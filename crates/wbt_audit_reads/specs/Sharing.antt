@@ -34,11 +34,11 @@ with_share places None sums = sums
 with_share places (Some share) sums = added_at (pair_by places share.domain share.context) share.n sums
 
 -- the code adds what an act tells to the sums of the entries before it
-abbrev pub Adds : (places : Places) (act : Option Act) (old new : List ℕ) → Type 0
-Adds places act old new = (entries : List Told) → AreAdded places entries old → AreAdded places (entries ++ told_by act) new
+abbrev pub AddsAct : (places : Places) (act : Option Act) (old new : List ℕ) → Type 0
+AddsAct places act old new = (entries : List Told) → AreAdded places entries old → AreAdded places (entries ++ told_by act) new
 
 -- of these entries, of which the rest are still to come
-pub record AddsSome (places : Places) (all : List Told) (sums : List ℕ) (walk : Walk) : Type 0 where
+pub record AddsSomeActs (places : Places) (all : List Told) (sums : List ℕ) (walk : Walk) : Type 0 where
   pub done : List Told
   pub are : AreAdded places done sums
   pub to_come : done ++ told_in (rest walk) ≡ all

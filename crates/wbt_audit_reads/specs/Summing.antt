@@ -23,13 +23,13 @@ abbrev pub AreZeros : (places : Places) (folds : List Fold) (sums : List (List �
 AreZeros places folds sums = (x : Counter) (p : ℕ) → place_by places x ≡ Some p → row_of sums p ≡ replicate (1 + length (of_counter x folds)) (pos 0)
 
 -- one zero more at a place, if there is one
-abbrev pub more_at : (place : Option ℕ) (sums : List (List ℤ)) → List (List ℤ)
-more_at None sums = sums
-more_at (Some place) sums = push_cell sums place (pos 0)
+abbrev pub zero_more_at : (place : Option ℕ) (sums : List (List ℤ)) → List (List ℤ)
+zero_more_at None sums = sums
+zero_more_at (Some place) sums = push_cell sums place (pos 0)
 
 -- one zero more for the counter of a fold
-abbrev pub one_more : (places : Places) (fold : Fold) (sums : List (List ℤ)) → List (List ℤ)
-one_more places fold sums = more_at (place_by places fold.counter) sums
+abbrev pub one_zero_more : (places : Places) (fold : Fold) (sums : List (List ℤ)) → List (List ℤ)
+one_zero_more places fold sums = zero_more_at (place_by places fold.counter) sums
 
 -- ---- folds by their version
 

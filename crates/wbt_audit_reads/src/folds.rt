@@ -156,7 +156,7 @@ fn unseen_of(alloc: Global, places: Places, folds: &[Fold]) -> Result<Table<bool
 
 // One version more of a fold's counter.
 fn add_version(versions: &mut Table<bool>, places: Places, fold: &Fold) -> Result<(), NoMemory>
-    ensures { OnOk result (versions.new ≡ spec.one_more places fold.now versions.old) }
+    ensures { OnOk result (versions.new ≡ spec.one_mark_more places fold.now versions.old) }
 {
     match places.counter(fold.counter) {
         None => Ok(()),

@@ -157,7 +157,7 @@ impl Fractions {
     }
 
     fn is_part(&self, place: usize, read: &DomainLine) -> bool
-        ensures { spec.AreRising self.now → result ≡ spec.part_at self.now place read.now }
+        ensures { spec.AreRising self.now → result ≡ spec.is_part_at self.now place read.now }
     {
         read.share.den >= 1
             && read.share.num <= read.share.den

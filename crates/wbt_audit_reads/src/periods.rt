@@ -35,7 +35,7 @@ pub fn has_period(periods: &[u128], period: u64) -> bool
 }
 
 fn begin(periods: &mut Table<u128>, places: Places, entry: &TimerEntry) -> Result<(), NoMemory>
-    ensures { OnOk result (periods.new ≡ spec.one_more places entry.entry.now periods.old) }
+    ensures { OnOk result (periods.new ≡ spec.one_period_more places entry.entry.now periods.old) }
 {
     match *entry {
         TimerEntry::Limits { .. } => Ok(()),
@@ -44,7 +44,7 @@ fn begin(periods: &mut Table<u128>, places: Places, entry: &TimerEntry) -> Resul
 }
 
 fn push_to(periods: &mut Table<u128>, place: Option<usize>, k: u64) -> Result<(), NoMemory>
-    ensures { OnOk result (periods.new ≡ spec.more_at place k periods.old) }
+    ensures { OnOk result (periods.new ≡ spec.period_more_at place k periods.old) }
 {
     match place {
         None => Ok(()),

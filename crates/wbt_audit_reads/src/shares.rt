@@ -26,7 +26,7 @@ pub fn added_by(alloc: Global, places: Places, journal: &Journal) -> Result<Vec<
 }
 
 fn add_act(places: Places, act: Option<Act>, sums: &mut Vec<u128>) -> Result<(), NoMemory>
-    ensures { OnOk result (spec.Adds places act.entry sums.old.items sums.new.items) }
+    ensures { OnOk result (spec.AddsAct places act.entry sums.old.items sums.new.items) }
 {
     match act {
         None => Ok(()),

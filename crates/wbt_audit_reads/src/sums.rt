@@ -47,7 +47,7 @@ fn zeros_of(alloc: Global, places: Places, folds: &[Fold]) -> Result<Table<i128>
 }
 
 fn add_zero(sums: &mut Table<i128>, places: Places, fold: &Fold) -> Result<(), NoMemory>
-    ensures { OnOk result (sums.new ≡ spec.one_more places fold.now sums.old) }
+    ensures { OnOk result (sums.new ≡ spec.one_zero_more places fold.now sums.old) }
 {
     match places.counter(fold.counter) {
         None => Ok(()),

@@ -184,7 +184,7 @@ fn publish(
     places: Places,
     entry: &TimerEntry,
 ) -> Result<(), NoMemory>
-    ensures { OnOk result (published.new ≡ spec.one_more places entry.entry.now published.old) }
+    ensures { OnOk result (published.new ≡ spec.one_triple_more places entry.entry.now published.old) }
 {
     match *entry {
         TimerEntry::Limits { domain, limits, .. } => push_to(published, places, domain, limits),
@@ -198,7 +198,7 @@ fn push_to(
     domain: u32,
     limits: Limits,
 ) -> Result<(), NoMemory>
-    ensures { OnOk result (published.new ≡ spec.more_at (spec.place_by places domain) limits published.old) }
+    ensures { OnOk result (published.new ≡ spec.triple_more_at (spec.place_by places domain) limits published.old) }
 {
     match places.domain(domain) {
         None => Ok(()),

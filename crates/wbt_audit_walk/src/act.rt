@@ -1,9 +1,9 @@
 //! What an entry of a CPU's part tells.
 
-ghost use Rattle.std.specs.Prelude.{◌≡◌, length, option_copied, option_map};
+ghost use Rattle.std.specs.Prelude.{◌≡◌, [], length, option_copied, option_map};
 ghost use Rattle.wbt_journal.specs.Effects.{effect};
 ghost use Rattle.wbt_journal.specs.Lines.{told_lines, check_lines};
-ghost use Rattle.wbt_journal.specs.Told.{told_entry, one_checked, one_estimated};
+ghost use Rattle.wbt_journal.specs.Told.{IsWriteback, IsWaiting, told_entry, one_checked, one_estimated};
 ghost use Rattle.wbt_audit_walk.specs.Acts.{told_of, told_by, added_of};
 
 use wbt_counter::Fold;
@@ -95,52 +95,16 @@ impl<'a> Act<'a> {
             Entry::Write { task, page, fresh } => Some(Act::Write { task, page, fresh }),
             Entry::Folded(fold) => Some(Act::Fold(fold)),
             Entry::Check(place) => named_check(checks.get(place as usize)),
-            Entry::Claimed { flusher, page } => Some(Act::Claim { flusher, page }),
-            Entry::Batch {
-                flusher,
-                pages,
-                now,
-                until,
-            } => Some(Act::Batch {
-                flusher,
-                pages,
-                now,
-                until,
-            }),
-            Entry::Done { flusher, page } => Some(Act::Done { flusher, page }),
             Entry::Share { domain, context, n } => Some(Act::Share { domain, context, n }),
             Entry::Est(place) => named_estimate(estimates.get(place as usize)),
-            Entry::Fault { flusher, pages } => Some(Act::Fault { flusher, pages }),
-            Entry::Back {
-                flusher,
-                page,
-                absorbed,
-            } => Some(Act::Back {
-                flusher,
-                page,
-                absorbed,
-            }),
-            Entry::Noticed {
-                flusher,
-                inode,
-                since,
-            } => Some(Act::Notice {
-                flusher,
-                inode,
-                since,
-            }),
-            Entry::Aged {
-                flusher,
-                inode,
-                due,
-                now,
-            } => Some(Act::Age {
-                flusher,
-                inode,
-                due,
-                now,
-            }),
-            Entry::Taken { flusher, inode } => Some(Act::Take { flusher, inode }),
+            Entry::Claimed { .. }
+            | Entry::Batch { .. }
+            | Entry::Done { .. }
+            | Entry::Fault { .. }
+            | Entry::Back { .. } => writeback_act(entry),
+            Entry::Noticed { .. } | Entry::Aged { .. } | Entry::Taken { .. } => {
+                waiting_act(entry)
+            }
         }
     }
 
@@ -192,6 +156,70 @@ impl<'a> Act<'a> {
             Act::Check(check) => lines_of_check(check),
             _ => 1,
         }
+    }
+}
+
+// What an entry of a flusher's writeback tells.
+fn writeback_act<'a>(entry: &Entry) -> Option<Act<'a>>
+    requires writeback { IsWriteback entry.now }
+    ensures { told_by result ≡ told_entry [] [] entry.now }
+{
+    match *entry {
+        Entry::Claimed { flusher, page } => Some(Act::Claim { flusher, page }),
+        Entry::Batch {
+            flusher,
+            pages,
+            now,
+            until,
+        } => Some(Act::Batch {
+            flusher,
+            pages,
+            now,
+            until,
+        }),
+        Entry::Done { flusher, page } => Some(Act::Done { flusher, page }),
+        Entry::Fault { flusher, pages } => Some(Act::Fault { flusher, pages }),
+        Entry::Back {
+            flusher,
+            page,
+            absorbed,
+        } => Some(Act::Back {
+            flusher,
+            page,
+            absorbed,
+        }),
+        _ => unreachable!(),
+    }
+}
+
+// What an entry of a flusher's waiting list tells.
+fn waiting_act<'a>(entry: &Entry) -> Option<Act<'a>>
+    requires waiting { IsWaiting entry.now }
+    ensures { told_by result ≡ told_entry [] [] entry.now }
+{
+    match *entry {
+        Entry::Noticed {
+            flusher,
+            inode,
+            since,
+        } => Some(Act::Notice {
+            flusher,
+            inode,
+            since,
+        }),
+        Entry::Aged {
+            flusher,
+            inode,
+            due,
+            now,
+        } => Some(Act::Age {
+            flusher,
+            inode,
+            due,
+            now,
+        }),
+        Entry::Taken { flusher, inode } => Some(Act::Take { flusher, inode }),
+        _ => unreachable!(),
     }
 }
 

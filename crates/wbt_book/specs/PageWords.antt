@@ -10,9 +10,11 @@ use Rattle.wbt_book.specs.Book.{Bits, Book, page_word, bits_in}
 abbrev pub word_of : (page : ℕ) → ℕ
 word_of page = page / PAGES_PER_WORD
 
+-- the place of a page in its word, 0 to 31
 abbrev pub place_of : (page : ℕ) → ℕ
 place_of page = page % PAGES_PER_WORD
 
+-- the lower of a page's two bits in its word, its dirty bit: an even number from 0 to 62
 abbrev pub shift_of : (page : ℕ) → ℕ
 shift_of page = 2 * place_of page
 
@@ -24,6 +26,7 @@ words_for pages = (pages + (PAGES_PER_WORD - 1)) / PAGES_PER_WORD
 abbrev pub dirty_mask : (page : ℕ) → ℕ
 dirty_mask page = 2 ^ shift_of page
 
+-- the number with just the page's writeback bit
 abbrev pub writeback_mask : (page : ℕ) → ℕ
 writeback_mask page = 2 ^ (shift_of page + 1)
 
@@ -54,6 +57,7 @@ pub record ChangesPage (page : ℕ) (bits : Bits) (old new : ℕ) : Type 0 where
   pub here : bits_at new page ≡ bits
   pub neighbours : (other : ℕ) → place_of other ≢ place_of page → bits_at new other ≡ bits_at old other
 
+-- the page that an event is about
 abbrev pub page_of : (event : Event) → ℕ
 page_of (Dirty p) = p
 page_of (Claim p) = p

@@ -34,6 +34,7 @@ flag holds = cond holds 1 0
 abbrev pub limits_in : (domain : Domain) → Limits
 limits_in domain = record { thresh = domain.thresh; bg = domain.bg; hard = domain.hard }
 
+-- what a check reads of a domain: its limits, its pages, and the context's part of its threshold
 abbrev pub read_of : (domain : Domain) → DomainRead
 read_of domain = record { limits = limits_in domain; dirty = domain.dirty; wb_thresh = domain.wb_thresh }
 
@@ -41,6 +42,7 @@ read_of domain = record { limits = limits_in domain; dirty = domain.dirty; wb_th
 abbrev pub cgroup_of : (check : Check) → Option DomainRead
 cgroup_of check = cond (check.has_cgroup == 0) None (Some (read_of check.cgroup))
 
+-- what a check reads in all
 abbrev pub reads_of : (check : Check) → Reads
 reads_of check = record {
   global = read_of check.global;
@@ -71,6 +73,7 @@ task_of writer = record {
   paused_when = writer.paused_when;
 }
 
+-- a writer's numbers as they cross back
 abbrev pub writer_of : (task : Task) → Writer
 writer_of task = record {
   nr_dirtied = task.nr_dirtied;
@@ -85,6 +88,7 @@ kind_number Go = 1
 kind_number Exempt = 2
 kind_number Wait = 3
 
+-- what a check decided, as it crosses back
 abbrev pub decided_by : (decision : Decision) → Decided
 decided_by decision = record {
   kind = kind_number decision.kind;
@@ -94,9 +98,11 @@ decided_by decision = record {
   exceeded = flag decision.exceeded;
 }
 
+-- the settings of a machine: percentages, and the bytes that replace them where they aren't 0
 abbrev pub settings_of : (knobs : Knobs) → Settings
 settings_of knobs = record { ratio = knobs.ratio; bg_ratio = knobs.bg_ratio; bytes = knobs.bytes; bg_bytes = knobs.bg_bytes }
 
+-- two thresholds as they cross back, in pages
 abbrev pub thresholds_in : (pair : Pair) → Thresholds
 thresholds_in pair = record { thresh = pair.thresh; bg = pair.bg }
 
@@ -113,6 +119,7 @@ estimate_of rates = record {
   at = rates.at;
 }
 
+-- an estimate as it crosses back
 abbrev pub rates_in : (estimate : Estimate) → Rates
 rates_in estimate = record {
   version = estimate.version;
@@ -125,6 +132,7 @@ rates_in estimate = record {
   at = estimate.at;
 }
 
+-- a sample of what was measured; its flag is set where it is 1
 abbrev pub sample_of : (measured : Measured) → Sample
 sample_of measured = record {
   now = measured.moment;
@@ -134,6 +142,7 @@ sample_of measured = record {
   below_setpoint = measured.below_setpoint == 1;
 }
 
+-- the least pause, in ticks, and the allowance after a pause, in pages, as they cross back
 abbrev pub least_in : (least : MinPause) → Least
 least_in least = record { pages = least.pages; pause = least.pause }
 
@@ -141,9 +150,11 @@ least_in least = record { pages = least.pages; pause = least.pause }
 abbrev pub local_of : (counts : Counts) → CpuLocal
 local_of counts = record { since_check = counts.since_check; leaks = counts.leaks }
 
+-- what a CPU counts as it crosses back
 abbrev pub counts_in : (local : CpuLocal) → Counts
 counts_in local = record { since_check = local.since_check; leaks = local.leaks }
 
+-- whether a check is due, as a number: 1 where it is
 abbrev pub due_number : (due : Due) → ℕ
 due_number No = 0
 due_number IsDue = 1

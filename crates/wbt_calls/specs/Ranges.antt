@@ -72,6 +72,7 @@ pub record IsTaken (check : Check) : Type 0 where
   pub reads : AreReadsTaken check
   pub rest : IsRestTaken check
 
+-- one that is answered in a context of a strict device, whose thresholds are no greater than those of its domains
 pub record IsStrictlyTaken (check : Check) : Type 0 where
   pub taken : IsTaken check
   pub parts : ArePartsWithin (reads_of check)

@@ -25,5 +25,6 @@ status_of_strict domain =
 abbrev pub IsRatioTaken : (domain : Domain) (avg : ℕ) → Type 0
 IsRatioTaken domain avg = IsLawful (limits_in domain) × (avg < 2 ^ 44)
 
+-- what a strict ratio requires of a domain with its context's part
 abbrev pub IsStrictRatioTaken : (domain : Domain) → Type 0
 IsStrictRatioTaken domain = IsLawful (limits_in domain) × (domain.wb_thresh ≤ domain.thresh)

@@ -9,6 +9,7 @@ abbrev pub are_bad : (knobs : Knobs) → Bool
 are_bad knobs =
     nat_lt MOST_PERCENT knobs.ratio || nat_lt MOST_PERCENT knobs.bg_ratio || nat_lt MOST_BYTES knobs.bytes || nat_lt MOST_BYTES knobs.bg_bytes
 
+-- the status of settings: `OK` or `BAD_SETTINGS`
 abbrev pub status_of_settings : (knobs : Knobs) → ℕ
 status_of_settings knobs = if are_bad knobs then BAD_SETTINGS else OK
 

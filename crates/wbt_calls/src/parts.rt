@@ -90,7 +90,7 @@ fn is_no_fraction(share: &Share) -> bool
 }
 
 fn are_bad(share: &Share) -> bool
-    ensures value { result ≡ spec.are_bad share.now }
+    ensures value { result ≡ spec.are_bad_shares share.now }
     ensures taken { result ≡ false ↔ spec.AreShares share.now }
 {
     share.sum_min > MOST_PERCENT || share.min > share.max || share.max > MOST_PERCENT

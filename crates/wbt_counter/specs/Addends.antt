@@ -23,5 +23,6 @@ fold_addend delta = addend_of (pos (2 ^ 24) +ℤ delta)
 abbrev pub word_plus : (word addend : ℕ) → ℕ
 word_plus word addend = (word + addend) % 2 ^ 64
 
+-- a word after a subtraction, which wraps below zero
 abbrev pub word_minus : (word taken : ℕ) → ℕ
 word_minus word taken = (word + (2 ^ 64 - taken)) % 2 ^ 64

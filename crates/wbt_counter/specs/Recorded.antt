@@ -8,6 +8,7 @@ abbrev pub sum_made : (made : List (ℕ × ℤ)) → ℤ
 sum_made [] = pos 0
 sum_made (fold ∷ older) = fold.1 +ℤ sum_made older
 
+-- the sum of a CPU's folds that made a version up to v
 abbrev pub sum_up_to : (v : ℕ) (made : List (ℕ × ℤ)) → ℤ
 sum_up_to v [] = pos 0
 sum_up_to v (fold ∷ older) = cond (nat_le fold.0 v) fold.1 (pos 0) +ℤ sum_up_to v older

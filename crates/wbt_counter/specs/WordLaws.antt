@@ -35,6 +35,7 @@ OwnEmpties = (local : ℤ) → HasRoom local → word_minus (own_word local) (ad
 abbrev pub SharedWordFits : Type 0
 SharedWordFits = (version : ℕ) (count : ℤ) → version < 2 ^ 40 → IsPackable count → packed version count < 2 ^ 64
 
+-- an own word has 33 bits at most
 abbrev pub OwnWordFits : Type 0
 OwnWordFits = (local : ℤ) → HasRoom local → own_word local < 2 ^ 33
 
@@ -43,9 +44,11 @@ abbrev pub SharedWordTells : Type 0
 SharedWordTells = (version version' : ℕ) (count count' : ℤ) → IsPackable count → IsPackable count'
     → packed version count ≡ packed version' count' → (version ≡ version') × (count ≡ count')
 
+-- an own word holds the number that was put into it
 abbrev pub OwnWordHolds : Type 0
 OwnWordHolds = (local : ℤ) → HasRoom local → local_in (own_word local) ≡ local
 
+-- two own words that are the same hold the same number
 abbrev pub OwnWordTells : Type 0
 OwnWordTells = (local local' : ℤ) → HasRoom local → HasRoom local' → own_word local ≡ own_word local' → local ≡ local'
 

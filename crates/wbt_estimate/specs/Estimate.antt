@@ -30,15 +30,18 @@ balanced_next old sample =
     balanced_rate (task_rate old.ratelimit sample.ratio) old.avg
     (dirty_rate sample.dirtied old.dirtied_stamp (elapsed_since old sample))
 
+-- the next rate limit of the context's writers, a damped step from the old one toward the balanced rate
 abbrev pub ratelimit_next : (old : Estimate) (sample : Sample) → ℕ
 ratelimit_next old sample =
     let balanced : ℕ = balanced_next old sample in
     let step : ℕ = whole_step sample.below_setpoint old.ratelimit old.balanced balanced (task_rate old.ratelimit sample.ratio) in
     ratelimit_after old.ratelimit balanced (damped_step old.ratelimit step)
 
+-- the next bandwidth, from the pages written since the old estimate
 abbrev pub bandwidth_next : (old : Estimate) (sample : Sample) → ℕ
 bandwidth_next old sample = bandwidth_after old.bw sample.written old.written_stamp (elapsed_since old sample)
 
+-- the next average bandwidth, which follows the bandwidth more slowly
 abbrev pub average_next : (old : Estimate) (sample : Sample) → ℕ
 average_next old sample = average_after old.avg old.bw (bandwidth_next old sample) (elapsed_since old sample)
 

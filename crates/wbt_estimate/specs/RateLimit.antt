@@ -18,6 +18,7 @@ balanced_rate task avg rate = min (task * avg / bit_or rate 1) avg
 abbrev pub least_rate : (balanced_before balanced task : ℕ) → ℕ
 least_rate balanced_before balanced task = min (min balanced_before balanced) task
 
+-- the greatest of the same three, in pages a second
 abbrev pub greatest_rate : (balanced_before balanced task : ℕ) → ℕ
 greatest_rate balanced_before balanced task = max (max balanced_before balanced) task
 

@@ -40,6 +40,7 @@ first_view = record { trail = no_trail; stakes = 2 ^ 32; domain_room = 2 ^ 39; p
 abbrev pub left_view : (view : View) → View
 left_view view = record { trail = view.trail; stakes = view.stakes - 1; domain_room = view.domain_room - 2 ^ 33; part_room = view.part_room - 2 ^ 33 }
 
+-- the new seat: one stake, 2^33 of each room, and no step of its own
 abbrev pub right_view : (view : View) → View
 right_view view = record { trail = fresh_trail view.trail; stakes = 1; domain_room = 2 ^ 33; part_room = 2 ^ 33 }
 
@@ -47,5 +48,6 @@ right_view view = record { trail = fresh_trail view.trail; stakes = 1; domain_ro
 abbrev pub joined : (view other : View) → View
 joined view other = record { trail = joined_trail view.trail other.trail; stakes = view.stakes + other.stakes; domain_room = view.domain_room + other.domain_room; part_room = view.part_room + other.part_room }
 
+-- a seat whose steps, stakes and room went to another
 abbrev pub spent : View
 spent = record { trail = no_trail; stakes = 0; domain_room = 0; part_room = 0 }

@@ -16,9 +16,11 @@ Fits (x ∷ xs) (y ∷ ys) = (y.table ≡ x.table) × Fits xs ys
 abbrev pub no_table : TableId
 no_table = record { words = 0; slots = 0; views_name = 0; atom = 0; block = 0; offset = 0; slot_names = [] }
 
+-- a domain that isn't there
 abbrev pub no_shape : Shape
 no_shape = record { table = no_table; parts = 0 }
 
+-- a seat at no domain: it has no stake, and may add nothing
 abbrev pub no_seat : Seated
 no_seat = record { table = no_table; notes = []; trail = no_trail; stakes = 0; room = 0 }
 
@@ -38,6 +40,7 @@ HasRoom seats = All (λ (s : Seated). (2 ≤ s.stakes) × (2 ^ 33 ≤ s.room)) s
 abbrev pub room_in : (domain : ℕ) (seats : List Seated) → ℕ
 room_in domain seats = (slice_index_or seats domain no_seat).room
 
+-- the stakes of the seat at one domain
 abbrev pub stakes_in : (domain : ℕ) (seats : List Seated) → ℕ
 stakes_in domain seats = (slice_index_or seats domain no_seat).stakes
 
@@ -57,6 +60,7 @@ TakesRoom domain n old new = (d : ℕ) → room_in d new ≡ room_in d old - con
 abbrev pub left_of : (seat : Seated) → Seated
 left_of s = record { table = s.table; notes = s.notes; trail = s.trail; stakes = s.stakes - 1; room = s.room - 2 ^ 33 }
 
+-- the new seat after a split: one stake, 2^33 of room, and no step of its own
 abbrev pub right_of : (seat : Seated) → Seated
 right_of s = record { table = s.table; notes = []; trail = fresh_trail s.trail; stakes = 1; room = 2 ^ 33 }
 
@@ -107,6 +111,7 @@ HasTotalRoom totals seat = (2 ≤ seat.stakes) × ((i : ℕ) → i < totals.cont
 abbrev pub total_left : (seat : TotalSeated) → TotalSeated
 total_left seat = record { table = seat.table; notes = seat.notes; trail = seat.trail; stakes = seat.stakes - 1; rooms = map (λ r. r - 2 ^ 33) seat.rooms }
 
+-- the new seat at the totals: one stake, 2^33 of room for each total, and no step of its own
 abbrev pub total_right : (seat : TotalSeated) → TotalSeated
 total_right seat = record { table = seat.table; notes = []; trail = total_fresh seat.trail; stakes = 1; rooms = map (λ r. 2 ^ 33) seat.rooms }
 

@@ -168,6 +168,7 @@ pub record TotalShape : Type 0 where
 abbrev pub left_view : (view : TotalView) → TotalView
 left_view v = record { trail = v.trail; stakes = v.stakes - 1; rooms = map (λ r. r - 2 ^ 33) v.rooms }
 
+-- the new seat: one stake, 2^33 of room for each total, and no step of its own
 abbrev pub right_view : (view : TotalView) → TotalView
 right_view v = record { trail = total_fresh v.trail; stakes = 1; rooms = map (λ r. 2 ^ 33) v.rooms }
 
@@ -181,6 +182,7 @@ sums (x ∷ xs) (y ∷ ys) = (x + y) ∷ sums xs ys
 abbrev pub joined : (view other : TotalView) → TotalView
 joined v w = record { trail = total_joined v.trail w.trail; stakes = v.stakes + w.stakes; rooms = sums v.rooms w.rooms }
 
+-- a seat whose steps, stakes and rooms went to another
 abbrev pub spent : TotalView
 spent = record { trail = no_tallies; stakes = 0; rooms = [] }
 

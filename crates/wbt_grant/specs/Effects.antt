@@ -25,6 +25,7 @@ use Rattle.wbt_grant.specs.Record
 use Rattle.wbt_grant.specs.Kinds.{Step, add, fold, clear, count, dirty, look, claim, complete, back, peak, unseal, thresh, publish, first, middle, limits, mark, unmark, grant, last_found, last_raised, has_sequence, has_both, IsWho, MayAdd, MayFold, MayClear, MayDirty, MayLook, MayClaim, MayComplete, MayGiveBack, MayUnseal, MayThresh, MayPublish, MayFirst, MayMiddle, MayLimits, MayMark, MayGrant}
 use Rattle.wbt_grant.specs.Conditions.{is_event, is_fold_due, is_clear_due, is_who, is_ready, looked_at, at_most, is_loader, is_drafted, is_lawful}
 
+-- whether that is the timer
 abbrev pub is_timer : (who : Who) → Bool
 is_timer (Writer w) = false
 is_timer (Cpu i) = false
@@ -42,17 +43,21 @@ own_told set x r = counter.own_told (account_of set x r)
 
 -- what each kind of step makes of its CPU's record, by the number that it found
 
+-- the event that is owed is in the own number: where that reaches the batch a fold is owed, else nothing
 abbrev pub add_record : (set : Setting) (x : Counter) (found : ℕ) (r : CpuRecord) → CpuRecord
 add_record set x found r = Record.stepped kind.Add (word.Own x) found
     (Record.added (batch_of set x) x (local_in found +ℤ amount (debt_to x r.debts)) r)
 
+-- the fold made the version after the one that it found, and its number is to be cleared
 abbrev pub fold_record : (set : Setting) (x : Counter) (found : ℕ) (r : CpuRecord) → CpuRecord
 fold_record set x found r = Record.stepped kind.Fold (word.Shared x) found
     (Record.folded x (version_in found + 1) (own_told set x r) r)
 
+-- what was folded is cleared, and nothing is owed to the counter
 abbrev pub clear_record : (x : Counter) (found : ℕ) (r : CpuRecord) → CpuRecord
 clear_record x found r = Record.stepped kind.Clear (word.Own x) found (Record.cleared x r)
 
+-- the version and the count in the shared word are loaded, for a writer or for the CPU
 abbrev pub count_record : (set : Setting) (who : Who) (x : Counter) (found : ℕ) (r : CpuRecord) → CpuRecord
 count_record set who x found r = Record.stepped kind.Count (word.Shared x) found
     (Record.counted set who x (version_in found) (count_in found) r)
@@ -62,6 +67,7 @@ abbrev pub dirty_record : (set : Setting) (w p found : ℕ) (r : CpuRecord) → 
 dirty_record set w p found r = Record.stepped kind.Dirty (word.Page p) found
     (Record.page_stepped (cond (set.coding.page_bits found p).dirty (Record.found_already p r) (Record.dirtied set w p r)))
 
+-- a page that can't be claimed is passed; of one with both bits the mark is owed
 abbrev pub look_record : (set : Setting) (p found : ℕ) (r : CpuRecord) → CpuRecord
 look_record set p found r = Record.stepped kind.Look (word.Page p) found (Record.looked set p (set.coding.page_bits found p) r)
 
@@ -69,6 +75,7 @@ look_record set p found r = Record.stepped kind.Look (word.Page p) found (Record
 abbrev pub claim_record : (p found : ℕ) (r : CpuRecord) → CpuRecord
 claim_record p found r = Record.stepped kind.Claim (word.Page p) found (cond (found == last_found r.last) (Record.claimed p r) r)
 
+-- the page is completed, in a page step
 abbrev pub complete_record : (set : Setting) (p found : ℕ) (r : CpuRecord) → CpuRecord
 complete_record set p found r = Record.stepped kind.Complete (word.Page p) found (Record.page_stepped (Record.completed set p r))
 
@@ -77,18 +84,23 @@ abbrev pub back_record : (set : Setting) (p found : ℕ) (r : CpuRecord) → Cpu
 back_record set p found r = Record.stepped kind.Back (word.Page p) found (cond (found == last_found r.last)
     (Record.page_stepped (Record.given_back set p (set.coding.page_bits found p).dirty r)) r)
 
+-- the sequence word is found, which begins a load
 abbrev pub first_record : (d found : ℕ) (r : CpuRecord) → CpuRecord
 first_record d found r = Record.stepped kind.First (word.Sequence d) found (Record.found_first d found r)
 
+-- the thresh word is found beside it
 abbrev pub middle_record : (d found : ℕ) (r : CpuRecord) → CpuRecord
 middle_record d found r = Record.stepped kind.Middle (word.Thresh d) found (Record.found_middle d found r)
 
+-- the sequence word is found once more, which ends the load
 abbrev pub limits_record : (set : Setting) (who : Who) (d found : ℕ) (r : CpuRecord) → CpuRecord
 limits_record set who d found r = Record.stepped kind.Limits (word.Sequence d) found (Record.limited set who d found r)
 
+-- the CPU owes the inode nothing any more
 abbrev pub mark_record : (set : Setting) (n found : ℕ) (r : CpuRecord) → CpuRecord
 mark_record set n found r = Record.stepped kind.Mark (word.Inode n) found (Record.mark_paid set n r)
 
+-- each page of the inode is owed a rescan
 abbrev pub unmark_record : (set : Setting) (n found : ℕ) (r : CpuRecord) → CpuRecord
 unmark_record set n found r = Record.stepped kind.Unmark (word.Inode n) found (Record.owing_rescans set n r)
 
@@ -97,6 +109,7 @@ pub record Access : Type 0 where
   pub kind : StepKind
   pub word : Word
 
+-- what a step does, and where it may be made: laws of all kinds read these fields
 pub record StepEffect : Type 1 where
   pub maker : Who  -- a writer makes its steps on its CPU
   pub access : Option Access  -- a grant is no step, and has none
@@ -123,9 +136,11 @@ no_effect = record {
   is_untold = λ found r. true;
 }
 
+-- an atomic step of this kind on this word
 abbrev pub on : (kind : StepKind) (word : Word) → Option Access
 on kind word = Some (record { kind = kind; word = word })
 
+-- the row of each kind of step, and of a grant
 abbrev pub effect : (step : Step) → StepEffect
 effect (add i x) = record no_effect {
   maker = Cpu i;

@@ -27,18 +27,22 @@ abbrev pub is_step : (access : Option Access) → Bool
 is_step None = false
 is_step (Some access) = true
 
+-- whether an access is a look at the page p
 abbrev pub is_look_at : (p : ℕ) (access : Option Access) → Bool
 is_look_at p None = false
 is_look_at p (Some access) = is_look access.kind && is_page p access.word
 
+-- whether its maker is the CPU i, or a writer of this CPU
 abbrev pub is_for : (set : Setting) (i : ℕ) (who : Who) → Bool
 is_for set i (Writer w) = set.seat w == i
 is_for set i (Cpu j) = j == i
 is_for set i Timer = false
 
+-- whether the CPU i makes the step; a grant is none
 abbrev pub is_by : (set : Setting) (i : ℕ) (step : Step) → Bool
 is_by set i step = is_step (effect step).access && is_for set i (effect step).maker
 
+-- whether the step is a look at the page p, by whatever CPU
 abbrev pub looks_at : (p : ℕ) (step : Step) → Bool
 looks_at p step = is_look_at p (effect step).access
 
@@ -67,16 +71,16 @@ all_pages = sixteen_pages ++ clear 0 (Context 0) ∷ four_pages 32 ++ four_pages
     ++ fold 0 (Domain 0) ∷ clear 0 (Domain 0) ∷ []
 
 -- the second CPU looks at the page 0, which the first one dirtied
-abbrev pub looked : List Step
-looked = one_page 0 ++ look 1 0 ∷ []
+abbrev pub second_cpu_looks : List Step
+second_cpu_looks = one_page 0 ++ look 1 0 ∷ []
 
 -- it claims the page, and so holds it
-abbrev pub claimed : List Step
-claimed = looked ++ claim 1 0 ∷ []
+abbrev pub second_cpu_claims : List Step
+second_cpu_claims = second_cpu_looks ++ claim 1 0 ∷ []
 
 -- it completes the page, and pays what it owes
-abbrev pub completed : List Step
-completed = claimed ++ complete 1 0 ∷ add 1 (Context 0) ∷ add 1 (Domain 0) ∷ []
+abbrev pub second_cpu_completes : List Step
+second_cpu_completes = second_cpu_claims ++ complete 1 0 ∷ add 1 (Context 0) ∷ add 1 (Domain 0) ∷ []
 
 -- the first writer loads what a grant needs
 abbrev pub loads : List Step
@@ -90,6 +94,7 @@ in_hand = peak 0 9 ∷ unseal 0 ∷ thresh 0 nine ∷ []
 abbrev pub unlawful : Limits
 unlawful = record { thresh = 9; bg = 4; hard = 8 }
 
+-- steps on counters: no CPU pays what it doesn't owe, pays twice or pays for another, and no load is for a writer or a CPU that isn't there
 pub record CounterStepsAreRefused : Type 0 where
   pub add_with_nothing_owed : Refuses [] (add 0 (Context 0))
   pub add_again : Refuses (one_page 0) (add 0 (Context 0))
@@ -104,6 +109,7 @@ pub record CounterStepsAreRefused : Type 0 where
   pub count_for_no_writer : Refuses [] (count (Writer 2) (Domain 0))
   pub count_for_no_cpu : Refuses [] (count (Cpu 2) (Domain 0))
 
+-- steps on pages: a writer needs a page left, a claim its look and a claimable page, a completion and giving back a page that is held
 pub record PageStepsAreRefused : Type 0 where
   pub dirty_by_no_writer : Refuses [] (dirty 2 0)
   pub dirty_of_no_page : Refuses [] (dirty 0 64)
@@ -113,27 +119,28 @@ pub record PageStepsAreRefused : Type 0 where
   pub look_by_no_cpu : Refuses [] (look 2 0)
   pub look_at_no_page : Refuses [] (look 0 64)
   pub claim_without_a_look : Refuses (one_page 0) (claim 1 0)
-  pub claim_after_another_step : Refuses (looked ++ mark 1 0 ∷ []) (claim 1 0)
+  pub claim_after_another_step : Refuses (second_cpu_looks ++ mark 1 0 ∷ []) (claim 1 0)
   pub claim_of_another_page : Refuses (one_page 0 ++ one_page 2 ++ look 1 0 ∷ []) (claim 1 2)
-  pub claim_by_another_cpu : Refuses looked (claim 0 0)
-  pub claim_again : Refuses claimed (claim 1 0)
+  pub claim_by_another_cpu : Refuses second_cpu_looks (claim 0 0)
+  pub claim_again : Refuses second_cpu_claims (claim 1 0)
   pub claim_of_a_clean_page : Refuses (look 1 0 ∷ []) (claim 1 0)
-  pub claim_under_writeback : Refuses (claimed ++ one_page 0 ++ look 1 0 ∷ []) (claim 1 0)
-  pub complete_of_a_page_not_held : Refuses looked (complete 1 0)
-  pub complete_by_another_cpu : Refuses claimed (complete 0 0)
-  pub complete_while_a_counter_is_owed : Refuses (claimed ++ dirty 1 1 ∷ []) (complete 1 0)
-  pub complete_again : Refuses completed (complete 1 0)
+  pub claim_under_writeback : Refuses (second_cpu_claims ++ one_page 0 ++ look 1 0 ∷ []) (claim 1 0)
+  pub complete_of_a_page_not_held : Refuses second_cpu_looks (complete 1 0)
+  pub complete_by_another_cpu : Refuses second_cpu_claims (complete 0 0)
+  pub complete_while_a_counter_is_owed : Refuses (second_cpu_claims ++ dirty 1 1 ∷ []) (complete 1 0)
+  pub complete_again : Refuses second_cpu_completes (complete 1 0)
   pub complete_of_a_page_given_back : Refuses redirtied_page (complete 1 0)
-  pub back_without_a_look : Refuses claimed (back 1 0)
-  pub back_after_another_step : Refuses (claimed ++ look 1 0 ∷ mark 1 0 ∷ []) (back 1 0)
-  pub back_of_another_page : Refuses (claimed ++ look 1 2 ∷ []) (back 1 0)
-  pub back_of_no_page : Refuses claimed (back 1 64)
-  pub back_of_a_page_not_held : Refuses looked (back 1 0)
-  pub back_by_another_cpu : Refuses (claimed ++ look 0 0 ∷ []) (back 0 0)
-  pub back_while_a_counter_is_owed : Refuses (claimed ++ dirty 1 1 ∷ look 1 0 ∷ []) (back 1 0)
-  pub back_of_a_completed_page : Refuses (completed ++ look 1 0 ∷ []) (back 1 0)
+  pub back_without_a_look : Refuses second_cpu_claims (back 1 0)
+  pub back_after_another_step : Refuses (second_cpu_claims ++ look 1 0 ∷ mark 1 0 ∷ []) (back 1 0)
+  pub back_of_another_page : Refuses (second_cpu_claims ++ look 1 2 ∷ []) (back 1 0)
+  pub back_of_no_page : Refuses second_cpu_claims (back 1 64)
+  pub back_of_a_page_not_held : Refuses second_cpu_looks (back 1 0)
+  pub back_by_another_cpu : Refuses (second_cpu_claims ++ look 0 0 ∷ []) (back 0 0)
+  pub back_while_a_counter_is_owed : Refuses (second_cpu_claims ++ dirty 1 1 ∷ look 1 0 ∷ []) (back 1 0)
+  pub back_of_a_completed_page : Refuses (second_cpu_completes ++ look 1 0 ∷ []) (back 1 0)
   pub back_again : Refuses (redirtied_page ++ look 1 0 ∷ []) (back 1 0)
 
+-- publications and loads of limits keep to the order of their steps; and marks are set and cleared by CPUs that there are
 pub record LimitStepsAreRefused : Type 0 where
   pub unseal_again : Refuses (unseal 0 ∷ []) (unseal 0)
   pub thresh_without_a_raise : Refuses (unseal 0 ∷ []) (thresh 0 eight)
@@ -160,6 +167,7 @@ pub record LimitStepsAreRefused : Type 0 where
   pub mark_by_no_cpu : Refuses [] (mark 2 0)
   pub unmark_by_no_cpu : Refuses [] (unmark 2 0)
 
+-- grants: they need fresh loads of each domain that let the writer through, and are of one page at least and of a cap at most
 pub record GrantsAreRefused : Type 0 where
   pub without_loads : Refuses [] (grant 0 1)
   pub with_limits_alone : Refuses (load (Writer 0) 0 0) (grant 0 1)

@@ -26,6 +26,7 @@ MayIsKnown = (set : Setting) (step : Step) (s : State) → is_by_timer step ≡ 
     → (RecordAllows set step (s.cpu (maker_of set step)) → Allowed set step s)
     × (Allowed set step s → RecordAllows set step (s.cpu (maker_of set step)))
 
+-- the same for the timer: its record alone decides whether it may make a step
 abbrev pub TimerMayIsKnown : Type 0
 TimerMayIsKnown = (set : Setting) (step : Step) (s : State) → is_by_timer step ≡ true
     → (TimerAllows step s.timer → Allowed set step s) × (Allowed set step s → TimerAllows step s.timer)
@@ -36,6 +37,7 @@ pub record BecomesKnown (set : Setting) (step : Step) (s : State) : Type 0 where
       (put s.cpu (maker_of set step) (record_after set step (found_by set step s) (s.cpu (maker_of set step))))
   pub timer : (after set step s).timer ≡ s.timer
 
+-- so it is with every allowed step of a CPU, wherever the rule holds
 abbrev pub RecordIsKnown : Type 0
 RecordIsKnown = (set : Setting) (step : Step) (s : State) → IsSetting set → Rule set s → Allowed set step s
     → is_by_timer step ≡ false → BecomesKnown set step s
@@ -45,6 +47,7 @@ pub record TimerBecomesKnown (set : Setting) (step : Step) (s : State) : Type 0 
   pub cpus : ◌≡◌ {A = ℕ → CpuRecord} (after set step s).cpu s.cpu
   pub timer : (after set step s).timer ≡ timer_after step (found_by set step s) s.timer
 
+-- so it is with every step of the timer
 abbrev pub TimerIsKnown : Type 0
 TimerIsKnown = (set : Setting) (step : Step) (s : State) → IsSetting set → Rule set s → is_by_timer step ≡ true
     → TimerBecomesKnown set step s
@@ -72,6 +75,7 @@ pub record WordsTell (set : Setting) (s : State) : Type 0 where
       → set.coding.limits_in (sequence_now set d s) (thresh_now set d s) ≡ s.published d
   pub pages : (p : ℕ) → p < set.pages → set.coding.page_bits (page_now set p s) p ≡ s.book p
 
+-- so it is with all words, wherever the rule holds
 abbrev pub WordsAreRead : Type 0
 WordsAreRead = (set : Setting) (s : State) → IsSetting set → Rule set s → WordsTell set s
 
@@ -81,6 +85,7 @@ IsFresh set (Writer w) version x s = NoneAhead version x (s.cpu (set.seat w))
 IsFresh set (Cpu i) version x s = NoneAhead version x (s.cpu i)
 IsFresh set Timer version x s = AreBehind version x s.timer.readings
 
+-- so a load of a counter goes back for nobody
 abbrev pub CountIsFresh : Type 0
 CountIsFresh = (set : Setting) (s : State) → IsSetting set → Rule set s → (who : Who) (x : Counter)
     → IsFresh set who (version_in (shared_now x s)) x s
@@ -93,6 +98,7 @@ pub record AreReadWhole (set : Setting) (d : ℕ) (s : State) (r : CpuRecord) : 
       ≡ record { domain = d; version = version_of d s.timer.published; limits = s.published d }
   pub fresh : All (λ t. t.domain ≡ d → t.version ≤ version_of d s.timer.published) r.triples
 
+-- so it is with every load of limits whose last step finds the sequence word as it was, with an even sequence
 abbrev pub LimitsAreWhole : Type 0
 LimitsAreWhole = (set : Setting) (s : State) → IsSetting set → Rule set s → (i d : ℕ)
     → is_whole set (found_of d (s.cpu i).loading) (sequence_now set d s) ≡ true → AreReadWhole set d s (s.cpu i)
@@ -103,6 +109,7 @@ pub record OwnTells (set : Setting) (s : State) (i : ℕ) (x : Counter) : Type 0
   pub near : unsigned_abs (s.own x i) ≤ batch_of set x
   pub units : (a : ℤ) → debt_to x (s.cpu i).debts ≡ Event a → unsigned_abs a ≡ 1
 
+-- so it is with each CPU and each counter
 abbrev pub OwnIsTold : Type 0
 OwnIsTold = (set : Setting) (s : State) → Rule set s → (i : ℕ) (x : Counter) → OwnTells set s i x
 
@@ -111,6 +118,7 @@ pub record FoldsTell (set : Setting) (s : State) (x : Counter) : Type 0 where
   pub all : total set.cpus (λ i. length (folds_of x (s.cpu i).folds)) ≡ length (s.folds x)
   pub sums : (v : ℕ) → sum_at v (s.folds x) ≡ recorded_sum set.cpus v (λ i. folds_of x (s.cpu i).folds)
 
+-- so it is with each counter, wherever the rule holds
 abbrev pub FoldsAreRecorded : Type 0
 FoldsAreRecorded = (set : Setting) (s : State) → Rule set s → (x : Counter) → FoldsTell set s x
 

@@ -18,9 +18,11 @@ pub use Rattle.wbt_grant.specs.Effects.{is_timer, cpu_for, own_told, add_record,
 
 -- who makes a step: the timer, or the CPU of this number
 
+-- whether the timer makes it
 abbrev pub is_by_timer : (step : Step) → Bool
 is_by_timer step = is_timer (effect step).maker
 
+-- the CPU that makes it; 0, which says nothing, where the timer does
 abbrev pub maker_of : (set : Setting) (step : Step) → ℕ
 maker_of set step = cpu_for set (effect step).maker
 
@@ -39,6 +41,7 @@ abbrev pub found_at : (set : Setting) (i : ℕ) (access : Option Access) (s : St
 found_at set i None s = 0
 found_at set i (Some access) s = number_in set i access.word s
 
+-- the number that a step finds in its word, whoever makes it
 abbrev pub found_by : (set : Setting) (step : Step) (s : State) → ℕ
 found_by set step s = found_at set (maker_of set step) (effect step).access s
 
@@ -54,6 +57,7 @@ timer_after step found r = (effect step).timer_after found r
 abbrev pub RecordAllows : (set : Setting) (step : Step) (r : CpuRecord) → Type 0
 RecordAllows set step r = (effect step).RecordAllows set r
 
+-- where the record of the timer allows it
 abbrev pub TimerAllows : (step : Step) (r : TimerRecord) → Type 0
 TimerAllows step r = (effect step).TimerAllows r
 
@@ -66,6 +70,7 @@ pub record Told : Type 0 where
   pub readings : List Reading
   pub triples : List DomainLimits
 
+-- what is told in a CPU's record
 abbrev pub told_in : (r : CpuRecord) → Told
 told_in r = record {
   folds = r.folds;

@@ -29,6 +29,7 @@ after_claim_beside set page = run set (claim_beside page) (opening set)
 abbrev pub still_dirty : Bits
 still_dirty = record { dirty = true; writeback = false }
 
+-- the same page where its claim hit
 abbrev pub under_writeback : Bits
 under_writeback = record { dirty = false; writeback = true }
 
@@ -46,6 +47,7 @@ pub record NeighboursMakeClaimsMiss : Type 0 where
 abbrev pub back_beside : (page : ℕ) → List Step
 back_beside page = one_page 0 ++ look 1 0 ∷ claim 1 0 ∷ look 1 0 ∷ dirty 0 page ∷ back 1 0 ∷ []
 
+-- the state after that, with its pages in shared words or not
 abbrev pub after_back_beside : (set : Setting) (page : ℕ) → State
 after_back_beside set page = run set (back_beside page) (opening set)
 

@@ -11,7 +11,7 @@ use Rattle.wbt_journal.specs.declared.entry.CheckEntry.{CheckEntry}
 use Rattle.wbt_journal.specs.declared.entry.DomainLine.{DomainLine}
 use Rattle.wbt_journal.specs.declared.entry.EstEntry.{EstEntry}
 use Rattle.wbt_journal.specs.declared.timer.TimerEntry.{TimerEntry}
-use Rattle.wbt_journal.specs.Counts.{IsFold, is_fold, is_version, of_counter, FoldsUp, fold_fault, Load, IsSum, is_sum, sum_to, Version, is_fresh, loads_in, reads_of, CountsAreSums, CountsAreFresh, count_fault}
+use Rattle.wbt_journal.specs.Counts.{IsFold, is_fold, is_version, of_counter, FoldsUp, fold_fault, Load, IsSum, is_sum, sum_to, Version, is_fresh_count, loads_in, reads_of, CountsAreSums, CountsAreFresh, count_fault}
 use Rattle.wbt_journal.specs.Estimates.{Follows, follows, newest_of, IsNext, EstimatesFollow, Named, is_no_newer, NamesEstimate, ChecksNameEstimates, NamesGoOn, Sight, decision_at, next_fault, name_fault, estimate_fault, estimates_of}
 use Rattle.wbt_journal.specs.Each.{Each}
 use Rattle.wbt_journal.specs.Effects.{Share, effect}
@@ -45,15 +45,15 @@ sum_decides trace all load = like (is_sum trace all load)
     (λ p. record { named = p.0; within = p.1.0; sum = p.1.1 })
     (λ s. (s.named, (s.within, s.sum)))
 
-count_by : (trace : Trace) (all : List Fold) (seen : List Version) (load : Load) → Decides (is_sum trace all load && is_fresh seen load) (IsSum trace all load × (is_fresh seen load ≡ true))
-count_by trace all seen load = Decides-and (is_sum trace all load) (is_fresh seen load) (sum_decides trace all load) (is_true (is_fresh seen load))
+count_by : (trace : Trace) (all : List Fold) (seen : List Version) (load : Load) → Decides (is_sum trace all load && is_fresh_count seen load) (IsSum trace all load × (is_fresh_count seen load ≡ true))
+count_by trace all seen load = Decides-and (is_sum trace all load) (is_fresh_count seen load) (sum_decides trace all load) (is_true (is_fresh_count seen load))
 
 pub count_tells : (trace : Trace) (all : List Fold) (seen : List Version) (item : Item) → Tells (count_fault trace all seen item) (CountsAreSums trace all item × CountsAreFresh seen item)
 count_tells trace all seen (begins cpu) = record { holds = λ is. (tt, tt); none = λ p. refl }
 count_tells trace all seen (tells cpu entry) = tells_like _
-    (list_tells (λ load. is_sum trace all load && is_fresh seen load) (λ load. IsSum trace all load × (is_fresh seen load ≡ true)) (count_by trace all seen) 0 (loads_in entry))
-    (each_both (IsSum trace all) (λ load. is_fresh seen load ≡ true) (loads_in entry))
-    (λ both. each_one (IsSum trace all) (λ load. is_fresh seen load ≡ true) (loads_in entry) both.0 both.1)
+    (list_tells (λ load. is_sum trace all load && is_fresh_count seen load) (λ load. IsSum trace all load × (is_fresh_count seen load ≡ true)) (count_by trace all seen) 0 (loads_in entry))
+    (each_both (IsSum trace all) (λ load. is_fresh_count seen load ≡ true) (loads_in entry))
+    (λ both. each_one (IsSum trace all) (λ load. is_fresh_count seen load ≡ true) (loads_in entry) both.0 both.1)
 
 -- ---- triples and fractions
 

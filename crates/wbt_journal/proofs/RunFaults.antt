@@ -24,7 +24,7 @@ use Rattle.wbt_rules.specs.Flusher.{IsWithinChunk, is_within_chunk, chunk_at}
 use Rattle.wbt_rules.specs.Thresholds.{global_at, cgroup_with}
 use Rattle.wbt_journal.specs.Pages.{is_at, next_page, page_of, NamesPage, Writes, PagesAreNext, write_fault, task_fault, move_fault, page_fault}
 use Rattle.wbt_journal.specs.Side.{is_own_task}
-use Rattle.wbt_journal.specs.Timer.{AreThresholds, are_thresholds, IsGlobal, is_global, IsCgroup, is_cgroup, HasThresholds, has_thresholds, HardBy, hard_by, Line, Opens, opens, LineFollows, line_follows, LimitsBy, limits_by, is_opening, MayBegin, TimerGoesOn, timer_fault}
+use Rattle.wbt_journal.specs.Timer.{AreThresholds, are_thresholds, IsGlobal, is_global, IsCgroup, is_cgroup, HasThresholds, has_thresholds, HardBy, hard_by, LastLine, Opens, opens, LineFollows, line_follows, LimitsBy, limits_by, is_opening, MayBegin, TimerGoesOn, timer_fault}
 use Rattle.wbt_journal.specs.Told.{Told}
 use Rattle.wbt_journal.specs.Waits.{WaitsOnOwn}
 use Rattle.wbt_journal.specs.declared.entry.CheckEntry.{CheckEntry}
@@ -58,20 +58,20 @@ hard_decides : (at_least : Bool) (before thresh hard : ℕ) → Decides (hard_by
 hard_decides true before thresh hard = Decides-and _ _ (is_le hard before) (is_le before (hard + (before - thresh) / 32))
 hard_decides false before thresh hard = Decides-eqb hard thresh
 
-opens_decides : (trace : Trace) (opened : ℕ) (lines : List Line) (domain now : ℕ) (limits : Limits) → Decides (opens trace opened lines domain now limits) (Opens trace opened lines domain now limits)
+opens_decides : (trace : Trace) (opened : ℕ) (lines : List LastLine) (domain now : ℕ) (limits : Limits) → Decides (opens trace opened lines domain now limits) (Opens trace opened lines domain now limits)
 opens_decides trace opened lines domain now limits = like (opens trace opened lines domain now limits)
     (Decides-and _ _ (Decides-eqb domain (length lines)) (Decides-and _ _ (Decides-eqb now opened)
     (Decides-and _ _ (has_decides trace now domain limits) (Decides-eqb limits.hard limits.thresh))))
     (λ p. record { next = p.0; at_once = p.1.0; thresholds = p.1.1.0; hard = p.1.1.1 })
     (λ o. (o.next, (o.at_once, (o.thresholds, o.hard))))
 
-follows_decides : (trace : Trace) (before : Option Line) (domain now : ℕ) (limits : Limits) → Decides (line_follows trace before domain now limits) (LineFollows trace before domain now limits)
+follows_decides : (trace : Trace) (before : Option LastLine) (domain now : ℕ) (limits : Limits) → Decides (line_follows trace before domain now limits) (LineFollows trace before domain now limits)
 follows_decides trace None domain now limits = ((λ is. cc), λ none. absurd none)
 follows_decides trace (Some before) domain now limits = like (line_follows trace (Some before) domain now limits)
     (Decides-and _ _ (is_le (before.now + 200) now) (Decides-and _ _ (has_decides trace now domain limits) (hard_decides (nat_le limits.thresh before.hard) before.hard limits.thresh limits.hard)))
     (λ p. (p.0, p.1.0, p.1.1)) (λ f. (f.0, (f.1, f.2)))
 
-limits_decides : (is_opening : Bool) (trace : Trace) (opened : ℕ) (lines : List Line) (domain now : ℕ) (limits : Limits)
+limits_decides : (is_opening : Bool) (trace : Trace) (opened : ℕ) (lines : List LastLine) (domain now : ℕ) (limits : Limits)
     → Decides (limits_by is_opening trace opened lines domain now limits) (LimitsBy is_opening trace opened lines domain now limits)
 limits_decides true trace opened lines domain now limits = opens_decides trace opened lines domain now limits
 limits_decides false trace opened lines domain now limits = follows_decides trace (slice_get lines domain) domain now limits
@@ -83,13 +83,13 @@ begin_by false named is = (refl, is)
 begin_back : (opening named : Bool) → opening ≡ false → named ≡ true → (if opening then false else named) ≡ true
 begin_back opening named closed there = ap (λ o. if o then false else named) closed ∙ there
 
-begin_decides : (trace : Trace) (lines : List Line) (domain : ℕ) → Decides (if is_opening trace lines then false else nat_lt domain (domains trace)) (MayBegin trace lines domain)
+begin_decides : (trace : Trace) (lines : List LastLine) (domain : ℕ) → Decides (if is_opening trace lines then false else nat_lt domain (domains trace)) (MayBegin trace lines domain)
 begin_decides trace lines domain = (
   (λ is. let p = begin_by (is_opening trace lines) (nat_lt domain (domains trace)) is in record { opened = p.0; named = p.1 }),
   (λ b. begin_back (is_opening trace lines) (nat_lt domain (domains trace)) b.opened b.named),
 )
 
-pub timer_tells : (trace : Trace) (opened : ℕ) (lines : List Line) (entry : TimerEntry) → Tells (timer_fault trace opened lines entry) (TimerGoesOn trace opened lines entry)
+pub timer_tells : (trace : Trace) (opened : ℕ) (lines : List LastLine) (entry : TimerEntry) → Tells (timer_fault trace opened lines entry) (TimerGoesOn trace opened lines entry)
 timer_tells trace opened lines (timer.Limits domain now limits) = test_tells _ 0 (limits_decides (is_opening trace lines) trace opened lines domain now limits)
 timer_tells trace opened lines (timer.Period domain k) = test_tells _ 0 (begin_decides trace lines domain)
 

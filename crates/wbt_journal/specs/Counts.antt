@@ -138,8 +138,8 @@ abbrev pub is_behind : (x : Counter) (version : ℕ) (seen : Version) → Bool
 is_behind x version seen = not (is_same x seen.counter) || nat_le seen.version version
 
 -- a count isn't older than what its CPU had seen of the counter
-abbrev pub is_fresh : (seen : List Version) (load : Load) → Bool
-is_fresh seen load = list_all (is_behind load.counter load.count.version) seen
+abbrev pub is_fresh_count : (seen : List Version) (load : Load) → Bool
+is_fresh_count seen load = list_all (is_behind load.counter load.count.version) seen
 
 -- each count that an item's check loaded is the sum of the folds up to its version
 abbrev pub CountsAreSums : (trace : Trace) (all : List Fold) (item : Item) → Type 0
@@ -149,7 +149,7 @@ CountsAreSums trace all (tells cpu entry) = Each (IsSum trace all) (loads_in ent
 -- no count that an item's check loaded is older than what its CPU has seen
 abbrev pub CountsAreFresh : (seen : List Version) (item : Item) → Type 0
 CountsAreFresh seen (begins cpu) = Unit {0}
-CountsAreFresh seen (tells cpu entry) = Each (λ load. is_fresh seen load ≡ true) (loads_in entry)
+CountsAreFresh seen (tells cpu entry) = Each (λ load. is_fresh_count seen load ≡ true) (loads_in entry)
 
 -- what a CPU has seen begins with its part
 abbrev pub versions_after : (seen : List Version) (item : Item) → List Version
@@ -159,4 +159,4 @@ versions_after seen (tells cpu entry) = versions_in entry ++ seen
 -- the fault of an item's first count that is no sum of folds or is older than what its CPU has seen
 abbrev pub count_fault : (trace : Trace) (all : List Fold) (seen : List Version) (item : Item) → Option ℕ
 count_fault trace all seen (begins cpu) = None
-count_fault trace all seen (tells cpu entry) = first_failed (λ load. is_sum trace all load && is_fresh seen load) 0 (loads_in entry)
+count_fault trace all seen (tells cpu entry) = first_failed (λ load. is_sum trace all load && is_fresh_count seen load) 0 (loads_in entry)

@@ -77,71 +77,71 @@ hard_follows before limits = hard_by (nat_le limits.thresh before) before limits
 -- ---- line by line
 
 -- the last line of a domain: its moment and its hard limit
-pub record Line : Type 0 where
+pub record LastLine : Type 0 where
   pub now : ℕ
   pub hard : ℕ
 
 -- the last lines of the domains that have one, by number; while the opening goes on there are fewer than domains
-pub record Opens (trace : Trace) (opened : ℕ) (lines : List Line) (domain now : ℕ) (limits : Limits) : Type 0 where
+pub record Opens (trace : Trace) (opened : ℕ) (lines : List LastLine) (domain now : ℕ) (limits : Limits) : Type 0 where
   pub next : domain ≡ length lines
   pub at_once : now ≡ opened
   pub thresholds : HasThresholds trace now domain limits
   pub hard : limits.hard ≡ limits.thresh
 
 -- decides whether a line is that of the opening of the next domain
-abbrev pub opens : (trace : Trace) (opened : ℕ) (lines : List Line) (domain now : ℕ) (limits : Limits) → Bool
+abbrev pub opens : (trace : Trace) (opened : ℕ) (lines : List LastLine) (domain now : ℕ) (limits : Limits) → Bool
 opens trace opened lines domain now limits =
     domain == length lines && (now == opened && (has_thresholds trace now domain limits && limits.hard == limits.thresh))
 
 -- a line of a domain that there is, `TIMER_REST` ticks or more after the one before
-abbrev pub LineFollows : (trace : Trace) (before : Option Line) (domain now : ℕ) (limits : Limits) → Type 0
+abbrev pub LineFollows : (trace : Trace) (before : Option LastLine) (domain now : ℕ) (limits : Limits) → Type 0
 LineFollows trace None domain now limits = ⊥
 LineFollows trace (Some before) domain now limits =
     (before.now + TIMER_REST ≤ now) × (HasThresholds trace now domain limits) × HardFollows before.hard limits
 
 -- decides whether a line may follow the domain's line before
-abbrev pub line_follows : (trace : Trace) (before : Option Line) (domain now : ℕ) (limits : Limits) → Bool
+abbrev pub line_follows : (trace : Trace) (before : Option LastLine) (domain now : ℕ) (limits : Limits) → Bool
 line_follows trace None domain now limits = false
 line_follows trace (Some before) domain now limits =
     nat_le (before.now + TIMER_REST) now && (has_thresholds trace now domain limits && hard_follows before.hard limits)
 
 -- while the opening goes on, the next line is that of the next domain
-abbrev pub LimitsBy : (is_opening : Bool) (trace : Trace) (opened : ℕ) (lines : List Line) (domain now : ℕ)
+abbrev pub LimitsBy : (is_opening : Bool) (trace : Trace) (opened : ℕ) (lines : List LastLine) (domain now : ℕ)
     (limits : Limits) → Type 0
 LimitsBy true trace opened lines domain now limits = Opens trace opened lines domain now limits
 LimitsBy false trace opened lines domain now limits = LineFollows trace (slice_get lines domain) domain now limits
 
 -- decides whether a line of limits may come
-abbrev pub limits_by : (is_opening : Bool) (trace : Trace) (opened : ℕ) (lines : List Line) (domain now : ℕ)
+abbrev pub limits_by : (is_opening : Bool) (trace : Trace) (opened : ℕ) (lines : List LastLine) (domain now : ℕ)
     (limits : Limits) → Bool
 limits_by true trace opened lines domain now limits = opens trace opened lines domain now limits
 limits_by false trace opened lines domain now limits = line_follows trace (slice_get lines domain) domain now limits
 
 -- whether a domain still lacks its line of the opening
-abbrev pub is_opening : (trace : Trace) (lines : List Line) → Bool
+abbrev pub is_opening : (trace : Trace) (lines : List LastLine) → Bool
 is_opening trace lines = nat_lt (length lines) (domains trace)
 
 -- no period begins before every domain has its limits
-pub record MayBegin (trace : Trace) (lines : List Line) (domain : ℕ) : Type 0 where
+pub record MayBegin (trace : Trace) (lines : List LastLine) (domain : ℕ) : Type 0 where
   pub opened : is_opening trace lines ≡ false
   pub named : nat_lt domain (domains trace) ≡ true
 
 -- an entry of the timer may come after the lines so far
-abbrev pub TimerGoesOn : (trace : Trace) (opened : ℕ) (lines : List Line) (entry : TimerEntry) → Type 0
+abbrev pub TimerGoesOn : (trace : Trace) (opened : ℕ) (lines : List LastLine) (entry : TimerEntry) → Type 0
 TimerGoesOn trace opened lines (timer.Limits domain now limits) = LimitsBy (is_opening trace lines) trace opened lines domain now limits
 TimerGoesOn trace opened lines (timer.Period domain k) = MayBegin trace lines domain
 
 -- the last lines with one of a domain: in the place of the one before, or added as the next domain's
-abbrev pub put_line : (domain : ℕ) (line : Line) (lines : List Line) → List Line
+abbrev pub put_line : (domain : ℕ) (line : LastLine) (lines : List LastLine) → List LastLine
 put_line domain line lines = if nat_lt domain (length lines) then set lines domain line else lines ++ line ∷ []
 
 -- the last lines of the domains after an entry; a period leaves them
-abbrev pub lines_after : (lines : List Line) (entry : TimerEntry) → List Line
+abbrev pub lines_after : (lines : List LastLine) (entry : TimerEntry) → List LastLine
 lines_after lines (timer.Limits domain now limits) = put_line domain (record { now = now; hard = limits.hard }) lines
 lines_after lines (timer.Period domain k) = lines
 
 -- the fault of a timer's entry that may not come
-abbrev pub timer_fault : (trace : Trace) (opened : ℕ) (lines : List Line) (entry : TimerEntry) → Option ℕ
+abbrev pub timer_fault : (trace : Trace) (opened : ℕ) (lines : List LastLine) (entry : TimerEntry) → Option ℕ
 timer_fault trace opened lines (timer.Limits domain now limits) = unless (limits_by (is_opening trace lines) trace opened lines domain now limits) 0
 timer_fault trace opened lines (timer.Period domain k) =
     unless (if is_opening trace lines then false else nat_lt domain (domains trace)) 0

@@ -1,5 +1,5 @@
 -- What a CPU's part of a journal tells: its entries, with the checks and estimates that they name in their places.
-use Rattle.std.specs.Prelude.{◌≡◌, ℕ, ◌+◌, Bool, List, [], ◌∷◌, length, flat_map, slice_get, Option, Some, None}
+use Rattle.std.specs.Prelude.{◌≡◌, ℕ, ◌+◌, Bool, List, [], ◌∷◌, length, flat_map, slice_get, Option, Some, None, ⊤}
 use Rattle.wbt_counter.specs.declared.record.Fold.{Fold}
 use Rattle.wbt_journal.specs.declared.entry.Entry.{Entry}
 use Rattle.wbt_journal.specs.declared.entry.Entry.TheVariants as entry
@@ -22,6 +22,22 @@ pub data Told : Type 0 where
   noticed : (flusher inode since : ℕ) → Told
   aged : (flusher inode due now : ℕ) → Told
   took : (flusher inode : ℕ) → Told
+
+-- an entry of a flusher's writeback: a page claimed, completed or given back, or pages handed to a disk or failed by it
+abbrev pub IsWriteback : (entry : Entry) → Type 0
+IsWriteback (entry.Claimed flusher page) = ⊤
+IsWriteback (entry.Batch flusher pages now until) = ⊤
+IsWriteback (entry.Done flusher page) = ⊤
+IsWriteback (entry.Fault flusher pages) = ⊤
+IsWriteback (entry.Back flusher page absorbed) = ⊤
+IsWriteback other = ⊥
+
+-- an entry of a flusher's waiting list: an inode noticed, or taken from it
+abbrev pub IsWaiting : (entry : Entry) → Type 0
+IsWaiting (entry.Noticed flusher inode since) = ⊤
+IsWaiting (entry.Aged flusher inode due now) = ⊤
+IsWaiting (entry.Taken flusher inode) = ⊤
+IsWaiting other = ⊥
 
 -- a name that has no place in its list tells nothing
 abbrev pub one_checked : (which : Option CheckEntry) → List Told

@@ -3,7 +3,7 @@
 ghost use Rattle.std.specs.Prelude.{◌≡◌, [], ◌∷◌, ◌++◌, pos, option_copied, flat_map};
 ghost use Rattle.wbt_journal.specs.Line.{line, line_text, lines_text, num};
 ghost use Rattle.wbt_journal.specs.Lines as spec;
-ghost use Rattle.wbt_journal.specs.Told.{told_entry, one_checked, one_estimated};
+ghost use Rattle.wbt_journal.specs.Told.{IsWriteback, IsWaiting, told_entry, one_checked, one_estimated};
 ghost use Rattle.wbt_journal.specs.Way.{Puts, way};
 
 use crate::entry::{CheckEntry, DomainLine, Entry, EstEntry};
@@ -156,6 +156,29 @@ impl Out {
                 ],
             ),
             Entry::Check(place) => self.named_check(sink, checks.get(place as usize)),
+            Entry::Share { domain, context, n } => self.line(
+                sink,
+                Word::Share,
+                &[small(domain), small(context), int(n)],
+            ),
+            Entry::Est(place) => self.named_estimate(sink, estimates.get(place as usize)),
+            Entry::Claimed { .. }
+            | Entry::Batch { .. }
+            | Entry::Done { .. }
+            | Entry::Fault { .. }
+            | Entry::Back { .. } => self.writeback(sink, entry),
+            Entry::Noticed { .. } | Entry::Aged { .. } | Entry::Taken { .. } => {
+                self.waiting(sink, entry)
+            }
+        }
+    }
+
+    // Puts the line of an entry of a flusher's writeback.
+    fn writeback<K: Sink>(&mut self, sink: &mut K, entry: &Entry)
+        requires writeback { IsWriteback entry.now }
+        ensures { Puts (lines_text (flat_map spec.told_lines (told_entry [] [] entry.entry.now))) (way (K.held sink.old) (K.faults sink.old) self.old) (way (K.held sink.new) (K.faults sink.new) self.new) }
+    {
+        match *entry {
             Entry::Claimed { flusher, page } => {
                 self.line(sink, Word::Claim, &[small(flusher), small(page)])
             }
@@ -172,12 +195,6 @@ impl Out {
             Entry::Done { flusher, page } => {
                 self.line(sink, Word::Done, &[small(flusher), small(page)])
             }
-            Entry::Share { domain, context, n } => self.line(
-                sink,
-                Word::Share,
-                &[small(domain), small(context), int(n)],
-            ),
-            Entry::Est(place) => self.named_estimate(sink, estimates.get(place as usize)),
             Entry::Fault { flusher, pages } => {
                 self.line(sink, Word::Fault, &[small(flusher), small(pages)])
             }
@@ -190,6 +207,16 @@ impl Out {
                 Word::Back,
                 &[small(flusher), small(page), back_field(absorbed)],
             ),
+            _ => unreachable!(),
+        }
+    }
+
+    // Puts the line of an entry of a flusher's waiting list.
+    fn waiting<K: Sink>(&mut self, sink: &mut K, entry: &Entry)
+        requires waiting { IsWaiting entry.now }
+        ensures { Puts (lines_text (flat_map spec.told_lines (told_entry [] [] entry.entry.now))) (way (K.held sink.old) (K.faults sink.old) self.old) (way (K.held sink.new) (K.faults sink.new) self.new) }
+    {
+        match *entry {
             Entry::Noticed {
                 flusher,
                 inode,
@@ -212,6 +239,7 @@ impl Out {
             Entry::Taken { flusher, inode } => {
                 self.line(sink, Word::Take, &[small(flusher), small(inode)])
             }
+            _ => unreachable!(),
         }
     }
 

@@ -9,6 +9,7 @@ ghost use Rattle.wbt_journal.specs.Ranges.{HaveForms, TimedHasForm, EntryHasForm
 ghost use Rattle.wbt_journal.specs.Text as text;
 ghost use Rattle.wbt_journal.specs.Text.{journal_lines, census_line};
 ghost use Rattle.wbt_journal.specs.Told as told;
+ghost use Rattle.wbt_journal.specs.Told.{IsWriteback, IsWaiting};
 ghost use Rattle.wbt_journal.specs.declared.field.Field.TheVariants.{Int};
 ghost use Rattle.wbt_journal.specs.declared.word.Word.TheVariants as word;
 
@@ -100,6 +101,26 @@ fn entry_has_forms(entry: &Entry)
         }
         Entry::Folded(fold) => fold_has_form(&fold),
         Entry::Check(_) => {}
+        Entry::Share { domain, context, n } => {
+            is_small(domain);
+            is_small(context);
+            is_big(n);
+        }
+        Entry::Est(_) => {}
+        Entry::Claimed { .. }
+        | Entry::Batch { .. }
+        | Entry::Done { .. }
+        | Entry::Fault { .. }
+        | Entry::Back { .. } => writeback_has_form(entry),
+        Entry::Noticed { .. } | Entry::Aged { .. } | Entry::Taken { .. } => waiting_has_form(entry),
+    }
+}
+
+fn writeback_has_form(entry: &Entry)
+    requires writeback { IsWriteback entry.now }
+    ensures { EntryHasForm entry.entry.now }
+{
+    match *entry {
         Entry::Claimed { flusher, page } => {
             is_small(flusher);
             is_small(page);
@@ -119,12 +140,6 @@ fn entry_has_forms(entry: &Entry)
             is_small(flusher);
             is_small(page);
         }
-        Entry::Share { domain, context, n } => {
-            is_small(domain);
-            is_small(context);
-            is_big(n);
-        }
-        Entry::Est(_) => {}
         Entry::Fault { flusher, pages } => {
             is_small(flusher);
             is_small(pages);
@@ -133,6 +148,15 @@ fn entry_has_forms(entry: &Entry)
             is_small(flusher);
             is_small(page);
         }
+        _ => unreachable!(),
+    }
+}
+
+fn waiting_has_form(entry: &Entry)
+    requires waiting { IsWaiting entry.now }
+    ensures { EntryHasForm entry.entry.now }
+{
+    match *entry {
         Entry::Noticed {
             flusher,
             inode,
@@ -157,6 +181,7 @@ fn entry_has_forms(entry: &Entry)
             is_small(flusher);
             is_small(inode);
         }
+        _ => unreachable!(),
     }
 }
 

@@ -12,9 +12,11 @@ use Rattle.wbt_pause.specs.declared.reads.Task.{Task}
 abbrev pub every_domain : (test : DomainRead → Bool) (reads : Reads) → Bool
 every_domain test reads = test reads.global && option_map_or test reads.cgroup true
 
+-- whether the global domain or the cgroup's passes a test
 abbrev pub some_domain : (test : DomainRead → Bool) (reads : Reads) → Bool
 some_domain test reads = test reads.global || option_map_or test reads.cgroup false
 
+-- the least that a number has among the domains: that of the global domain where there is no cgroup
 abbrev pub least_of : (number : DomainRead → ℕ) (reads : Reads) → ℕ
 least_of number reads =
     option_map_or (λ cgroup. min (number reads.global) (number cgroup)) reads.cgroup (number reads.global)
@@ -23,6 +25,7 @@ least_of number reads =
 abbrev pub EachDomain : (P : DomainRead → Type 0) (reads : Reads) → Type 0
 EachDomain P reads = P reads.global × IfSome reads.cgroup P
 
+-- a fact of the global domain or of the cgroup's
 abbrev pub SomeDomain : (P : DomainRead → Type 0) (reads : Reads) → Type 0
 SomeDomain P reads = P reads.global ⊎ IsSomeAnd reads.cgroup P
 

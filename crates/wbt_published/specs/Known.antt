@@ -56,6 +56,7 @@ with_right known = record known { reads = [] }
 abbrev pub left_with : (goes : Bool) (known : Known) → Known
 left_with goes known = cond goes (without_right known) known
 
+-- the new pass: it may publish where the context belongs to this owner, as far as the old one might
 abbrev pub handed_on : (goes : Bool) (known : Known) → Known
 handed_on goes known = cond goes (with_right known) (reader known)
 

@@ -28,9 +28,11 @@ pub record Seats : Type 0 where
 abbrev pub cell_names : {Q A : Type 0} → (cells : List (Wide Stored (Doing Stored Known) Q 8 A)) → List TableId
 cell_names cells = map (λ cell. cell.table.shared.table_id) cells
 
+-- which cells the seats of a pass are of
 abbrev pub names_of : (seats : List Seat) → List TableId
 names_of seats = map (λ (seat : Seat). seat.name) seats
 
+-- what a pass knows, by context
 abbrev pub known_by : (seats : List Seat) → List Known
 known_by seats = map (λ (seat : Seat). seat.known) seats
 
@@ -48,6 +50,7 @@ all_left [] owner known = []
 all_left (o ∷ owners) owner [] = []
 all_left (o ∷ owners) owner (k ∷ known) = left_with (o == owner) k ∷ all_left owners owner known
 
+-- the new pass, by context
 abbrev pub all_handed : (owners : List ℕ) (owner : ℕ) (known : List Known) → List Known
 all_handed [] owner known = []
 all_handed (o ∷ owners) owner [] = []

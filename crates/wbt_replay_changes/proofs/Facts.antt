@@ -1,5 +1,5 @@
 -- The facts of each change hold where a move makes it: the one walk over the moves of a CPU's turn.
-use Rattle.std.proofs.Common.{◌≡◌, ℕ, zero, suc, Bool, true, false, cond, eqb, nat_le, List, [], ◌∷◌, ◌++◌, length, get_or, Option, Some, None, refl}
+use Rattle.std.proofs.Common.{◌≡◌, ℕ, zero, suc, Bool, true, false, eqb, nat_le, List, [], ◌∷◌, length, get_or, Option, Some, None, refl}
 use Rattle.wbt_trace.specs.declared.trace.Trace.{Trace}
 use Rattle.wbt_book.specs.Book.{is_claimable}
 use Rattle.wbt_book.specs.PageWords.{shared_word}
@@ -15,81 +15,29 @@ use Rattle.wbt_rules.specs.declared.scan.Scan.{Scan}
 use Rattle.wbt_replay_moves.specs.Definition.Check.{writer_of}
 use Rattle.wbt_replay_moves.specs.Definition.Estimates.{sample_of}
 use Rattle.wbt_replay_moves.specs.Definition.Flight.{part_in}
-use Rattle.wbt_replay_moves.specs.Definition.Scan.{is_over}
+use Rattle.wbt_replay_moves.specs.Definition.Scan.{is_scan_over}
 use Rattle.wbt_replay_moves.specs.Definition.State.{State, cpu_of, task_of, flusher_of, queue_of, waiting_of, domain_of, writeback_of}
 use Rattle.wbt_replay_moves.specs.Definition.Writer.{has_nothing}
-use Rattle.wbt_replay_moves.specs.declared.state.ReplayPhase.{ReplayPhase}
 use Rattle.wbt_replay_moves.specs.declared.state.ReplayPhase.TheVariants as phase
 use Rattle.wbt_replay_moves.specs.declared.state.ReplayTurn.{ReplayTurn}
 use Rattle.wbt_replay_moves.specs.declared.state.ReplayWork.{ReplayWork}
 use Rattle.wbt_replay_moves.specs.declared.state.ReplayWork.TheVariants as work
-use Rattle.wbt_replay_moves.specs.declared.state.Whose.{Whose}
-use Rattle.wbt_replay_moves.specs.declared.state.Whose.TheVariants as whose
 use Rattle.wbt_replay_moves.specs.declared.todo.Silent.{Silent}
 use Rattle.wbt_replay_moves.specs.declared.todo.Silent.TheVariants as silent
 use Rattle.wbt_replay_moves.specs.declared.todo.Step.{Step}
 use Rattle.wbt_replay_moves.specs.declared.todo.Step.TheVariants as step
-use Rattle.wbt_replay_changes.specs.Apply.{apply, apply_all}
+use Rattle.wbt_replay_changes.specs.Apply.{apply}
 use Rattle.wbt_replay_changes.specs.Change.{Change}
 use Rattle.wbt_replay_changes.specs.Change as change
 use Rattle.wbt_replay_changes.specs.Change.Flusher as flusher_change
 use Rattle.wbt_replay_changes.specs.ChangeOf.{step_changes, move_changes}
 use Rattle.wbt_replay_changes.specs.ChangeOf.Flusher.{look_changes, claim_changes, close_changes, empty_changes, hand_over_changes, batch_changes, complete_changes, share_changes, group_changes, land_changes}
 use Rattle.wbt_replay_changes.specs.ChangeOf.Idle.{estimated_changes, queue_or_rest, notice_changes, notices, aged_changes, waiting_changes, wheel_changes, test_changes, unmark_changes}
-use Rattle.wbt_replay_changes.specs.ChangeOf.Where.{by_task, by_flusher, where_taken, where_scanning, where_flying, then_changes}
+use Rattle.wbt_replay_changes.specs.ChangeOf.Where.{where_taken, where_scanning, where_flying}
 use Rattle.wbt_replay_changes.specs.ChangeOf.Writer.{write_changes, dirty_changes, mark_changes, end_changes, decide_changes}
-use Rattle.wbt_replay_changes.specs.Facts.{Along}
+use Rattle.wbt_replay_changes.specs.Facts.{Along, Fact}
 use Rattle.wbt_replay_changes.specs.Laws.{ChangesHaveFacts}
-
--- ---- choices, and whose turn it is
-
-module _ (trace : Trace) where
-  one_of : (s : State) (b : Bool) (xs ys : List Change) → (b ≡ true → Along trace xs s) → (b ≡ false → Along trace ys s) → Along trace (cond b xs ys) s
-  one_of s true xs ys p q = p refl
-  one_of s false xs ys p q = q refl
-
-  both : (xs ys : List Change) (s : State) → Along trace xs s → Along trace ys (apply_all trace xs s) → Along trace (xs ++ ys) s
-  both [] ys s h k = k
-  both (x ∷ xs) ys s h k = (h.0, both xs ys (apply trace x s) h.1 k)
-
-  after : (first : List Change) (more : State → List Change) (s : State) → Along trace first s → ((v : State) → Along trace (more v) v)
-      → Along trace (then_changes trace first more s) s
-  after first more s h each = both first (more (apply_all trace first s)) s h (each (apply_all trace first s))
-
-  a_task : (does : ℕ → State → List Change) (w : Whose) (s : State) → ((t : ℕ) → Along trace (does t s) s) → Along trace (by_task does w s) s
-  a_task does (whose.Task t) s h = h t
-  a_task does (whose.Flusher f) s h = tt
-
-  a_flusher : (does : ℕ → ReplayPhase → State → List Change) (w : Whose) (s : State)
-      → ((f : ℕ) (p : ReplayPhase) → (flusher_of f s).phase ≡ p → Along trace (does f p s) s) → Along trace (by_flusher does w s) s
-  a_flusher does (whose.Flusher f) s h = h f (flusher_of f s).phase refl
-  a_flusher does (whose.Task t) s h = tt
-
-  taken : (does : ℕ → ℕ → State → List Change) (s : State) → ((f n : ℕ) → (flusher_of f s).phase ≡ phase.Taken n → Along trace (does f n s) s)
-      → (f : ℕ) (p : ReplayPhase) → (flusher_of f s).phase ≡ p → Along trace (where_taken does f p s) s
-  taken does s h f (phase.Taken n) e = h f n e
-  taken does s h f (phase.Idle until kept) e = tt
-  taken does s h f (phase.Scanning scan) e = tt
-  taken does s h f (phase.Flying n pages until) e = tt
-  taken does s h f phase.Finished e = tt
-
-  scanning : (does : ℕ → Scan → State → List Change) (s : State)
-      → ((f : ℕ) (scan : Scan) → (flusher_of f s).phase ≡ phase.Scanning scan → Along trace (does f scan s) s)
-      → (f : ℕ) (p : ReplayPhase) → (flusher_of f s).phase ≡ p → Along trace (where_scanning does f p s) s
-  scanning does s h f (phase.Scanning scan) e = h f scan e
-  scanning does s h f (phase.Idle until kept) e = tt
-  scanning does s h f (phase.Taken n) e = tt
-  scanning does s h f (phase.Flying n pages until) e = tt
-  scanning does s h f phase.Finished e = tt
-
-  flying : (does : ℕ → ℕ → ℕ → State → List Change) (s : State)
-      → ((f n pages until : ℕ) → (flusher_of f s).phase ≡ phase.Flying n pages until → Along trace (does f n pages s) s)
-      → (f : ℕ) (p : ReplayPhase) → (flusher_of f s).phase ≡ p → Along trace (where_flying does f p s) s
-  flying does s h f (phase.Flying n pages until) e = h f n pages until e
-  flying does s h f (phase.Idle until kept) e = tt
-  flying does s h f (phase.Taken n) e = tt
-  flying does s h f (phase.Scanning scan) e = tt
-  flying does s h f phase.Finished e = tt
+use Rattle.wbt_replay_changes.proofs.Each.{one_of, after, a_task, a_flusher, taken, scanning, flying}
 
 -- ---- a task
 
@@ -97,34 +45,34 @@ module _ (trace : Trace) (cpu : ℕ) (s : State) where
   write_facts : (t : ℕ) (works : List ReplayWork) → (task_of t s).works ≡ works → Along trace (write_changes trace cpu t works s) s
   write_facts t [] e = tt
   write_facts t (work.Rest ticks ∷ works) e = tt
-  write_facts t (work.Write inode page pages ∷ works) e = one_of trace s (s.book page).dirty _ _
+  write_facts t (work.Write inode page pages ∷ works) e = one_of trace (Fact trace) s (s.book page).dirty _ _
       (λ is. (is, (tt, tt)))
       (λ fresh. ((fresh, record { pages = pages; more = works; works = e; leaves = refl }), tt))
 
   mark_facts : (inode : ℕ) → Along trace (mark_changes cpu inode s) s
-  mark_facts inode = one_of trace s (get_or s.marks inode true) _ _ (λ is. (tt, tt)) (λ clear. (clear, (tt, tt)))
+  mark_facts inode = one_of trace (Fact trace) s (get_or s.marks inode true) _ _ (λ is. (tt, tt)) (λ clear. (clear, (tt, tt)))
 
   end_facts : (t : ℕ) → Along trace (end_changes cpu t s) s
-  end_facts t = one_of trace s (has_nothing (task_of t s).works (writer_of (task_of t s)).due) _ _ (λ ends. (ends, tt)) (λ more. tt)
+  end_facts t = one_of trace (Fact trace) s (has_nothing (task_of t s).works (writer_of (task_of t s)).due) _ _ (λ ends. (ends, tt)) (λ more. tt)
 
   -- ---- a scan
 
   look_facts : (f : ℕ) (scan : Scan) → (flusher_of f s).phase ≡ phase.Scanning scan → Along trace (look_changes cpu f scan s) s
-  look_facts f scan e = one_of trace s (is_claimable (s.book (page_of scan))) _ _ (λ is. (tt, (tt, tt))) (λ not. (e, (tt, (tt, tt))))
+  look_facts f scan e = one_of trace (Fact trace) s (is_claimable (s.book (page_of scan))) _ _ (λ is. (tt, (tt, tt))) (λ not. (e, (tt, (tt, tt))))
 
   claim_facts : (word f : ℕ) (scan : Scan) → (flusher_of f s).phase ≡ phase.Scanning scan → Along trace (claim_changes cpu word f scan s) s
   claim_facts word f scan e =
-      one_of trace s (eqb (shared_word s.book (page_of scan)) word) _ _ (λ is. (e, (tt, (tt, tt)))) (λ not. (tt, tt))
+      one_of trace (Fact trace) s (eqb (shared_word s.book (page_of scan)) word) _ _ (λ is. (e, (tt, (tt, tt)))) (λ not. (tt, tt))
 
   close_facts : (f : ℕ) (scan : Scan) → (flusher_of f s).phase ≡ phase.Scanning scan → Along trace (close_changes cpu f scan s) s
-  close_facts f scan e = one_of trace s (is_over scan (length (flusher_of f s).batch)) _ _ (λ is. (e, (tt, tt))) (λ not. tt)
+  close_facts f scan e = one_of trace (Fact trace) s (is_scan_over scan (length (flusher_of f s).batch)) _ _ (λ is. (e, (tt, tt))) (λ not. tt)
 
   empty_facts : (f : ℕ) (noted : Bool) → Along trace (empty_changes f noted s) s
   empty_facts f true = (tt, tt)
   empty_facts f false = (tt, tt)
 
   hand_over_facts : (f : ℕ) (scan : Scan) → (flusher_of f s).phase ≡ phase.Scanning scan → Along trace (hand_over_changes trace cpu f scan s) s
-  hand_over_facts f scan e = one_of trace s (eqb (length (flusher_of f s).batch) 0) _ _
+  hand_over_facts f scan e = one_of trace (Fact trace) s (eqb (length (flusher_of f s).batch) 0) _ _
       (λ is. empty_facts f scan.noted)
       (λ some. (record { scan = scan; scans = e; of = refl; many = refl }, tt))
 
@@ -142,7 +90,8 @@ module _ (trace : Trace) (cpu : ℕ) (s : State) where
 module _ (trace : Trace) (cpu : ℕ) where
   share_facts : (domain context pages : ℕ) (s : State) → Along trace (share_changes trace cpu domain context pages s) s
   share_facts domain context pages s =
-      one_of trace s (may_be_added (fraction_of (part_in domain (writeback_of context s)) (domain_of domain s).events) (max_share trace context)) _ _
+      let room = may_be_added (fraction_of (part_in domain (writeback_of context s)) (domain_of domain s).events) (max_share trace context) in
+      one_of trace (Fact trace) s room _ _
       (λ may. (may, tt)) (λ full. tt)
 
   group_facts : (group context pages : ℕ) (s : State) → Along trace (group_changes trace cpu group context pages s) s
@@ -153,10 +102,10 @@ module _ (trace : Trace) (cpu : ℕ) where
   land_facts s f n pages until e =
       let context = context_of trace n in
       let u = apply trace (change.landed f context pages) s in
-      one_of trace s (eqb (length (flusher_of f s).batch) 0) _ _
+      one_of trace (Fact trace) s (eqb (length (flusher_of f s).batch) 0) _ _
       (λ none. (
         record { inode = n; until = until; at = e; home = refl },
-        after trace (share_changes trace cpu 0 context pages u) (group_changes trace cpu (group_of trace context) context pages) u
+        after trace (Fact trace) (share_changes trace cpu 0 context pages u) (group_changes trace cpu (group_of trace context) context pages) u
             (share_facts 0 context pages u) (group_facts (group_of trace context) context pages),
       ))
       (λ some. tt)
@@ -173,32 +122,33 @@ module _ (trace : Trace) (cpu : ℕ) where
 
   notice_facts : (f since : ℕ) (numbers : List ℕ) (s : State) → Along trace (notice_changes cpu f since numbers s) s
   notice_facts f since [] s = tt
-  notice_facts f since (inode ∷ inodes) s = one_of trace s (has_inode inode (waiting_of f s).pairs) _ _ (λ is. (tt, tt)) (λ new. (tt, tt))
+  notice_facts f since (inode ∷ inodes) s = one_of trace (Fact trace) s (has_inode inode (waiting_of f s).pairs) _ _ (λ is. (tt, tt)) (λ new. (tt, tt))
 
   notices_facts : (f since : ℕ) (most : ℕ) (s : State) → Along trace (notices trace cpu f since most s) s
   notices_facts f since zero s = tt
   notices_facts f since (suc most) s =
-      after trace (notice_changes cpu f since (queue_of (flusher_device trace f) s) s) (notices trace cpu f since most) s
+      after trace (Fact trace) (notice_changes cpu f since (queue_of (flusher_device trace f) s) s) (notices trace cpu f since most) s
       (notice_facts f since (queue_of (flusher_device trace f) s) s) (notices_facts f since most)
 
   aged_facts : (f now : ℕ) (over : Bool) (pairs : List Due) (s : State) → Along trace (aged_changes cpu f now over pairs) s
   aged_facts f now over [] s = (tt, tt)
-  aged_facts f now over (pair ∷ pairs) s = one_of trace s (nat_le pair.due now) _ _
-      (λ due. (tt, (tt, tt))) (λ later. one_of trace s over _ _ (λ is. (tt, (tt, tt))) (λ none. (tt, tt)))
+  aged_facts f now over (pair ∷ pairs) s = one_of trace (Fact trace) s (nat_le pair.due now) _ _
+      (λ due. (tt, (tt, tt))) (λ later. one_of trace (Fact trace) s over _ _ (λ is. (tt, (tt, tt))) (λ none. (tt, tt)))
 
   wheel_facts : (f : ℕ) (turn : ReplayTurn) (wheel : Option Waiting) (s : State) → Along trace (wheel_changes trace cpu f turn wheel s) s
-  wheel_facts f turn None s = one_of trace s turn.over _ _ (λ is. rest_facts f _ (queue_of (flusher_device trace f) s) s) (λ none. (tt, tt))
+  wheel_facts f turn None s = one_of trace (Fact trace) s turn.over _ _ (λ is. rest_facts f _ (queue_of (flusher_device trace f) s) s) (λ none. (tt, tt))
   wheel_facts f turn (Some w) s =
       let u = apply trace (change.of_flusher f (flusher_change.told turn.began)) s in (
         tt,
-        after trace (notices trace cpu f turn.began MOST_NOTICED u) (waiting_changes cpu f turn.began turn.over) u
+        after trace (Fact trace) (notices trace cpu f turn.began MOST_NOTICED u) (waiting_changes cpu f turn.began turn.over) u
             (notices_facts f turn.began MOST_NOTICED u) (λ v. aged_facts f turn.began turn.over (waiting_of f v).pairs v),
       )
 
   -- ---- each item
 
   step_facts : (item : Step) (s : State) → Along trace (step_changes trace cpu item s) s
-  step_facts step.Dirty s = a_task trace (dirty_changes trace cpu) (cpu_of cpu s).turn.whose s (λ t. write_facts trace cpu s t (task_of t s).works refl)
+  step_facts step.Dirty s = a_task trace (Fact trace) (dirty_changes trace cpu) (cpu_of cpu s).turn.whose s
+      (λ t. write_facts trace cpu s t (task_of t s).works refl)
   step_facts (step.Add x n) s = (tt, (tt, tt))
   step_facts (step.Fold x) s = (tt, (tt, tt))
   step_facts (step.Clear x) s = (tt, (tt, tt))
@@ -207,33 +157,33 @@ module _ (trace : Trace) (cpu : ℕ) where
   step_facts (step.Middle domain) s = (tt, tt)
   step_facts (step.Limits domain) s = (tt, (tt, tt))
   step_facts (step.Count x) s = (tt, (tt, tt))
-  step_facts step.Unmark s = a_flusher trace (where_taken (unmark_changes trace cpu)) (cpu_of cpu s).turn.whose s
-      (taken trace (unmark_changes trace cpu) s (λ f n e. (e, (tt, tt))))
-  step_facts step.Look s = a_flusher trace (where_scanning (look_changes cpu)) (cpu_of cpu s).turn.whose s
-      (scanning trace (look_changes cpu) s (look_facts trace cpu s))
-  step_facts (step.Claim word) s = a_flusher trace (where_scanning (claim_changes cpu word)) (cpu_of cpu s).turn.whose s
-      (scanning trace (claim_changes cpu word) s (claim_facts trace cpu s word))
-  step_facts step.Complete s = a_flusher trace (where_flying (complete_changes trace cpu)) (cpu_of cpu s).turn.whose s
-      (flying trace (complete_changes trace cpu) s (complete_facts trace cpu s))
+  step_facts step.Unmark s = a_flusher trace (Fact trace) (where_taken (unmark_changes trace cpu)) (cpu_of cpu s).turn.whose s
+      (taken trace (Fact trace) (unmark_changes trace cpu) s (λ f n e. (e, (tt, tt))))
+  step_facts step.Look s = a_flusher trace (Fact trace) (where_scanning (look_changes cpu)) (cpu_of cpu s).turn.whose s
+      (scanning trace (Fact trace) (look_changes cpu) s (look_facts trace cpu s))
+  step_facts (step.Claim word) s = a_flusher trace (Fact trace) (where_scanning (claim_changes cpu word)) (cpu_of cpu s).turn.whose s
+      (scanning trace (Fact trace) (claim_changes cpu word) s (claim_facts trace cpu s word))
+  step_facts step.Complete s = a_flusher trace (Fact trace) (where_flying (complete_changes trace cpu)) (cpu_of cpu s).turn.whose s
+      (flying trace (Fact trace) (complete_changes trace cpu) s (complete_facts trace cpu s))
 
   move_facts : (item : Silent) (s : State) → Along trace (move_changes trace cpu item s) s
-  move_facts silent.Decide s = a_task trace (decide_changes trace cpu) (cpu_of cpu s).turn.whose s (λ t. (tt, tt))
-  move_facts silent.End s = a_task trace (end_changes cpu) (cpu_of cpu s).turn.whose s (end_facts trace cpu s)
+  move_facts silent.Decide s = a_task trace (Fact trace) (decide_changes trace cpu) (cpu_of cpu s).turn.whose s (λ t. (tt, tt))
+  move_facts silent.End s = a_task trace (Fact trace) (end_changes cpu) (cpu_of cpu s).turn.whose s (end_facts trace cpu s)
   move_facts (silent.Estimate context) s =
       estimate_facts context (update_of (writeback_of context s).estimate (sample_of trace context (cpu_of cpu s).turn s)) s
   move_facts (silent.Weigh context) s = (tt, tt)
-  move_facts silent.Test s = a_flusher trace (test_changes trace cpu (cpu_of cpu s).turn) (cpu_of cpu s).turn.whose s
+  move_facts silent.Test s = a_flusher trace (Fact trace) (test_changes trace cpu (cpu_of cpu s).turn) (cpu_of cpu s).turn.whose s
       (λ f p e. (
         tt,
         wheel_facts f (cpu_of cpu s).turn (flusher_of f s).wheel
             (apply trace (change.of_flusher f (flusher_change.limited (cpu_of cpu s).turn.global.limits.hard)) s),
       ))
-  move_facts silent.Close s = a_flusher trace (where_scanning (close_changes cpu)) (cpu_of cpu s).turn.whose s
-      (scanning trace (close_changes cpu) s (close_facts trace cpu s))
-  move_facts silent.HandOver s = a_flusher trace (where_scanning (hand_over_changes trace cpu)) (cpu_of cpu s).turn.whose s
-      (scanning trace (hand_over_changes trace cpu) s (hand_over_facts trace cpu s))
-  move_facts silent.Land s = a_flusher trace (where_flying (land_changes trace cpu)) (cpu_of cpu s).turn.whose s
-      (flying trace (land_changes trace cpu) s (land_facts s))
+  move_facts silent.Close s = a_flusher trace (Fact trace) (where_scanning (close_changes cpu)) (cpu_of cpu s).turn.whose s
+      (scanning trace (Fact trace) (close_changes cpu) s (close_facts trace cpu s))
+  move_facts silent.HandOver s = a_flusher trace (Fact trace) (where_scanning (hand_over_changes trace cpu)) (cpu_of cpu s).turn.whose s
+      (scanning trace (Fact trace) (hand_over_changes trace cpu) s (hand_over_facts trace cpu s))
+  move_facts silent.Land s = a_flusher trace (Fact trace) (where_flying (land_changes trace cpu)) (cpu_of cpu s).turn.whose s
+      (flying trace (Fact trace) (land_changes trace cpu) s (land_facts s))
 
 pub changes_have_facts : ChangesHaveFacts
 changes_have_facts = λ trace. record { steps = step_facts trace; moves = move_facts trace }

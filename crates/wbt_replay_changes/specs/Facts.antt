@@ -70,7 +70,11 @@ Fact trace (change.shared cpu domain context pages) s =
     may_be_added (fraction_of (part_in domain (writeback_of context s)) (domain_of domain s).events) (max_share trace context) ≡ true
 Fact trace other s = Unit {0}
 
--- it holds of each of these changes, where it is made
+-- something holds of each of these changes, where it is made
+abbrev pub Each : (trace : Trace) (P : Change → State → Type 0) (changes : List Change) (s : State) → Type 0
+Each trace P [] s = Unit {0}
+Each trace P (first ∷ more) s = P first s × Each trace P more (apply trace first s)
+
+-- these are facts
 abbrev pub Along : (trace : Trace) (changes : List Change) (s : State) → Type 0
-Along trace [] s = Unit {0}
-Along trace (first ∷ more) s = Fact trace first s × Along trace more (apply trace first s)
+Along trace changes s = Each trace (Fact trace) changes s

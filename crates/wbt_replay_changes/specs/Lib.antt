@@ -3,3 +3,4 @@ pub mod Change
 pub mod ChangeOf
 pub mod Facts
 pub mod Laws
+pub mod Plain

@@ -1,5 +1,5 @@
 -- A task's writers: where there is none, nothing is due. And its works: what comes first is written.
-use Rattle.std.proofs.Common.{◌≡◌, ℕ, zero, suc, ◌≤◌, ◌<◌, ◌+◌, refl, List, [], ◌∷◌, Option, Some, None, length, get_or, drop, fold, sum_by, ap, ◌∙◌}
+use Rattle.std.proofs.Common.{◌≡◌, ℕ, zero, suc, ◌≤◌, ◌<◌, ◌+◌, refl, List, [], ◌∷◌, Option, Some, None, length, get_or, drop, fold, sum_by, ap, ◌∙◌, arith}
 use Rattle.std.proofs.lemmas.List.{get_or_past, at_drop_more, at_drop_all}
 use Rattle.std.proofs.lemmas.List.Sums.{sum_by-cons}
 use Rattle.std.proofs.lemmas.Option.{none-some}
@@ -55,9 +55,9 @@ pub leaked_end : (ws : List Writer) (i : ℕ) (local : CpuLocal) → length ws �
 leaked_end ws i local past = at_drop_all (fold leaked local) ws i past
 
 -- the loads of a check where the context has a cgroup
-pub check_of_group : (context group : ℕ) → (group ≡ 0 → ⊥)
+pub check_of_group : (context group : ℕ) → 1 ≤ group
     → todo.Step (step.First 0) ∷ todo.Step (step.Middle 0) ∷ todo.Step (step.Limits 0) ∷ todo.Step (step.Count (Domain 0))
     ∷ todo.Step (step.First group) ∷ todo.Step (step.Middle group) ∷ todo.Step (step.Limits group) ∷ todo.Step (step.Count (Domain group))
     ∷ todo.Step (step.Count (Context context)) ∷ todo.Silent silent.Decide ∷ todo.Silent silent.End ∷ [] ≡ check_items context group
-check_of_group context zero some = absurd (some refl)
+check_of_group context zero some = absurd (omega (arith, some))
 check_of_group context (suc cgroup) some = refl

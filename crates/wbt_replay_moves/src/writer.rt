@@ -5,6 +5,7 @@ ghost use Rattle.wbt_replay_moves.specs.Definition.Writer as spec;
 ghost use Rattle.wbt_num.specs.Front.{first};
 ghost use Rattle.wbt_task.specs.History.{wrote_page, wrote_writer};
 ghost use Rattle.wbt_replay_moves.specs.Definition.Check as checks;
+ghost use Rattle.wbt_replay_moves.specs.Definition.Cpu.{then_do};
 ghost use Rattle.wbt_rules.specs.Things.{context_of as context_value};
 ghost use Rattle.wbt_replay_moves.specs.Definition.State.{cpu_of, task_of, with_task};
 ghost use Rattle.wbt_replay_moves.specs.Kept.Fit.{HasInode, WriteFits, PauseFits, RestFits, CountFits, DirtyFits, EndFits, TaskBegins, TaskEnds};
@@ -46,23 +47,41 @@ impl Machine {
     {
         let group = group_of(trace, context);
         if group == 0 {
-            return self.then_do(
-                cpu,
-                &[
-                    Todo::Step(Step::First { domain: 0 }),
-                    Todo::Step(Step::Middle { domain: 0 }),
-                    Todo::Step(Step::Limits { domain: 0 }),
-                    Todo::Step(Step::Count {
-                        counter: Counter::Domain(0),
-                    }),
-                    Todo::Step(Step::Count {
-                        counter: Counter::Context(context),
-                    }),
-                    Todo::Silent(Silent::Decide),
-                    Todo::Silent(Silent::End),
-                ],
-            );
+            self.begin_global_check(cpu, context)
+        } else {
+            self.begin_cgroup_check(cpu, context, group)
         }
+    }
+
+    // Begins a check of a context that is in no cgroup: it loads the limits and the count of the global domain.
+    fn begin_global_check(&mut self, cpu: u32, context: u32) -> Result<(), AllocError>
+        requires cpu { cpu < length (seen self.old).cpus }
+        ensures { OnOk result (seen self.new ≡ then_do cpu (spec.check_items context 0) (seen self.old)) }
+    {
+        self.then_do(
+            cpu,
+            &[
+                Todo::Step(Step::First { domain: 0 }),
+                Todo::Step(Step::Middle { domain: 0 }),
+                Todo::Step(Step::Limits { domain: 0 }),
+                Todo::Step(Step::Count {
+                    counter: Counter::Domain(0),
+                }),
+                Todo::Step(Step::Count {
+                    counter: Counter::Context(context),
+                }),
+                Todo::Silent(Silent::Decide),
+                Todo::Silent(Silent::End),
+            ],
+        )
+    }
+
+    // Begins a check of a context that is in a cgroup: it loads those of the cgroup too.
+    fn begin_cgroup_check(&mut self, cpu: u32, context: u32, group: u32) -> Result<(), AllocError>
+        requires cpu { cpu < length (seen self.old).cpus }
+        requires cgroup { 1 ≤ group }
+        ensures { OnOk result (seen self.new ≡ then_do cpu (spec.check_items context group) (seen self.old)) }
+    {
         self.then_do(
             cpu,
             &[

@@ -1,8 +1,7 @@
 -- The state after each move: what the run's lists have more, and what stays.
 pub mod Runs
 pub mod Quiet
-pub mod QuietItems
-pub mod QuietTurns
+pub mod Calm
 pub mod Growing
 pub mod Grown
 pub mod Most

@@ -22,7 +22,7 @@ use Rattle.wbt_published.specs.Passes.{known_of}
 use Rattle.wbt_published.specs.Publishing.{IsComplete as KnowsAll}
 use Rattle.wbt_queue.specs.Passes as queue
 use Rattle.wbt_queue.specs.Passes.{AreAllTaken}
-use Rattle.wbt_run_worker.specs.Ticking.{IsTold as IsToldLine}
+use Rattle.wbt_run_worker.specs.Ticking.{LimitsAreTold as IsToldLine}
 use Rattle.wbt_run_worker.specs.Went.{IsTold}
 use Rattle.wbt_run_worker.specs.declared.side.CpuSide.{CpuSide}
 use Rattle.wbt_run_steps.specs.Records.{record_of}
@@ -39,7 +39,7 @@ use Rattle.wbt_trace.specs.declared.trace.Trace.{Trace}
 use Rattle.wbt_run_laws.specs.Closed.{first_lines, opening_lines}
 use Rattle.wbt_run_laws.specs.Notes.{Notes}
 use Rattle.wbt_run_laws.specs.Shown.{Shown}
-use Rattle.wbt_run_drain.specs.Whole.{CpusWorked, EndsSo, HaveWorked, NoneIsDue, NotesTogether, TimerWorked}
+use Rattle.wbt_run_drain.specs.Whole.{CpusWorked, EndingHasCause, HaveWorked, NoneIsDue, NotesTogether, TimerWorked}
 use Rattle.wbt_run_drain.specs.Ends.{EndingIs, HaveEnded}
 use Rattle.wbt_run_drain.specs.Standing.{AreAllCleaned, AreAllDone, AreStanding, WasStopped}
 use Rattle.wbt_run_drain.specs.Teams.{logs_of}
@@ -136,7 +136,7 @@ module _ {D : Type 0} (told : ℕ → Type 0) (said : ℕ → ℕ → Bool → T
   }
 
   module _ (all_done : HaveEnded sides → AreAllDone sides) (all_clean : HaveEnded sides → AreAllCleaned trace cleaned) where
-    ends_so : (ended : Ending) → EndingIs sides (Ok ended) → EndsSo trace shown ended
+    ends_so : (ended : Ending) → EndingIs sides (Ok ended) → EndingHasCause trace shown ended
     ends_so ending.Faulted is = some_failed told said written faults trace kit sides cleaned comes.standing is.0
     ends_so ending.Spent is = (
       none_failed told said written faults trace kit sides cleaned comes.standing is.1,

@@ -35,7 +35,7 @@ use Rattle.wbt_run_laws.specs.Walks.{items_told}
 use Rattle.wbt_run_laws.specs.Worked.{AllWritten, NoneWaits}
 use Rattle.wbt_run_drain.specs.Whole.{AreCleaned, log_at}
 use Rattle.wbt_run_drain.specs.Ends.{Any, EndingIs, EndsSo, HasEnded, HaveEnded, IsOut, NoneEnds}
-use Rattle.wbt_run_drain.specs.Standing.{AreAllCleaned, AreStanding, EndsBy, GoesOn, NoneWaitsForAge, OutBy, SideStands, WasStopped}
+use Rattle.wbt_run_drain.specs.Standing.{AreAllCleaned, AreStanding, EndsBy, SideGoesOn, NoneWaitsForAge, OutBy, SideStands, WasStopped}
 use Rattle.wbt_run_drain.specs.Teams.{logs_of, posts_of}
 use Rattle.wbt_run.specs.Running.{AreHalted}
 use Rattle.wbt_run.proofs.Causes.{any_at, each_in, found, found_at, found_cpu, in_sides, last, side_at, SideAt}
@@ -89,13 +89,13 @@ module _ {D : Type 0} (told : ℕ → Type 0) (said : ℕ → ℕ → Bool → T
   there : (cpu : ℕ) → cpu < trace.cpus → cpu < length sides
   there = in_sides told said written faults trace kit sides seats standing
 
-  its_goes_on : (cpu : ℕ) (side : CpuSide D) → SideStands said written faults trace cpu kit side seats → side.end ≡ Ended → GoesOn said written faults trace cpu kit side seats
+  its_goes_on : (cpu : ℕ) (side : CpuSide D) → SideStands said written faults trace cpu kit side seats → side.end ≡ Ended → SideGoesOn said written faults trace cpu kit side seats
   its_goes_on cpu side stands_so is = subst (λ (e : End). EndsBy said written faults trace cpu kit e side seats) is stands_so.ends
 
   -- ---- where all have ended
 
   module _ (ended : HaveEnded sides) where
-    goes_on : (cpu : ℕ) (less : cpu < trace.cpus) → GoesOn said written faults trace cpu kit (at cpu less).side seats
+    goes_on : (cpu : ℕ) (less : cpu < trace.cpus) → SideGoesOn said written faults trace cpu kit (at cpu less).side seats
     goes_on cpu less =
         let a = at cpu less in
         its_goes_on cpu a.side a.stands_so (each_in HasEnded sides cpu a.side (there cpu less) a.is ended).ended

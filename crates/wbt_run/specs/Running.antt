@@ -24,7 +24,7 @@ use Rattle.wbt_run_steps.specs.Kinds.{kinds_in}
 use Rattle.wbt_table.specs.Rule.{HasLog}
 use Rattle.wbt_table.specs.declared.rule.Logged.{Logged}
 use Rattle.wbt_turns.specs.Words.{IsCutOff}
-use Rattle.wbt_run_worker.specs.Ticking.{IsTold as IsToldLine}
+use Rattle.wbt_run_worker.specs.Ticking.{LimitsAreTold as IsToldLine}
 use Rattle.wbt_run_worker.specs.Went.{IsTold}
 use Rattle.wbt_trace.specs.declared.trace.Trace.{Trace}
 use Rattle.wbt_run_laws.specs.Laws.{NoneWaitsWhenDone}

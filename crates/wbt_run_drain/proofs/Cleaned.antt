@@ -35,7 +35,7 @@ use Rattle.wbt_run_laws.specs.Shown.{Shown, first_shown}
 use Rattle.wbt_run_laws.specs.Throttle.{IsThrottleOf}
 use Rattle.wbt_run_drain.proofs.Sweeping.{clean_is_cleaned}
 use Rattle.wbt_run_drain.specs.Ends.{HasEnded, HaveEnded}
-use Rattle.wbt_run_drain.specs.Standing.{AreAllDone, AreStanding, EndsBy, GoesOn, SideStands, StandsSo}
+use Rattle.wbt_run_drain.specs.Standing.{AreAllDone, AreStanding, EndsBy, SideGoesOn, SideStands, StandsSo}
 use Rattle.wbt_run_drain.specs.Swept.{IsInodeCleaned}
 use Rattle.wbt_run_drain.specs.Teams.{posts_of}
 
@@ -76,7 +76,7 @@ module _ {D : Type 0} (told : ℕ → Type 0) (said : ℕ → ℕ → Bool → T
 
   record AtRest (cpu : ℕ) : Type 0 where
     pub side : CpuSide D
-    pub goes : GoesOn said written faults trace cpu kit side seats
+    pub goes : SideGoesOn said written faults trace cpu kit side seats
     pub posted : ArePosted trace cpu kit (posts_of written faults side.posts.items) seats
     pub idle : Each (λ (post : Post D). IsIdle post.flusher.work) side.posts.items
 

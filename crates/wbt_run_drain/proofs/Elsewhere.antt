@@ -20,7 +20,7 @@ use Rattle.wbt_table.specs.Calls.{HasNoPageSteps}
 use Rattle.wbt_table.specs.Layout.{setting}
 use Rattle.wbt_trace.specs.declared.trace.Trace.{Trace}
 use Rattle.wbt_run_laws.proofs.Lists.{each_weaker}
-use Rattle.wbt_run_drain.specs.Standing.{EndsBy, GoesOn, OutBy, SideStands, StandsSo, WasStopped}
+use Rattle.wbt_run_drain.specs.Standing.{EndsBy, SideGoesOn, OutBy, SideStands, StandsSo, WasStopped}
 use Rattle.wbt_run_drain.specs.Teams.{posts_of}
 
 -- ---- why flushers are out, where a CPU that is spent stays so
@@ -83,7 +83,7 @@ module _ {D : Type 0} (said : ℕ → ℕ → Bool → Type 0) (written : D → 
   stopped_still : WasStopped said cpu seats → WasStopped said cpu seats'
   stopped_still was = record { steps = was.steps; answer = was.answer; made = (let before = was.made in let since = keeps.made in omega arith) }
 
-  goes_still : GoesOn said written faults trace cpu kit side seats → GoesOn said written faults trace cpu kit side seats'
+  goes_still : SideGoesOn said written faults trace cpu kit side seats → SideGoesOn said written faults trace cpu kit side seats'
   goes_still goes = record {
     ended = goes.ended;
     owes_nothing = keeps.debts ∙ goes.owes_nothing;

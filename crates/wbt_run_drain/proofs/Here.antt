@@ -36,7 +36,7 @@ use Rattle.wbt_trace.specs.declared.trace.Trace.{Trace}
 use Rattle.wbt_run_laws.proofs.Lists.{each_weaker}
 use Rattle.wbt_writer.specs.Desk.{Desk}
 use Rattle.wbt_run_drain.specs.Ends.{Any, EndsSo, IsOut}
-use Rattle.wbt_run_drain.specs.Standing.{EndsBy, GoesOn, NotHalted, OutBy, SideStands, StandsSo, WasStopped}
+use Rattle.wbt_run_drain.specs.Standing.{EndsBy, SideGoesOn, NotHalted, OutBy, SideStands, StandsSo, WasStopped}
 use Rattle.wbt_run_drain.specs.Teams.{posts_of}
 use Rattle.wbt_run_drain.specs.Turned.{end_by, stand_by}
 use Rattle.wbt_run_drain.proofs.Anyone.{any_before, any_here, any_still}
@@ -133,7 +133,7 @@ module _ {D : Type 0} {told : ℕ → Type 0} {said : ℕ → ℕ → Bool → T
   abbrev Stays : (a : Turn) → Type 0
   Stays a = stand_by (job_by a) Open ≡ Out Halted → ⊥
 
-  goes_on : Stays t.turned.turn → OwesNothing (d t).plan seats' → GoesOn said written faults trace c kit side' seats'
+  goes_on : Stays t.turned.turn → OwesNothing (d t).plan seats' → SideGoesOn said written faults trace c kit side' seats'
   goes_on stays owes = record {
     ended = subst (λ (desk : Desk). HasTeamEnded trace desk.work.tasks) (sym t.turned.writers) (goes t).ended;
     owes_nothing = subst (λ (n : ℕ). (record_of n seats'.cpu.cpus).debts ≡ []) (mine t).cpu_is owes;

@@ -19,7 +19,7 @@ use Rattle.wbt_run_worker.proofs.Flushing.{post_at, ready_at}
 use Rattle.wbt_run_worker.proofs.Lists.{at_most, each_at, long_map, map_at}
 use Rattle.wbt_table.specs.Rule.{Has}
 use Rattle.wbt_trace.specs.declared.trace.Trace.{Trace}
-use Rattle.wbt_run_drain.specs.Standing.{AreStanding, EndsBy, GoesOn, SideStands, StandsSo}
+use Rattle.wbt_run_drain.specs.Standing.{AreStanding, EndsBy, SideGoesOn, SideStands, StandsSo}
 use Rattle.wbt_run_drain.specs.Teams.{posts_of, teams_of}
 use Rattle.wbt_run_drain.specs.Turned.{MayTurn}
 
@@ -61,7 +61,7 @@ module _ {D : Type 0} {told : ℕ → Type 0} {said : ℕ → ℕ → Bool → T
   })
 
   module _ (ended : side.end ≡ Ended) (at : ℕ) (post_there : at < length side.posts.items) (post : Post D) (post_is : get_or side.posts.items at post ≡ post) where
-    pub goes_at : GoesOn said written faults trace c kit side seats
+    pub goes_at : SideGoesOn said written faults trace c kit side seats
     goes_at = subst (λ (e : End). EndsBy said written faults trace c kit e side seats) ended stands_at.ends
 
     pub in_posts : at < length posts

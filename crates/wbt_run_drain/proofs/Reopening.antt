@@ -29,7 +29,7 @@ use Rattle.wbt_table.specs.Layout.{domains as limits_of}
 use Rattle.wbt_trace.specs.declared.trace.Trace.{Trace}
 use Rattle.wbt_writer.specs.Desk.{Desk}
 use Rattle.wbt_run_drain.specs.Ends.{Any, EndsSo, HasEnded, HaveEnded, IsOut}
-use Rattle.wbt_run_drain.specs.Standing.{AreAllDone, AreDoneAt, AreQueued, AreStanding, HasFlusher, EndsBy, FaultsAreTold, GoesOn, HaveTold, NotHalted, OutBy, SideStands, StandsSo, WentOn}
+use Rattle.wbt_run_drain.specs.Standing.{AreAllDone, AreDoneAt, AreQueued, AreStanding, HasFlusher, EndsBy, FaultsAreTold, SideGoesOn, HaveTold, NotHalted, OutBy, SideStands, StandsSo, WentOn}
 use Rattle.wbt_run_drain.specs.Swept.{AreReopened, IsReopened, reopened}
 use Rattle.wbt_run_drain.specs.Words.{TellsTurns}
 use Rattle.wbt_run_drain.specs.Teams.{handed_over, logs_of, posts_of, teams_of, written_by_all}
@@ -113,13 +113,13 @@ module _ {D : Type 0} (said : ℕ → ℕ → Bool → Type 0) (written : D → 
 
   module _ (old new : CpuSide D) (again : IsReopened device old new) (has : HasEnded old) (done : Each (λ (post : Post D). post.stand ≡ Done) old.posts.items)
       (it : SideStands said written faults trace cpu kit old seats) where
-    goes : GoesOn said written faults trace cpu kit old seats
+    goes : SideGoesOn said written faults trace cpu kit old seats
     goes = subst (λ (end : End). EndsBy said written faults trace cpu kit end old seats) has.ended it.ends
 
     posts_are : posts_of written faults new.posts.items ≡ posts_of written faults old.posts.items
     posts_are = ap (λ (t : Team). t.posts) (team_same device written faults old new again)
 
-    goes_again : GoesOn said written faults trace cpu kit new seats
+    goes_again : SideGoesOn said written faults trace cpu kit new seats
     goes_again = record {
       ended = subst (λ (t : Team). TeamHasEnded trace t) (sym (team_same device written faults old new again)) goes.ended;
       owes_nothing = goes.owes_nothing;

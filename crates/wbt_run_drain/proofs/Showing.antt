@@ -27,7 +27,7 @@ use Rattle.wbt_table.specs.declared.layout.Layout.{Layout}
 use Rattle.wbt_trace.specs.declared.trace.Trace.{Trace}
 use Rattle.wbt_run_laws.specs.Shown.{Shown, ShownFlusher, none_shown}
 use Rattle.wbt_run_laws.specs.Worker.{empty_log}
-use Rattle.wbt_run_drain.specs.Drained.{AreTogether, GoesOn as DrainGoesOn, IsThere, shown_behind}
+use Rattle.wbt_run_drain.specs.Drained.{AreTogether, TurnGoesOn as DrainGoesOn, IsThere, shown_behind}
 use Rattle.wbt_run_drain.specs.Whole.{IsCleaned, log_at}
 use Rattle.wbt_run_drain.proofs.Draining.{drain_goes_on}
 use Rattle.wbt_writer.specs.Counted.{side_of, written_of}

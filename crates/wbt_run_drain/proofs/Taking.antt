@@ -27,7 +27,7 @@ use Rattle.wbt_trace.specs.declared.trace.Trace.{Trace}
 use Rattle.wbt_run_laws.specs.Grew.{Grew}
 use Rattle.wbt_run_laws.specs.Noted.{NotedFlusherTurn}
 use Rattle.wbt_run_laws.specs.Worker.{Worker}
-use Rattle.wbt_run_drain.specs.Standing.{AreStanding, GoesOn, SideStands}
+use Rattle.wbt_run_drain.specs.Standing.{AreStanding, SideGoesOn, SideStands}
 use Rattle.wbt_run_drain.specs.Teams.{posts_of}
 use Rattle.wbt_run_drain.specs.Turned.{HasTurned}
 use Rattle.wbt_run_drain.proofs.Answered.{Drains, drains}
@@ -70,7 +70,7 @@ module _ {D : Type 0} {told : ℕ → Type 0} {said : ℕ → ℕ → Bool → T
   pub stands : SideStands said written faults trace c kit side seats
   stands = stands_at t.standing c side t.cpu_there t.side_is
 
-  pub goes : GoesOn said written faults trace c kit side seats
+  pub goes : SideGoesOn said written faults trace c kit side seats
   goes = goes_at t.standing c side t.cpu_there t.side_is t.ended at t.post_there t.turned.was t.turned.was_there
 
   pub there : at < length before

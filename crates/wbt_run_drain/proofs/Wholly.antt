@@ -42,7 +42,7 @@ use Rattle.wbt_run_seats.proofs.Telling.{gathered_tell}
 use Rattle.wbt_published.specs.Passes.{known_of}
 use Rattle.wbt_timer.specs.Side.{ticked}
 use Rattle.wbt_run_drain.specs.Laws.{WorkDirtiedCompleted, WorkFoundDirtied, WorkIsLawful, WorkNoneWaits, journal_of}
-use Rattle.wbt_run_drain.specs.Whole.{AreCleaned, EndsSo, HaveWorked, log_at}
+use Rattle.wbt_run_drain.specs.Whole.{AreCleaned, EndingHasCause, HaveWorked, log_at}
 
 -- ---- what is left where each page was cleaned
 
@@ -114,7 +114,7 @@ module _ (trace : Trace) (opened : ℕ) (kit : Kit) (seats : Seats) (census : Co
       let c = times_same trace.cpus p (absorbs p) closes.state.cpu (λ i. (work.last i).held) closed.cpus_are in
       let d = clean p (omega arith) in omega arith))
 
-  ended_by : (e : Ending) → EndsSo trace work.last e → EndedBy trace work.last left e
+  ended_by : (e : Ending) → EndingHasCause trace work.last e → EndedBy trace work.last left e
   ended_by ending.Done so = (so.0, so.1, so.2, cleaned so.3)
   ended_by ending.Halted so = so
   ended_by ending.Spent so = so

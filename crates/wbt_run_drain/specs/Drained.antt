@@ -38,8 +38,8 @@ abbrev pub shown_behind : (plan : FlusherPlan) (logs : List CpuJournal) (last : 
 shown_behind plan logs last notes s = shown_of plan (record { shown = last plan.cpu; notes = notes plan.cpu; log = log_at logs plan.cpu }) s
 
 -- what a turn of the drain leaves, where the flusher's CPU noted this after it
-pub record GoesOn (trace : Trace) (opened : ℕ) (kit : Kit) (first : ℕ → Seats) (timer : (domain : ℕ) → List Note) (logs : List CpuJournal) (last : ℕ → Shown)
-    (notes : ℕ → Notes) (plan : FlusherPlan) (new : Sight) : Type 0 where
+pub record TurnGoesOn (trace : Trace) (opened : ℕ) (kit : Kit) (first : ℕ → Seats) (timer : (domain : ℕ) → List Note) (logs : List CpuJournal)
+    (last : ℕ → Shown) (notes : ℕ → Notes) (plan : FlusherPlan) (new : Sight) : Type 0 where
   pub behind : Notes
   pub together : AreTogether trace opened kit first timer (set logs plan.cpu new.log) (put last plan.cpu (shown_behind plan logs last notes new)) (put notes plan.cpu behind) new.seats
   -- a page of which each dirtying was completed or absorbed is such still
@@ -51,4 +51,4 @@ abbrev pub DrainGoesOn : Type 0
 DrainGoesOn = (trace : Trace) (opened : ℕ) (kit : Kit) (first : ℕ → Seats) (timer : (domain : ℕ) → List Note) (logs : List CpuJournal) (last : ℕ → Shown)
     (notes : ℕ → Notes) (plan : FlusherPlan) (told : Moments) (old new : Sight) → AreTogether trace opened kit first timer logs last notes old.seats
     → IsThere trace opened kit plan logs last old → (went : Went plan kit told old new) → Each IsPlain went.did.added
-    → GoesOn trace opened kit first timer logs last notes plan new
+    → TurnGoesOn trace opened kit first timer logs last notes plan new

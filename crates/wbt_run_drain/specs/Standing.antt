@@ -76,7 +76,7 @@ NotHalted post = post.stand ≡ Out Halted → ⊥
 
 -- Where its flushers may be turned: none was halted, the CPU owes no counter, and what it owes of rescans and of marks one of them owes itself.
 -- Its tasks have ended.
-pub record GoesOn {D : Type 0} (said : ℕ → ℕ → Bool → Type 0) (written : D → Option ℕ) (faults : D → ℕ) (trace : Trace) (cpu : ℕ) (kit : Kit) (side : CpuSide D) (seats : Seats)
+pub record SideGoesOn {D : Type 0} (said : ℕ → ℕ → Bool → Type 0) (written : D → Option ℕ) (faults : D → ℕ) (trace : Trace) (cpu : ℕ) (kit : Kit) (side : CpuSide D) (seats : Seats)
     : Type 0 where
   pub ended : TeamHasEnded trace (team_of written faults side)
   pub owes_nothing : (record_of cpu seats.cpu.cpus).debts ≡ []
@@ -90,7 +90,7 @@ pub record GoesOn {D : Type 0} (said : ℕ → ℕ → Bool → Type 0) (written
 -- why the side ended, and what may follow
 abbrev pub EndsBy : {D : Type 0} (said : ℕ → ℕ → Bool → Type 0) (written : D → Option ℕ) (faults : D → ℕ) (trace : Trace) (cpu : ℕ) (kit : Kit) (end : End) (side : CpuSide D)
     (seats : Seats) → Type 0
-EndsBy {D} said written faults trace cpu kit Ended side seats = GoesOn said written faults trace cpu kit side seats
+EndsBy {D} said written faults trace cpu kit Ended side seats = SideGoesOn said written faults trace cpu kit side seats
 EndsBy {D} said written faults trace cpu kit Halted side seats = WasStopped said cpu seats
 EndsBy {D} said written faults trace cpu kit Faulted side seats = AnyOf HasFailed (posts_of written faults side.posts.items)
 EndsBy {D} said written faults trace cpu kit Spent side seats = HasNoPageSteps (setting kit.throttle.layout) cpu seats.cpu

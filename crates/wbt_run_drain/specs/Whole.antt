@@ -93,11 +93,11 @@ abbrev pub NoneIsDue : (trace : Trace) (last : ℕ → Shown) (ended : Ending) �
 NoneIsDue trace last ended = (cpu : ℕ) → cpu < trace.cpus → NoneDue ended (last cpu).side
 
 -- each ending with its cause
-abbrev pub EndsSo : (trace : Trace) (last : ℕ → Shown) (ended : Ending) → Type 0
-EndsSo trace last ending.Done = NoneFailed trace last × AllWritten trace last × NoneWaits trace last × AreCleaned trace last
-EndsSo trace last ending.Halted = NoneFailed trace last
-EndsSo trace last ending.Spent = NoneFailed trace last × SomeSpent trace last
-EndsSo trace last ending.Faulted = SomeFailed trace last
+abbrev pub EndingHasCause : (trace : Trace) (last : ℕ → Shown) (ended : Ending) → Type 0
+EndingHasCause trace last ending.Done = NoneFailed trace last × AllWritten trace last × NoneWaits trace last × AreCleaned trace last
+EndingHasCause trace last ending.Halted = NoneFailed trace last
+EndingHasCause trace last ending.Spent = NoneFailed trace last × SomeSpent trace last
+EndingHasCause trace last ending.Faulted = SomeFailed trace last
 
 -- ---- all of it
 
@@ -110,5 +110,5 @@ pub record HaveWorked (trace : Trace) (opened : ℕ) (kit : Kit) (logs : List Cp
   pub cpus : CpusWorked trace opened kit logs first last notes seats
   pub timer_is : TimerWorked trace opened kit timer ticks seats
   pub together : NotesTogether trace kit notes ticks.shares seats
-  pub ends : EndsSo trace last ended
+  pub ends : EndingHasCause trace last ended
   pub none_due : NoneIsDue trace last ended

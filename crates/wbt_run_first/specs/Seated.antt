@@ -11,7 +11,7 @@ use Rattle.wbt_rules.specs.Thresholds.{first_limits}
 use Rattle.wbt_kit.specs.declared.kit.Kit.{Kit}
 use Rattle.wbt_kit.specs.declared.kit.Seats.{Seats}
 use Rattle.wbt_published.specs.Passes.{known_of, Seats as EstPass}
-use Rattle.wbt_run_worker.specs.Ticking.{IsTold}
+use Rattle.wbt_run_worker.specs.Ticking.{LimitsAreTold}
 use Rattle.wbt_run_worker.specs.declared.worker.Worker.{Worker}
 use Rattle.wbt_timer.specs.Side.{IsFirstSide, IsTimerOf, Side}
 use Rattle.wbt_trace.specs.declared.trace.Trace.{Trace}
@@ -48,7 +48,7 @@ pub record HasTicked (told : ℕ → Type 0) (trace : Trace) (now : ℕ) (kit : 
   pub shares : (domain : ℕ) → last.shares domain ≡ noted apart domain
   pub ticks : List TimerEntry
   pub logged : log ≡ opening_lines trace now (first_limits trace now) ++ ticks
-  pub moments : Each (IsTold told) ticks
+  pub moments : Each (LimitsAreTold told) ticks
   pub turns : TimerTellsTurns (limits_of kit.throttle.layout) seats
 
 -- the timer's notes that take in those of the CPUs are all that were ever made, where the CPUs kept their stakes up to then

@@ -12,7 +12,7 @@ use Rattle.wbt_grant.specs.declared.record.Raised.{Raised}
 use Rattle.wbt_grant.specs.declared.record.TimerRecord.{TimerRecord}
 use Rattle.wbt_trace.specs.declared.trace.Trace.{Trace}
 use Rattle.wbt_journal.specs.Each.{Each}
-use Rattle.wbt_journal.specs.Timer.{Line, TimerGoesOn, lines_after}
+use Rattle.wbt_journal.specs.Timer.{LastLine, TimerGoesOn, lines_after}
 use Rattle.wbt_journal.specs.declared.timer.TimerEntry.{TimerEntry}
 use Rattle.wbt_journal.specs.declared.timer.TimerEntry.TheVariants as timer
 use Rattle.wbt_journal.specs.Walk.{after}
@@ -22,7 +22,7 @@ use Rattle.wbt_run_laws.specs.Walks.{Walked}
 -- what is known of the timer between two turns
 pub record Ticked : Type 0 where
   pub held : TimerRecord
-  pub lines : List Line  -- the last limits of each domain
+  pub lines : List LastLine  -- the last limits of each domain
   pub shares : (domain : ℕ) → List Note  -- of steps on the domain's words, the newest first
 
 -- what is published after a line, the newest first: a line of limits publishes the next version of its domain

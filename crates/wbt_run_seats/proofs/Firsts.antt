@@ -19,7 +19,7 @@ use Rattle.wbt_journal.specs.declared.timer.TimerEntry.{TimerEntry}
 use Rattle.wbt_table.proofs.Lists.{at_less}
 use Rattle.wbt_trace.specs.declared.trace.Trace.{Trace}
 use Rattle.wbt_journal.specs.Machine.{domains}
-use Rattle.wbt_journal.specs.Timer.{Line, lines_after, put_line}
+use Rattle.wbt_journal.specs.Timer.{LastLine, lines_after, put_line}
 use Rattle.wbt_journal.specs.Walk.{after}
 use Rattle.wbt_run_laws.specs.Closed.{first_lines, opening_lines}
 use Rattle.wbt_run_laws.specs.Ticks.{Ticked}
@@ -101,20 +101,20 @@ left_is_first trace now kit first left lawful is are left_is =
 -- ---- the timer
 
 -- a line for each domain from one on
-opened_lines : (f : ℕ → Limits) (now domain count : ℕ) → List Line
+opened_lines : (f : ℕ → Limits) (now domain count : ℕ) → List LastLine
 opened_lines f now domain zero = []
 opened_lines f now domain (suc count) = record { now = now; hard = (f domain).hard } ∷ opened_lines f now (suc domain) count
 
-put_at_end : (lines : List Line) (d : ℕ) (line : Line) → d ≡ length lines → put_line d line lines ≡ lines ++ line ∷ []
+put_at_end : (lines : List LastLine) (d : ℕ) (line : LastLine) → d ≡ length lines → put_line d line lines ≡ lines ++ line ∷ []
 put_at_end lines d line is = ap (λ (b : Bool). cond b (set lines d line) (lines ++ line ∷ [])) (le-ltb d (length lines) (omega (arith, is)))
 
-after_first : (f : ℕ → Limits) (now count d : ℕ) (lines : List Line) → d ≡ length lines
+after_first : (f : ℕ → Limits) (now count d : ℕ) (lines : List LastLine) → d ≡ length lines
     → after lines_after lines (first_lines f now d count) ≡ lines ++ opened_lines f now d count
 unfolding opened_lines
 after_first f now zero d lines is = sym (append-nil lines)
 after_first f now (suc count) d lines is =
-    let line : Line = record { now = now; hard = (f d).hard } in
-    ap (λ (l : List Line). after lines_after l (first_lines f now (suc d) count)) (put_at_end lines d line is)
+    let line : LastLine = record { now = now; hard = (f d).hard } in
+    ap (λ (l : List LastLine). after lines_after l (first_lines f now (suc d) count)) (put_at_end lines d line is)
     ∙ after_first f now count (suc d) (lines ++ line ∷ []) (omega (arith, is, length-append lines (line ∷ [])))
     ∙ append_assoc lines (line ∷ []) (opened_lines f now (suc d) count)
 
@@ -123,7 +123,7 @@ unfolding opened_lines
 one_line_more f now zero d = ap (λ (k : ℕ). record { now = now; hard = (f k).hard } ∷ []) (omega arith)
 one_line_more f now (suc count) d =
     let next : suc d + count ≡ d + suc count = omega arith in
-    ap (λ (l : List Line). record { now = now; hard = (f d).hard } ∷ l) (one_line_more f now count (suc d)
+    ap (λ (l : List LastLine). record { now = now; hard = (f d).hard } ∷ l) (one_line_more f now count (suc d)
     ∙ ap (λ (k : ℕ). opened_lines f now (suc d) count ++ record { now = now; hard = (f k).hard } ∷ []) next)
 
 map_more : {X Y : Type 0} (f : X → Y) (xs : List X) (x : X) → map f (xs ++ x ∷ []) ≡ map f xs ++ f x ∷ []
@@ -136,7 +136,7 @@ first_lines_are trace now zero = refl
 first_lines_are trace now (suc n) =
     let next : n ≡ 0 + n = omega arith in
     map_more line_of (first_sides trace now n) (first_side trace now n)
-    ∙ ap (λ (l : List Line). l ++ record { now = now; hard = (first_limits trace now n).hard } ∷ []) (first_lines_are trace now n)
+    ∙ ap (λ (l : List LastLine). l ++ record { now = now; hard = (first_limits trace now n).hard } ∷ []) (first_lines_are trace now n)
     ∙ ap (λ (k : ℕ). opened_lines (first_limits trace now) now 0 n ++ record { now = now; hard = (first_limits trace now k).hard } ∷ []) next
     ∙ sym (one_line_more (first_limits trace now) now n 0)
 

@@ -26,7 +26,7 @@ use Rattle.wbt_run_steps.proofs.Changing.{record_is}
 use Rattle.wbt_table.specs.Layout.{setting}
 use Rattle.wbt_table.specs.Rule.{Has, Holds}
 use Rattle.wbt_trace.specs.declared.trace.Trace.{Trace}
-use Rattle.wbt_run_drain.specs.Standing.{EndsBy, FaultsAreTold, GoesOn, HasFailed, NotHalted, OutBy, SideStands, StandsSo, WasStopped}
+use Rattle.wbt_run_drain.specs.Standing.{EndsBy, FaultsAreTold, SideGoesOn, HasFailed, NotHalted, OutBy, SideStands, StandsSo, WasStopped}
 use Rattle.wbt_run_drain.specs.Teams.{posts_of}
 use Rattle.wbt_run_first.specs.Lent.{IsOpen}
 
@@ -112,7 +112,7 @@ module _ {D : Type 0} (said : ℕ → ℕ → Bool → Type 0) (written : D → 
     abbrev new_team : Team
     new_team = team_of written faults side
 
-    goes_there : EndsSo said trace cpu kit Ended old new_team own → GoesOn said written faults trace cpu kit side all
+    goes_there : EndsSo said trace cpu kit Ended old new_team own → SideGoesOn said written faults trace cpu kit side all
     goes_there ends = record {
       ended = ends.1;
       owes_nothing = ap (λ (r : CpuRecord). r.debts) has.same ∙ (subst (λ (c : ℕ). (record_of c own.cpu.cpus).debts ≡ []) ends.0.stands.desk.cpu_is ends.0.writers.owes_nothing);

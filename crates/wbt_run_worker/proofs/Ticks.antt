@@ -25,7 +25,7 @@ use Rattle.wbt_run_laws.specs.Ticks.{published_after}
 use Rattle.wbt_run_laws.proofs.Lists.{each_append}
 use Rattle.wbt_run_laws.proofs.Walking.{after_append}
 use Rattle.wbt_run_laws.proofs.Working.{timer_went_nowhere, timer_went_on}
-use Rattle.wbt_run_worker.specs.Ticking.{IsTold, MayTick, Ticks, ticking}
+use Rattle.wbt_run_worker.specs.Ticking.{LimitsAreTold, MayTick, Ticks, ticking}
 
 pub stays_now : (seats : Seats) → SeatsStay seats seats
 stays_now seats = record { table = refl; layout = refl; cpus = refl; logs = refl; totals = refl; stakes = λ domain. refl; rooms = λ domain. refl; est = refl; queue = refl }
@@ -51,21 +51,21 @@ lengthens (timer.Limits domain now limits ∷ es) older = let more = lengthens e
 lengthens (timer.Period domain k ∷ es) older = lengthens es older
 
 -- entries that publish nothing tell no limits
-pub quiet : (told : ℕ → Type 0) (es : List TimerEntry) (older : List DomainLimits) → after published_after older es ≡ older → Each (IsTold told) es
+pub quiet : (told : ℕ → Type 0) (es : List TimerEntry) (older : List DomainLimits) → after published_after older es ≡ older → Each (LimitsAreTold told) es
 quiet told [] older same = tt
 quiet told (timer.Limits domain now limits ∷ es) older same =
     absurd (let more = lengthens es (published_after older (timer.Limits domain now limits)) in let n = ap length same in omega arith)
 quiet told (timer.Period domain k ∷ es) older same = (tt, quiet told es older same)
 
-line_timed : (told : ℕ → Type 0) (put : Put) (domain now : ℕ) (limits : Limits) → told now → Each (IsTold told) (line_for put domain now limits)
+line_timed : (told : ℕ → Type 0) (put : Put) (domain now : ℕ) (limits : Limits) → told now → Each (LimitsAreTold told) (line_for put domain now limits)
 line_timed told Done domain now limits was = (was, tt)
 line_timed told Stopped domain now limits was = tt
 line_timed told Last domain now limits was = tt
 
-lines_timed : (told : ℕ → Type 0) (now domain : ℕ) (outcomes : List Outcome) → told now → Each (IsTold told) (lines_from now domain outcomes)
+lines_timed : (told : ℕ → Type 0) (now domain : ℕ) (outcomes : List Outcome) → told now → Each (LimitsAreTold told) (lines_from now domain outcomes)
 lines_timed told now domain [] was = tt
 lines_timed told now domain (one ∷ more) was =
-    each_append (IsTold told) (line_for one.put domain now one.limits) (lines_from now (suc domain) more) (line_timed told one.put domain now one.limits was) (lines_timed told now (suc domain) more was)
+    each_append (LimitsAreTold told) (line_for one.put domain now one.limits) (lines_from now (suc domain) more) (line_timed told one.put domain now one.limits was) (lines_timed told now (suc domain) more was)
 
 -- ---- turns
 
@@ -95,7 +95,7 @@ ticks_more told a b c s t u l m n p q = record {
   stay = stays_more s t u p.stay q.stay;
   added = p.added ++ q.added;
   logged = q.logged ∙ ap (λ (x : List TimerEntry). x ++ q.added) p.logged ∙ append_assoc l p.added q.added;
-  moments = each_append (IsTold told) p.added q.added p.moments q.moments;
+  moments = each_append (LimitsAreTold told) p.added q.added p.moments q.moments;
   stops = p.stops + q.stops;
   went = λ trace opened r of has. let one = p.went trace opened r of has in let two = q.went trace opened one.0 (is_timer_still trace a b p.machine of) one.1 in
       (two.0, two.1, timer_went_on trace opened p.stops q.stops (ticking r a s l) (ticking one.0 b t m) (ticking two.0 c u n) one.2 two.2);
@@ -128,8 +128,8 @@ steps_tick told now old new seats seats' log log' was r has steps =
       stay = steps.stay;
       added = steps.added;
       logged = steps.logged;
-      moments = subst (λ (es : List TimerEntry). Each (IsTold told) es) (sym added_are)
-          (each_append (IsTold told) lines turn.periods (lines_timed told now 0 turn.outcomes was) (quiet told turn.periods (after published_after r.published lines) same));
+      moments = subst (λ (es : List TimerEntry). Each (LimitsAreTold told) es) (sym added_are)
+          (each_append (LimitsAreTold told) lines turn.periods (lines_timed told now 0 turn.outcomes was) (quiet told turn.periods (after published_after r.published lines) same));
       stops = 0;
       went = λ trace opened q of holds. let one = steps.turn trace q of holds in
           (one.0, one.1, record { added = steps.added; logged = steps.logged; since = one.3 opened });
@@ -147,7 +147,7 @@ halts_tick told now old new seats seats' log log' was r has halts =
       stay = halts.stay;
       added = halts.added;
       logged = halts.logged;
-      moments = subst (λ (es : List TimerEntry). Each (IsTold told) es) (sym part.publishes.lines_are)
+      moments = subst (λ (es : List TimerEntry). Each (LimitsAreTold told) es) (sym part.publishes.lines_are)
           (lines_timed told now 0 (part.outcomes ++ record { limits = part.limits; put = Stopped } ∷ []) was);
       stops = 1;
       went = λ trace opened q of holds. let one = halts.turn trace q of holds in

@@ -12,7 +12,7 @@ use Rattle.wbt_table.specs.Layout.{domains}
 use Rattle.wbt_timer.specs.Kinds.{HasSealed, Steps, StepsAs, StepsBy}
 use Rattle.wbt_timer.proofs.Made.{steps_more as timer_more, turns_follow}
 use Rattle.wbt_turns.specs.Words.{IsTimerTurn, IsWhole}
-use Rattle.wbt_run_worker.specs.TimerTurns.{AreTurns, EndBy, GoesOnAfter, HasTakenTurns, HasTurned, HasTurnedOnce, IsOneTurn, StepsSo, HasTurnedToTheEnd, IsTurn, TakesATurn, TakesTurn, TimerStance, is_refused, is_stopped, timer_stance}
+use Rattle.wbt_run_worker.specs.TimerTurns.{AreTurns, TurnsEndBy, GoesOnAfter, HasTakenTurns, HasTurned, HasTurnedOnce, IsOneTurn, StepsSo, HasTurnedToTheEnd, IsTurn, TakesATurn, TimerTakesTurn, TimerStance, is_refused, is_stopped, timer_stance}
 use Rattle.wbt_run_worker.specs.Voices.{LeavesFor}
 use Rattle.wbt_run_worker.specs.declared.ticking.TimerWorker.{TimerWorker}
 
@@ -119,7 +119,7 @@ module _ (told : ℕ → Type 0) (said : ℕ → ℕ → Bool → Type 0) (kit :
 
   -- a turn that it goes on after, of which it says nothing
   pub takes_on : (answer : Turn) (old new : TimerWorker) (s t : Seats) → IsTurn told said kit answer (timer_stance old s) (timer_stance new t) → GoesOnAfter answer
-      → new.refused ≡ old.refused → new.halted ≡ old.halted → new.voice.rings ≡ old.voice.rings → TakesTurn told said kit answer old new s t
+      → new.refused ≡ old.refused → new.halted ≡ old.halted → new.voice.rings ≡ old.voice.rings → TimerTakesTurn told said kit answer old new s t
   takes_on answer old new s t one goes refused halted rings =
       let none = goes_so answer goes in record {
         is = one;
@@ -144,7 +144,7 @@ module _ (told : ℕ → Type 0) (said : ℕ → ℕ → Bool → Type 0) (kit :
     pub some : 1 ≤ length gone.many.turns
 
   -- a turn that it goes on after
-  pub gone_further : (answer : Turn) (old mid new : TimerWorker) (s t u : Seats) → HasGoneOn old mid s t → TakesTurn told said kit answer mid new t u → GoesOnAfter answer
+  pub gone_further : (answer : Turn) (old mid new : TimerWorker) (s t u : Seats) → HasGoneOn old mid s t → TimerTakesTurn told said kit answer mid new t u → GoesOnAfter answer
       → HasGoneFurther old new s u
   gone_further answer old mid new s t u gone takes goes =
       let none = goes_so answer goes in
@@ -175,7 +175,7 @@ module _ (told : ℕ → Type 0) (said : ℕ → ℕ → Bool → Type 0) (kit :
   }
 
   -- it was cut off by its last turn
-  cut_by : (answer : Turn) (old mid new : TimerWorker) (s t u : Seats) → HasGoneOn old mid s t → TakesTurn told said kit answer mid new t u
+  cut_by : (answer : Turn) (old mid new : TimerWorker) (s t u : Seats) → HasGoneOn old mid s t → TimerTakesTurn told said kit answer mid new t u
       → false ≡ not (is_refused answer || is_stopped answer) → HasTurnedToTheEnd told said kit old new s u
   cut_by Halted old mid new s t u gone takes so =
       let rung : new.voice.rings ≡ mid.voice.rings + 0 = takes.rings in let before = gone.rings in
@@ -189,7 +189,7 @@ module _ (told : ℕ → Type 0) (said : ℕ → ℕ → Bool → Type 0) (kit :
   cut_by Faulted old mid new s t u gone takes so = absurd (let no : false ≡ true = so in cc)
   cut_by Spent old mid new s t u gone takes so = absurd (let no : false ≡ true = so in cc)
 
-  left_by : (answer : Turn) (old new : TimerWorker) (s t : Seats) → TakesTurn told said kit answer old new s t → false ≡ not (is_refused answer || is_stopped answer)
+  left_by : (answer : Turn) (old new : TimerWorker) (s t : Seats) → TimerTakesTurn told said kit answer old new s t → false ≡ not (is_refused answer || is_stopped answer)
       → LeavesFor new.refused new.halted new.in_turn new.voice
   left_by Halted old new s t takes so = inr (inl takes.halted)
   left_by NoMemory old new s t takes so = inl takes.refused
@@ -286,11 +286,12 @@ module _ (told : ℕ → Type 0) (said : ℕ → ℕ → Bool → Type 0) (kit :
       once = on;
     }
 
-    once_so : (answer : Turn) → GoesOnAfter answer → TakesTurn told said kit answer old new seats seats' → old.halted ≡ false → HasTurnedOnce told said kit old new seats seats'
+    once_so : (answer : Turn) → GoesOnAfter answer → TimerTakesTurn told said kit answer old new seats seats' → old.halted ≡ false → HasTurnedOnce told said kit old new seats seats'
     once_so answer goes takes on =
         let all = (gone_further answer old old new seats seats seats' (gone_nowhere old seats) takes goes).gone in one_turn answer takes.is goes all.refused all.halted all.rings on
 
-    taken_once : (answer : Turn) → TakesTurn told said kit answer old new seats seats' → old.halted ≡ false → HasTurnedOnce told said kit old new seats seats'
+    taken_once : (answer : Turn) → TimerTakesTurn told said kit answer old new seats seats' → old.halted ≡ false
+        → HasTurnedOnce told said kit old new seats seats'
     taken_once Halted takes on = let rung : new.voice.rings ≡ old.voice.rings + 0 = takes.rings in stopped_at_once takes.is takes.refused takes.halted (omega (arith, rung)) on
     taken_once NoMemory takes on = out_at_once takes.is takes.refused takes.halted takes.rings on
     taken_once Stepped takes on = once_so Stepped tt takes on
@@ -300,7 +301,7 @@ module _ (told : ℕ → Type 0) (said : ℕ → ℕ → Bool → Type 0) (kit :
     taken_once Spent takes on = once_so Spent tt takes on
 
     -- after a look, by which it rang no bell
-    pub looked_once : (voice : Known) (answer : Turn) → old.halted ≡ false → voice.rings ≡ old.voice.rings → TakesTurn told said kit answer (record old { voice = voice }) new seats seats' → HasTurnedOnce told said kit old new seats seats'
+    pub looked_once : (voice : Known) (answer : Turn) → old.halted ≡ false → voice.rings ≡ old.voice.rings → TimerTakesTurn told said kit answer (record old { voice = voice }) new seats seats' → HasTurnedOnce told said kit old new seats seats'
     looked_once voice answer on same takes = taken_once answer (record {
       is = takes.is;
       refused = takes.refused;
@@ -337,7 +338,7 @@ module _ (told : ℕ → Type 0) (said : ℕ → ℕ → Bool → Type 0) (kit :
   or_not false a b so = so
   or_not true a b so = (turns_follow n).ended a b so.0
 
-  turns_steps : (out stopped : Bool) (turns : List Turn) (first : Seats) (a c : TimerStance) → AreTurns told said kit turns a c → EndBy out stopped turns → StepsSo n false first a.seats
+  turns_steps : (out stopped : Bool) (turns : List Turn) (first : Seats) (a c : TimerStance) → AreTurns told said kit turns a c → TurnsEndBy out stopped turns → StepsSo n false first a.seats
       → StepsSo n stopped first c.seats
   turns_steps false false turns first a c are ends so = all_whole turns first a c are ends so
   turns_steps false true turns first a c are ends so =

@@ -14,9 +14,9 @@ use Rattle.wbt_trace.specs.declared.trace.Trace.{Trace}
 use Rattle.wbt_run_laws.specs.Worker.{TimerWorker, TimerWent}
 
 -- the moment of the limits that an entry tells was told
-abbrev pub IsTold : (told : ℕ → Type 0) (entry : TimerEntry) → Type 0
-IsTold told (timer.Limits domain now limits) = told now
-IsTold told (timer.Period domain k) = Unit {0}
+abbrev pub LimitsAreTold : (told : ℕ → Type 0) (entry : TimerEntry) → Type 0
+LimitsAreTold told (timer.Limits domain now limits) = told now
+LimitsAreTold told (timer.Period domain k) = Unit {0}
 
 -- the kit has just the domains that the timer keeps
 pub record HasDomains (kit : Kit) (side : Side) : Type 0 where
@@ -41,7 +41,7 @@ pub record Ticks (told : ℕ → Type 0) (old new : Side) (seats seats' : Seats)
   pub stay : SeatsStay seats seats'
   pub added : List TimerEntry
   pub logged : log' ≡ log ++ added
-  pub moments : Each (IsTold told) added
+  pub moments : Each (LimitsAreTold told) added
   pub stops : ℕ  -- how often the gate stopped it
   pub went : (trace : Trace) (opened : ℕ) (r : TimerRecord) → IsTimerOf trace old → HasTimer r seats
       → (r' : TimerRecord) × HasTimer r' seats' × TimerWent trace opened stops (ticking r old seats log) (ticking r' new seats' log')

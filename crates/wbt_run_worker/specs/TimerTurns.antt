@@ -49,10 +49,10 @@ GoesOnAfter Halted = ⊥
 GoesOnAfter other = Unit {0}
 
 -- whether the last turn was refused memory, or stopped by the gate; none before it was either
-abbrev pub EndBy : (out stopped : Bool) (turns : List Turn) → Type 0
-EndBy false false turns = Each GoesOnAfter turns
-EndBy false true turns = (before : List Turn) × (turns ≡ before ++ Halted ∷ []) × Each GoesOnAfter before
-EndBy true stopped turns = (before : List Turn) × (turns ≡ before ++ NoMemory ∷ []) × Each GoesOnAfter before
+abbrev pub TurnsEndBy : (out stopped : Bool) (turns : List Turn) → Type 0
+TurnsEndBy false false turns = Each GoesOnAfter turns
+TurnsEndBy false true turns = (before : List Turn) × (turns ≡ before ++ Halted ∷ []) × Each GoesOnAfter before
+TurnsEndBy true stopped turns = (before : List Turn) × (turns ≡ before ++ NoMemory ∷ []) × Each GoesOnAfter before
 
 -- whether a turn was refused memory, and whether the gate stopped it
 abbrev pub is_refused : (answer : Turn) → Bool
@@ -66,7 +66,7 @@ is_stopped other = false
 
 -- A turn with this answer. The worker says that it was refused memory, and rings the bell, just where the turn was; and it is halted just where the
 -- gate stopped the turn.
-pub record TakesTurn (told : ℕ → Type 0) (said : ℕ → ℕ → Bool → Type 0) (kit : Kit) (answer : Turn) (old new : TimerWorker) (seats seats' : Seats) : Type 0 where
+pub record TimerTakesTurn (told : ℕ → Type 0) (said : ℕ → ℕ → Bool → Type 0) (kit : Kit) (answer : Turn) (old new : TimerWorker) (seats seats' : Seats) : Type 0 where
   pub is : IsTurn told said kit answer (timer_stance old seats) (timer_stance new seats')
   pub refused : new.refused ≡ (is_refused answer || old.refused)
   pub halted : new.halted ≡ (is_stopped answer || old.halted)
@@ -75,7 +75,7 @@ pub record TakesTurn (told : ℕ → Type 0) (said : ℕ → ℕ → Bool → Ty
 -- a turn, after which it goes on or doesn't
 pub record TakesATurn (told : ℕ → Type 0) (said : ℕ → ℕ → Bool → Type 0) (kit : Kit) (goes_on : Bool) (old new : TimerWorker) (seats seats' : Seats) : Type 0 where
   pub answer : Turn
-  pub takes : TakesTurn told said kit answer old new seats seats'
+  pub takes : TimerTakesTurn told said kit answer old new seats seats'
   pub goes : goes_on ≡ not (is_refused answer || is_stopped answer)
 
 -- The worker took these turns and did nothing else. It says that it was refused memory, and rings the bell, just where the last one was; and that
@@ -85,7 +85,7 @@ pub record HasTurned (told : ℕ → Type 0) (said : ℕ → ℕ → Bool → Ty
   pub are : AreTurns told said kit turns (timer_stance old seats) (timer_stance new seats')
   pub out : Bool
   pub stopped : Bool
-  pub ends : EndBy out stopped turns
+  pub ends : TurnsEndBy out stopped turns
   pub refused : new.refused ≡ (out || old.refused)
   pub halted : new.halted ≡ (stopped || old.halted)
   pub rings : new.voice.rings ≡ old.voice.rings + cond out 1 0

@@ -3,7 +3,7 @@
 ghost use Rattle.std.specs.Prelude.{◌≡◌, ◌⊎◌, true};
 ghost use Rattle.wbt_timer.specs.Ready.{IsReady};
 ghost use Rattle.wbt_run_worker.specs.Ticking.{MayTick, Ticks};
-ghost use Rattle.wbt_run_worker.specs.TimerTurns.{HasTurnedOnce, HasTurnedToTheEnd, TakesATurn, TakesTurn};
+ghost use Rattle.wbt_run_worker.specs.TimerTurns.{HasTurnedOnce, HasTurnedToTheEnd, TakesATurn, TimerTakesTurn};
 ghost use Rattle.wbt_run_worker.specs.Voices.{LeavesFor, TimerSpeaks};
 
 use crate::condition::Condition;
@@ -120,7 +120,7 @@ impl TimerWorker {
         requires voice { self.old.voice.signals ≡ condition.now.signals }
         ensures ticks { Ticks (C.told hands.now.clock.now) self.old.side self.new.side seats.old seats.new self.old.log.items self.new.log.items }
         ensures may { MayTick hands.now.kit.now self.new.side seats.new }
-        ensures turn { TakesTurn (C.told hands.now.clock.now) (G.said hands.now.gate.now) hands.now.kit.now result self.old self.new seats.old seats.new }
+        ensures turn { TimerTakesTurn (C.told hands.now.clock.now) (G.said hands.now.gate.now) hands.now.kit.now result self.old self.new seats.old seats.new }
         ensures speaks { TimerSpeaks condition.now.signals self.old.refused self.new.refused self.old.voice self.new.voice }
     {
         match self.side.turn(

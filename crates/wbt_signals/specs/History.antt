@@ -6,14 +6,17 @@ use Rattle.wbt_signals.specs.declared.rule.Note.{Note}
 
 -- one for an operation of this kind, and none for any other
 
+-- one for ringing the bell
 abbrev pub rings : (act : Act) → ℕ
 rings Ring = 1
 rings other = 0
 
+-- one for saying of a worker that it writes no more
 abbrev pub stops : (act : Act) → ℕ
 stops Stop = 1
 stops other = 0
 
+-- one for saying of a worker that it leaves
 abbrev pub leaves : (act : Act) → ℕ
 leaves Leave = 1
 leaves other = 0
@@ -53,10 +56,12 @@ pub record IsNoted (workers : ℕ) (act : Act) (old new : List Note) : Type 0 wh
 
 -- the notes of two voices, the newest first
 
+-- one note put into notes, the newest first, by its place
 abbrev pub put_note : (note : Note) (notes : List Note) → List Note
 put_note note [] = note ∷ []
 put_note note (one ∷ older) = cond (ltb one.place note.place) (note ∷ one ∷ older) (one ∷ put_note note older)
 
+-- the notes of two voices as one list
 abbrev pub merged : (notes others : List Note) → List Note
 merged [] others = others
 merged (note ∷ older) others = put_note note (merged older others)
@@ -68,6 +73,7 @@ pub record Owned : Type 0 where
   pub owner : ℕ
   pub note : Note
 
+-- the operations alone, without their owners
 abbrev pub history_of : (past : List Owned) → List Note
 history_of [] = []
 history_of (one ∷ older) = one.note ∷ history_of older

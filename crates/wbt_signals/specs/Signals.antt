@@ -14,15 +14,19 @@ unfoldable pub total : (of : View → ℕ) (views : List View) → ℕ
 total of [] = 0
 total of (view ∷ more) = of view + total of more
 
+-- the stakes of all voices, which are 2^32 together
 abbrev pub all_stakes : (views : List View) → ℕ
 all_stakes views = total (λ view. view.stakes) views
 
+-- how often all voices together rang the bell
 abbrev pub all_rings : (views : List View) → ℕ
 all_rings views = total (λ view. view.rings) views
 
+-- of how many workers all voices together may still say that they write no more
 abbrev pub all_writes : (views : List View) → ℕ
 all_writes views = total (λ view. view.writes) views
 
+-- of how many workers they may still say that they leave
 abbrev pub all_there : (views : List View) → ℕ
 all_there views = total (λ view. view.there) views
 
@@ -35,6 +39,7 @@ pub record Fits (workers bell writers there : ℕ) (view : View) : Type 0 where
   pub quiet : view.quiet ≡ true → writers ≡ 0
   pub gone : view.gone ≡ true → there ≡ 0
 
+-- so it is with each voice
 abbrev pub AllFit : (workers bell writers there : ℕ) (views : List View) → Type 0
 AllFit workers bell writers there [] = Unit {0}
 AllFit workers bell writers there (view ∷ more) = Fits workers bell writers there view × AllFit workers bell writers there more
@@ -81,6 +86,7 @@ first_view workers = record {
 abbrev pub Sat : Type 0
 Sat = Me (Unit {0}) View
 
+-- the voice rang the bell once more
 abbrev pub Rang : (step : Step (Unit {0})) (old : Sat) (found : ℕ) (new : Sat) → Type 0
 Rang step old found new = (new ≡ (record old.0 { rings = old.0.rings + 1; notes = new.0.notes }, old.1))
     × IsNoted old.0.workers Ring old.0.notes new.0.notes
@@ -91,6 +97,7 @@ Listened step old found new = (new ≡ (record old.0 { heard = not (found == 0);
     × IsNoted old.0.workers (Listen (not (found == 0))) old.0.notes new.0.notes × (old.0.heard ≡ true → not (found == 0) ≡ true)
     × (1 ≤ old.0.rings → not (found == 0) ≡ true) × (not (found == 0) ≡ true → old.0.stakes ≡ 2 ^ 32 → 1 ≤ old.0.rings)
 
+-- the voice said of one of its workers that it writes no more
 abbrev pub Stopped : (step : Step (Unit {0})) (old : Sat) (found : ℕ) (new : Sat) → Type 0
 Stopped step old found new = (new ≡ (record old.0 { writes = old.0.writes - 1; notes = new.0.notes }, old.1))
     × IsNoted old.0.workers Stop old.0.notes new.0.notes
@@ -101,6 +108,7 @@ Counted step old found new = (new ≡ (record old.0 { quiet = found == 0; notes 
     × IsNoted old.0.workers (Count (found == 0)) old.0.notes new.0.notes × (old.0.quiet ≡ true → (found == 0) ≡ true)
     × ((found == 0) ≡ true → old.0.writes ≡ 0) × (old.0.stakes ≡ 2 ^ 32 → old.0.writes ≡ 0 → (found == 0) ≡ true)
 
+-- the voice said of one of its workers that it leaves
 abbrev pub Left : (step : Step (Unit {0})) (old : Sat) (found : ℕ) (new : Sat) → Type 0
 Left step old found new = (new ≡ (record old.0 { there = old.0.there - 1; notes = new.0.notes }, old.1))
     × IsNoted old.0.workers Leave old.0.notes new.0.notes
@@ -119,9 +127,11 @@ Learned step old found new = (new ≡ (old.0, old.1)) × (old.0.heard ≡ true �
 
 -- ---- splits and joins
 
+-- the old voice: it has one stake less, and speaks for one worker less
 abbrev pub left_view : (view : View) → View
 left_view view = record view { stakes = view.stakes - 1; writes = view.writes - 1; there = view.there - 1 }
 
+-- the new voice: it has one stake, speaks for one worker, and did nothing yet
 abbrev pub right_view : (view : View) → View
 right_view view = record {
   stakes = 1;
@@ -135,6 +145,7 @@ right_view view = record {
   notes = [];
 }
 
+-- one voice after it took in another: it has what both had, with their notes in one order
 abbrev pub joined : (view other : View) → View
 joined view other = record {
   stakes = view.stakes + other.stakes;
@@ -148,6 +159,7 @@ joined view other = record {
   notes = merged view.notes other.notes;
 }
 
+-- what is left of a voice that another took in
 abbrev pub spent : View
 spent = record { stakes = 0; workers = 0; rings = 0; heard = false; writes = 0; quiet = false; there = 0; gone = false; notes = [] }
 
@@ -166,6 +178,7 @@ pub record Known : Type 0 where
   pub gone : Bool
   pub notes : List Note
 
+-- what a voice of these signals knows
 abbrev pub known_by : (signals : TableId) (view : View) → Known
 known_by signals view = record {
   signals = signals;
@@ -199,6 +212,7 @@ new_voice signals workers = record {
   notes = [];
 }
 
+-- the old voice after a new one is split off
 abbrev pub left_voice : (voice : Known) → Known
 left_voice voice = record voice { stakes = voice.stakes - 1; writes = voice.writes - 1; there = voice.there - 1 }
 

@@ -58,6 +58,7 @@ pub record IsFreeOnItsOwn (reads : Reads) : Type 0 where
   pub above : SomeDomain (λ domain. freerun domain.limits < domain.dirty) reads
   pub calm : IsStrictlyCalm reads
 
+-- so it is wherever the strict decision lets a writer through freely and the other one doesn't
 abbrev pub FreerOnlyOnItsOwn : Type 0
 FreerOnlyOnItsOwn = (reads : Reads) (estimate : Estimate) (task : Task) (now : ℕ) → (strict_decision reads estimate task now).kind ≡ Free
     → (decision_of reads estimate task now).kind ≢ Free → IsFreeOnItsOwn reads

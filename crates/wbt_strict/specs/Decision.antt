@@ -28,6 +28,7 @@ strict_rule reads = record {
   over = some_domain (λ domain. nat_lt domain.wb_thresh reads.wb_dirty) reads;
 }
 
+-- what a check decides in a context of a strict device, at a moment in ticks
 abbrev pub strict_decision : (reads : Reads) (estimate : Estimate) (task : Task) (now : ℕ) → Decision
 strict_decision reads estimate task now = finished (strict_rule reads) reads.wb_dirty reads.cpus reads.cap estimate task now
 

@@ -28,6 +28,7 @@ StrictNeverRises = (read : DomainRead) (wb_dirty more : ℕ) → wb_dirty ≤ mo
 abbrev pub half_way : DomainRead
 half_way = record { limits = record { thresh = 19995; bg = 9985; hard = 19995 }; dirty = 17492; wb_thresh = 1000 }
 
+-- position ratios of this context, in 1024ths, at four counts of its pages
 pub record RowsOfStrictPosition : Type 0 where
   pub few_pages : strict_ratio half_way 7 ≡ 2048
   pub at_its_middle : strict_ratio half_way 749 ≡ 1024

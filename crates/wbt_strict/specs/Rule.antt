@@ -22,6 +22,7 @@ strict_slack set k most writers = total set.writers (λ w. cond (set.works_in w 
 abbrev pub IsStrictlyWithin : (set : Setting) (k most : ℕ) (book : Book) (writers : ℕ → WriterRecord) → Type 0
 IsStrictlyWithin set k most book writers = context_count set book k ≤ most + stat_error set.cpus + strict_slack set k most writers
 
+-- the strict rule of the context k in a state
 abbrev pub StrictRule : (set : Setting) (k most : ℕ) (s : State) → Type 0
 StrictRule set k most s = IsStrictlyWithin set k most s.book (writer_at set s.cpu)
 
@@ -30,6 +31,7 @@ abbrev pub IsStrict : (set : Setting) (k most : ℕ) (step : Step) (s : State) �
 IsStrict set k most (grant w pages) s = set.works_in w ≡ k → fits most (writer_at set s.cpu w).context_reading ≡ true
 IsStrict set k most other s = Unit {0}
 
+-- each step of a list is strict in the state that the ones before it lead to
 abbrev pub AreStrict : (set : Setting) (k most : ℕ) (steps : List Step) (s : State) → Type 0
 AreStrict set k most [] s = Unit {0}
 AreStrict set k most (step ∷ rest) s = IsStrict set k most step s × AreStrict set k most rest (after set step s)

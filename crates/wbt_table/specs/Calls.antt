@@ -48,9 +48,11 @@ use Rattle.wbt_table.specs.Seat.{Seated, Changes, LogComes, LogsOne, Makes, Time
 
 -- make: nothing is done yet
 
+-- what is kept of a CPU that did nothing
 abbrev pub no_state : CpuState
 no_state = record { steps = 0; page_steps = 0; context = 0; group = 0; first = None; second = None; third = None; grants = None }
 
+-- the seat holds every CPU and the timer, with the records of the opening and empty logs
 pub record IsFirst (seat : Seated) : Type 0 where
   pub cpus : seat.cpus ≡ replicate seat.layout.cpus (Some no_record)
   pub timer : seat.timer ≡ Some (opening (setting seat.layout)).timer
@@ -59,10 +61,12 @@ pub record IsFirst (seat : Seated) : Type 0 where
 
 -- split: the seat without the CPU of this number, or without the timer, and a seat with that alone
 
+-- the seat that was split; the number after the last CPU's is the timer's
 abbrev pub left_seat : (n : ℕ) (seat : Seated) → Seated
 left_seat n seat = cond (n == seat.layout.cpus) (record seat { timer = None; timer_log = None })
     (record seat { cpus = without_cpu n seat.cpus; logs = without_cpu n seat.logs })
 
+-- the new seat, which holds the CPU n, or the timer, and nothing else
 abbrev pub right_seat : (n : ℕ) (seat : Seated) → Seated
 right_seat n seat = cond (n == seat.layout.cpus)
     (record seat { cpus = replicate (length seat.cpus) None; logs = replicate (length seat.logs) None })
@@ -92,6 +96,7 @@ abbrev pub TellsDirty : (answer : Dirtied) (was_dirty : Bool) → Type 0
 TellsDirty Fresh was_dirty = was_dirty ≡ false
 TellsDirty Already was_dirty = was_dirty ≡ true
 
+-- a writer dirties a page, and the answer says whether it found the page dirty
 pub record Dirties (set : Setting) (w p : ℕ) (answer : Dirtied) (old new : Seated) : Type 0 where
   pub found : ℕ
   pub tells : TellsDirty answer (bits_at found p).dirty
@@ -101,6 +106,7 @@ pub record Dirties (set : Setting) (w p : ℕ) (answer : Dirtied) (old new : Sea
 abbrev pub HasPageSteps : (set : Setting) (c : ℕ) (seat : Seated) → Type 0
 HasPageSteps set c seat = Holds seat.cpus c (λ r. r.page_steps < set.page_steps)
 
+-- the seat holds the CPU, which has made as many page steps as it may
 abbrev pub HasNoPageSteps : (set : Setting) (c : ℕ) (seat : Seated) → Type 0
 HasNoPageSteps set c seat = Holds seat.cpus c (λ r. set.page_steps ≤ r.page_steps)
 
@@ -148,21 +154,26 @@ abbrev pub told_fold : (told : Option Fold) → List Fold
 told_fold None = []
 told_fold (Some one) = one ∷ []
 
+-- all folds of a call, of the cgroup's, the global domain's and the context's counter: the newest first
 abbrev pub told_folds : (settled : Settled) → List Fold
 told_folds settled = told_fold settled.third ++ told_fold settled.second ++ told_fold settled.first
 
+-- a fold that is told is of such a counter
 abbrev pub IsOf : (is : Counter → Bool) (told : Option Fold) → Type 0
 IsOf is None = Unit {0}
 IsOf is (Some one) = is one.counter ≡ true
 
+-- a context's own counter
 abbrev pub is_context : (x : Counter) → Bool
 is_context (Domain d) = false
 is_context (Context k) = true
 
+-- the global domain's counter
 abbrev pub is_global : (x : Counter) → Bool
 is_global (Domain d) = d == 0
 is_global (Context k) = false
 
+-- the counter of a cgroup's domain
 abbrev pub is_group : (x : Counter) → Bool
 is_group (Domain d) = not (d == 0)
 is_group (Context k) = false
@@ -206,6 +217,7 @@ pub record CanClaim (set : Setting) (p found : ℕ) (r : CpuRecord) : Type 0 whe
 abbrev pub looked_at : (set : Setting) (c p n : ℕ) (r : CpuRecord) → CpuRecord
 looked_at set c p n r = record_after set (look c p) n r
 
+-- the record after a look that found n and a claim that found m
 abbrev pub tried : (set : Setting) (c p n m : ℕ) (r : CpuRecord) → CpuRecord
 tried set c p n m r = record_after set (claim c p) m (looked_at set c p n r)
 
@@ -213,6 +225,7 @@ tried set c p n m r = record_after set (claim c p) m (looked_at set c p n r)
 abbrev pub LogsLook : (set : Setting) (c p n : ℕ) (old new : Seated) → Type 0
 LogsLook set c p n old new = LogComes c (LogsOne set c (look c p) n) old new
 
+-- the log has both steps, with the numbers n and m that they found
 abbrev pub LogsTry : (set : Setting) (c p n m : ℕ) (old new : Seated) → Type 0
 LogsTry set c p n m old new = LogComes c (LogsSteps set (log_of set c) (record { step = look c p; found = n } ∷ record { step = claim c p; found = m } ∷ [])) old new
 
@@ -220,6 +233,7 @@ LogsTry set c p n m old new = LogComes c (LogsSteps set (log_of set c) (record {
 abbrev pub AskedToLook : (c : ℕ) (said : ℕ → Bool → Type 0) (old : Seated) → Type 0
 AskedToLook c said old = (r : CpuRecord) → Has old.cpus c r → said r.steps true
 
+-- the gate was asked before the claim, by the steps that the record had after the look, and said true
 abbrev pub AskedToClaim : (set : Setting) (c p n : ℕ) (said : ℕ → Bool → Type 0) (old : Seated) → Type 0
 AskedToClaim set c p n said old = (r : CpuRecord) → Has old.cpus c r → said (looked_at set c p n r).steps true
 
@@ -233,6 +247,7 @@ pub data Halts (set : Setting) (c p : ℕ) (said : ℕ → Bool → Type 0) (old
 abbrev pub IsUnheld : (c p : ℕ) (seat : Seated) → Type 0
 IsUnheld c p seat = (r : CpuRecord) → Has seat.cpus c r → times_in p r.held ≡ 0
 
+-- Mine: the claim found what the look had found. Missed: it found another word. NotDirty: the page wasn't claimable. Stopped: the gate said false
 abbrev pub Claims : (set : Setting) (c p : ℕ) (said : ℕ → Bool → Type 0) (answer : Claim) (old new : Seated) → Type 0
 Claims set c p said Mine old new = (n : ℕ) × (is_claimable (bits_at n p) ≡ true) × Changes c (tried set c p n n) old new × IsUnheld c p old
     × LogsTry set c p n n old new × AskedToLook c said old × AskedToClaim set c p n said old
@@ -352,10 +367,12 @@ abbrev pub timer_of : (made : List Made) (r : TimerRecord) → TimerRecord
 timer_of [] r = r
 timer_of (m ∷ more) r = timer_of more (timer_after m.step m.found r)
 
+-- the gate was asked before each step of the timer, by the steps that its record had, and said true
 abbrev pub AskedTimer : (said : ℕ → Bool → Type 0) (made : List Made) (r : TimerRecord) → Type 0
 AskedTimer said [] r = Unit {0}
 AskedTimer said (m ∷ more) r = said r.steps true × AskedTimer said more (timer_after m.step m.found r)
 
+-- the timer, where the seat holds it, made these steps, and its log has each; no CPU's record or log changes
 pub record TimesAll (set : Setting) (said : ℕ → Bool → Type 0) (made : List Made) (old new : Seated) : Type 0 where
   pub table : new.table ≡ old.table
   pub layout : new.layout ≡ old.layout
@@ -370,6 +387,7 @@ pub record MayPut (d : ℕ) (triple : Limits) (r : TimerRecord) : Type 0 where
   pub lawful : IsLawful triple
   pub raised_before : IsSomeAnd (last_raised d r.raised) (λ hard. triple.hard ≤ hard)
 
+-- the sequence of the domain is odd
 abbrev pub IsUnsealed : (d : ℕ) (r : TimerRecord) → Type 0
 IsUnsealed d r = is_sealed (stage_of d r.drafts) ≡ false
 
@@ -377,9 +395,11 @@ IsUnsealed d r = is_sealed (stage_of d r.drafts) ≡ false
 abbrev pub unsealing_step : (d n : ℕ) → Made
 unsealing_step d n = record { step = unseal d; found = n }
 
+-- the step that changes the thresh word, and what it found there
 abbrev pub drafting_step : (d : ℕ) (triple : Limits) (n : ℕ) → Made
 drafting_step d triple n = record { step = thresh d triple; found = n }
 
+-- the step that publishes and makes the sequence even again, and what it found in the sequence word
 abbrev pub sealing_step : (d : ℕ) (triple : Limits) (n : ℕ) → Made
 sealing_step d triple n = record { step = publish d triple; found = n }
 
@@ -409,6 +429,7 @@ abbrev pub ticked : (timer : Option ℕ) → Option ℕ
 ticked None = None
 ticked (Some steps) = Some (one_more steps)
 
+-- a shared word as a version and a count of pages
 abbrev pub count_of : (word : ℕ) → Count
 count_of word = record { version = version_in word; value = count_in word }
 

@@ -28,6 +28,7 @@ pub record Counted : Type 0 where
   pub words : List ℕ
   pub states : States
 
+-- the word with this number, as it was last
 abbrev pub word_at : (census : Counted) (k : ℕ) → ℕ
 word_at census k = slice_index_or census.words k 0
 
@@ -35,6 +36,7 @@ word_at census k = slice_index_or census.words k 0
 abbrev pub OwnFits : (key : Layout) (words : List ℕ) → Type 0
 OwnFits key words = (x : Counter) (i : ℕ) → HasCounter key x → i < key.cpus → slice_index_or words (own_at key x i) 0 < 2 ^ 33
 
+-- what is kept of a CPU; one that the seat doesn't hold owes nothing
 abbrev pub kept_state : (state : Option CpuState) → CpuState
 kept_state None = no_state
 kept_state (Some state) = state

@@ -37,10 +37,12 @@ steps_of (made ∷ older) = steps_of older ++ made.step ∷ []
 
 -- how it is logged, where as many as `moment` had been made before
 
+-- a step with its word and what it found there; a grant tells neither
 abbrev pub step_told : (access : Option Access) (found : ℕ) → Option LastStep
 step_told None found = None
 step_told (Some access) found = Some (record { kind = access.kind; word = access.word; found = found })
 
+-- the entry of a log: its moment, its maker, and the step where it is one
 abbrev pub logged : (moment : ℕ) (made : Made) → Logged
 logged moment made = record { moment = moment; maker = (effect made.step).maker; made = step_told (effect made.step).access made.found }
 
@@ -60,6 +62,7 @@ abbrev pub log_granted : (moment : ℕ) (grants : Option Granted) (log : List Lo
 log_granted moment None log = log
 log_granted moment (Some g) log = logged moment (record { step = grant g.writer g.left; found = 0 }) ∷ log
 
+-- a log gets a grant that was made at some moment; without one it stays
 abbrev pub LogsGrant : (grants : Option Granted) (old new : List Logged) → Type 0
 LogsGrant grants old new = (moment : ℕ) × (new ≡ log_granted moment grants old)
 

@@ -31,9 +31,11 @@ inode_at page (place ∷ more) = cond (nat_lt page (place.first + place.pages)) 
 abbrev pub no_place : Place
 no_place = record { context = 0; first = 0; pages = 0 }
 
+-- what stands for a writer that the layout hasn't
 abbrev pub no_writer : Writer
 no_writer = record { cpu = 0; context = 0 }
 
+-- what stands for the first limits of a domain that the layout hasn't
 abbrev pub no_limits : Limits
 no_limits = record { thresh = 0; bg = 0; hard = 0 }
 
@@ -66,9 +68,11 @@ setting key = record {
 abbrev pub domains : (key : Layout) → ℕ
 domains key = length key.firsts
 
+-- how many counters there are, which is how many shared words there are, and how many own words each CPU has
 abbrev pub counters : (key : Layout) → ℕ
 counters key = domains key + length key.contexts
 
+-- the number of a counter among them, from 0: a domain's is its own, a context's comes after all domains'
 abbrev pub number : (key : Layout) (x : Counter) → ℕ
 number key (Domain d) = d
 number key (Context k) = domains key + k
@@ -84,6 +88,7 @@ HasCounter key (Context k) = k < length key.contexts
 abbrev pub page_words : (key : Layout) → ℕ
 page_words key = words_for (pages_in key.inodes)
 
+-- where the inodes' words begin, after the page words
 abbrev pub inodes_from : (key : Layout) → ℕ
 inodes_from key = 1 + page_words key + SPARE_WORDS
 
@@ -91,6 +96,7 @@ inodes_from key = 1 + page_words key + SPARE_WORDS
 abbrev pub shared_from : (key : Layout) → ℕ
 shared_from key = inodes_from key + length key.inodes * WORDS_PER_LINE
 
+-- where the own words begin, with those of the CPU 0
 abbrev pub own_from : (key : Layout) → ℕ
 own_from key = shared_from key + (counters key + SPARE_WORDS)
 
@@ -98,33 +104,43 @@ own_from key = shared_from key + (counters key + SPARE_WORDS)
 abbrev pub stride : (key : Layout) → ℕ
 stride key = counters key + SPARE_WORDS
 
+-- where the sequence words begin, and after them the thresh words
 abbrev pub limits_from : (key : Layout) → ℕ
 limits_from key = own_from key + key.cpus * stride key
 
+-- where the peaks begin, after the thresh words
 abbrev pub peaks_from : (key : Layout) → ℕ
 peaks_from key = limits_from key + domains key + domains key
 
+-- how many words there are in all, the spare ones among them
 abbrev pub width : (key : Layout) → ℕ
 width key = peaks_from key + domains key + SPARE_WORDS
 
+-- the place of a page's word, which up to 32 pages share
 abbrev pub page_at : (page : ℕ) → ℕ
 page_at page = 1 + word_of page
 
+-- the place of the inode n's word, which has its mark
 abbrev pub mark_at : (key : Layout) (n : ℕ) → ℕ
 mark_at key n = inodes_from key + n * WORDS_PER_LINE
 
+-- the place of a counter's shared word
 abbrev pub shared_at : (key : Layout) (x : Counter) → ℕ
 shared_at key x = shared_from key + number key x
 
+-- the place of the CPU i's own word of a counter
 abbrev pub own_at : (key : Layout) (x : Counter) (i : ℕ) → ℕ
 own_at key x i = own_from key + (i * stride key + number key x)
 
+-- the place of a domain's sequence word
 abbrev pub sequence_at : (key : Layout) (d : ℕ) → ℕ
 sequence_at key d = limits_from key + d
 
+-- the place of a domain's thresh word
 abbrev pub thresh_at : (key : Layout) (d : ℕ) → ℕ
 thresh_at key d = limits_from key + domains key + d
 
+-- the place of a domain's peak
 abbrev pub peak_at : (key : Layout) (d : ℕ) → ℕ
 peak_at key d = peaks_from key + d
 

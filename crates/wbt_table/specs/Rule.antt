@@ -27,15 +27,19 @@ use Rattle.wbt_table.specs.Layout.{setting, domains, HasCounter, page_at, mark_a
 
 -- what the words show, by parts of the state
 
+-- the page words have the bits of all pages
 pub record ShowsPages (key : Layout) (words : List ℕ) (book : Book) : Type 0 where
   pub each : (p : ℕ) → p < (setting key).pages → get_or words (page_at p) 0 ≡ shared_word book p
 
+-- an inode's word is 1 where the inode is marked, else 0
 pub record ShowsMarks (key : Layout) (words : List ℕ) (marked : ℕ → Bool) : Type 0 where
   pub each : (n : ℕ) → n < length key.inodes → get_or words (mark_at key n) 0 ≡ one_if (marked n)
 
+-- each shared word has the version and the sum of its counter's folds
 pub record ShowsShared (key : Layout) (words : List ℕ) (folds : Counter → History) : Type 0 where
   pub each : (x : Counter) → HasCounter key x → get_or words (shared_at key x) 0 ≡ packed (length (folds x)) (sum_of (folds x))
 
+-- each own word has its CPU's own number
 pub record ShowsOwn (key : Layout) (words : List ℕ) (own : Counter → ℕ → ℤ) : Type 0 where
   pub each : (x : Counter) (i : ℕ) → HasCounter key x → i < key.cpus → get_or words (own_at key x i) 0 ≡ own_word (own x i)
 
@@ -44,16 +48,20 @@ pub record LimitWords : Type 0 where
   pub sequence_word : ℕ
   pub thresh_word : ℕ
 
+-- the two words of the domain d in a state
 abbrev pub limit_words : (key : Layout) (s : State) (d : ℕ) → LimitWords
 limit_words key s d = record { sequence_word = sequence_now (setting key) d s; thresh_word = thresh_now (setting key) d s }
 
+-- the words of limits are these
 pub record ShowsLimits (key : Layout) (words : List ℕ) (now : ℕ → LimitWords) : Type 0 where
   pub sequence_words : (d : ℕ) → d < domains key → get_or words (sequence_at key d) 0 ≡ (now d).sequence_word
   pub thresh_words : (d : ℕ) → d < domains key → get_or words (thresh_at key d) 0 ≡ (now d).thresh_word
 
+-- the peaks are these, in pages
 pub record ShowsPeaks (key : Layout) (words : List ℕ) (peak : ℕ → ℕ) : Type 0 where
   pub each : (d : ℕ) → d < domains key → get_or words (peak_at key d) 0 ≡ peak d
 
+-- the words are those of a state
 pub record Shows (key : Layout) (words : List ℕ) (s : State) : Type 0 where
   pub first : get_or words 0 0 ≡ 0  -- nothing stands in the word of split and join
   pub pages : ShowsPages key words s.book
@@ -75,6 +83,7 @@ Has cpus c r = get_elem? cpus c ≡ some (Some r)
 abbrev pub Holds : (cpus : Cpus) (c : ℕ) (P : CpuRecord → Type 0) → Type 0
 Holds cpus c P = (r : CpuRecord) × Has cpus c r × P r
 
+-- with another record of the CPU c
 abbrev pub put_record : (c : ℕ) (r : CpuRecord) (cpus : Cpus) → Cpus
 put_record c r cpus = slice_set cpus c (Some r)
 
@@ -82,6 +91,7 @@ put_record c r cpus = slice_set cpus c (Some r)
 abbrev pub Logs : Type 0
 Logs = List (Option (List Logged))
 
+-- the CPU c is among these, with this log
 abbrev pub HasLog : (logs : Logs) (c : ℕ) (log : List Logged) → Type 0
 HasLog logs c log = get_elem? logs c ≡ some (Some log)
 
@@ -92,6 +102,7 @@ put_log zero log (None ∷ logs) = None ∷ logs
 put_log zero log (Some old ∷ logs) = Some log ∷ logs
 put_log (suc c) log (old ∷ logs) = old ∷ put_log c log logs
 
+-- what the first seat knows: every CPU and the timer, of which none did anything yet
 abbrev pub first_view : (key : Layout) → View
 first_view key = record {
   layout = key;
@@ -179,6 +190,7 @@ pub record TimerFound (turn : GrantedStep) (n : ℕ) (r : TimerRecord) (v : View
   pub others : (j : ℕ) (q : CpuRecord) → Has v.cpus j q → state.cpu j ≡ q
   pub found_is : found_by turn.setting turn.step state ≡ n
 
+-- a step of the timer, which the seat holds, found n
 pub record Ticked (turn : GrantedStep) (n : ℕ) (old new : Sat) : Type 0 where
   pub timer : (r : TimerRecord) → old.0.timer ≡ Some r → new.0.timer ≡ Some (timer_after turn.step n r)
   pub layout : new.0.layout ≡ old.0.layout
@@ -197,15 +209,19 @@ module _ {A : Type 0} where
   abbrev pub apart : (c : ℕ) (cpus : List (Option A)) → List (Option A)
   apart c cpus = slice_set (replicate (length cpus) None) c (slice_index_or cpus c None)
 
+-- the old view, without the CPU c and its log
 abbrev pub without : (c : ℕ) (v : View) → View
 without c v = record { layout = v.layout; cpus = without_cpu c v.cpus; timer = v.timer; logs = without_cpu c v.logs; timer_log = v.timer_log }
 
+-- the new view, with the CPU c and its log alone
 abbrev pub alone : (c : ℕ) (v : View) → View
 alone c v = record { layout = v.layout; cpus = apart c v.cpus; timer = None; logs = apart c v.logs; timer_log = None }
 
+-- the old view, without the timer and its log
 abbrev pub without_timer : (v : View) → View
 without_timer v = record { layout = v.layout; cpus = v.cpus; timer = None; logs = v.logs; timer_log = None }
 
+-- the new view, with the timer and its log alone
 abbrev pub timer_alone : (v : View) → View
 timer_alone v = record {
   layout = v.layout;
@@ -226,6 +242,7 @@ module _ {A : Type 0} where
   merged (x ∷ xs) [] = x ∷ xs
   merged (x ∷ xs) (y ∷ ys) = or_else x y ∷ merged xs ys
 
+-- one view that has what two had
 abbrev pub both_of : (v w : View) → View
 both_of v w = record {
   layout = v.layout;
@@ -235,8 +252,10 @@ both_of v w = record {
   timer_log = or_else v.timer_log w.timer_log;
 }
 
+-- a layout of nothing
 abbrev pub no_layout : Layout
 no_layout = record { cpus = 0; cap = 0; firsts = []; contexts = []; inodes = []; writers = []; page_steps = 0 }
 
+-- what is left of a view that went to another
 abbrev pub spent_view : View
 spent_view = record { layout = no_layout; cpus = []; timer = None; logs = []; timer_log = None }

@@ -105,10 +105,12 @@ due_in First state = state.first
 due_in Second state = state.second
 due_in Third state = state.third
 
+-- what is owed to the counter x, as a list of one debt or of none
 abbrev pub listed : (x : Counter) (due : Option Due) → List Owed
 listed x None = []
 listed x (Some due) = record { counter = x; debt = debt_of due } ∷ []
 
+-- all that the CPU owes, in the order in which it is paid
 abbrev pub debts_in : (state : CpuState) → List Owed
 debts_in state = listed (Context state.context) state.first ++ listed (Domain 0) state.second ++ listed (Domain state.group) state.third
 
@@ -134,9 +136,11 @@ pub record Keeps (key : Layout) (c : ℕ) (state : CpuState) (r : CpuRecord) : T
   pub no_group : state.group ≡ 0 → state.third ≡ None
   pub grants : MayGive (setting key) c state.grants r
 
+-- what is kept of the CPUs that a seat holds, by number
 abbrev pub States : Type 0
 States = List (Option CpuState)
 
+-- the CPU c is among these, and this is kept of it
 abbrev pub Knows : (states : States) (c : ℕ) (state : CpuState) → Type 0
 Knows states c state = get_elem? states c ≡ some (Some state)
 
@@ -175,11 +179,13 @@ with_grant (Some state) (Some r) = Some (given state.grants r)
 with_grant None y = y
 with_grant (Some state) None = None
 
+-- so each of the records, by number
 abbrev pub with_grants : (states : States) (cpus : Cpus) → Cpus
 with_grants [] ys = ys
 with_grants (x ∷ xs) [] = []
 with_grants (x ∷ xs) (y ∷ ys) = with_grant x y ∷ with_grants xs ys
 
+-- how many steps the timer made is kept, exactly where the seat holds the timer
 abbrev pub KeepsTimer : (steps : Option ℕ) (timer : Option TimerRecord) → Type 0
 KeepsTimer None None = Unit {0}
 KeepsTimer None (Some r) = ⊥

@@ -23,6 +23,7 @@ abbrev pub rank : (x : Counter) → ℕ
 rank (Context k) = 0
 rank (Domain d) = cond (d == 0) 1 2
 
+-- the place of a slot among these, 0 to 2
 abbrev pub rank_of : (slot : Slot) → ℕ
 rank_of First = 0
 rank_of Second = 1
@@ -43,6 +44,7 @@ AreFrom least (owed ∷ more) = (least ≤ rank owed.counter) × AreFrom least m
 abbrev pub OwesFrom : (slot : Slot) (r : CpuRecord) → Type 0
 OwesFrom slot r = AreFrom (rank_of slot) r.debts
 
+-- nothing is owed to the slot or before it
 abbrev pub OwesLater : (slot : Slot) (r : CpuRecord) → Type 0
 OwesLater slot r = AreFrom (suc (rank_of slot)) r.debts
 

@@ -43,6 +43,7 @@ pub record Page : Type 0 where
 abbrev pub local_after : (local : CpuLocal) (since moved : ℕ) → CpuLocal
 local_after local since moved = record { since_check = since; leaks = local.leaks - moved }
 
+-- the writer's numbers after a fresh write that is counted, with so many pages of leaks moved to it; its allowance and its last pause stay
 abbrev pub task_after : (task : Task) (moved : ℕ) → Task
 task_after task moved = record {
   nr_dirtied = task.nr_dirtied + 1 + moved;

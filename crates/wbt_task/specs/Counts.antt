@@ -14,6 +14,7 @@ use Rattle.wbt_task.specs.History.{Cpu, cpu_step, wrote_page, writer_of}
 abbrev pub dirtied_by : (writer : Writer) → ℕ
 dirtied_by writer = writer.task.nr_dirtied
 
+-- all pages that a CPU counts: those of its writers, and its leaks
 abbrev pub counted : (cpu : Cpu) → ℕ
 counted cpu = sum_by dirtied_by cpu.writers + cpu.local.leaks
 
@@ -22,6 +23,7 @@ unfoldable pub is_write : (event : Event) → ℕ
 is_write (Wrote writer) = 1
 is_write _ = 0
 
+-- how many fresh writes a history has
 abbrev pub writes_in : (history : List Event) → ℕ
 writes_in history = sum_by is_write history
 
@@ -58,6 +60,7 @@ unfoldable pub is_due : (due : Due) → ℕ
 is_due Check = 1
 is_due No = 0
 
+-- 1 where the event is a fresh write after which its writer's check is due, else 0
 abbrev pub due_by : (ratelimit_pages : ℕ) (cpu : Cpu) (event : Event) → ℕ
 due_by ratelimit_pages cpu (Wrote writer) = is_due (wrote_page ratelimit_pages cpu.local (writer_of cpu writer)).due
 due_by ratelimit_pages cpu _ = 0

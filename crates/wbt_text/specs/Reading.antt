@@ -40,6 +40,7 @@ abbrev pub EndsRefused : {State Line Refusal Answer : Type 0} (format : Format S
 EndsRefused {State} {Line} {Refusal} format count s rest answer =
     (first more : List ℕ) × (l : Line) × (why : Refusal) × (rest ≡ first ++ 10 ∷ more) × format.spells s first l × (format.accept l s ≡ Err why) × (answer ≡ format.refused (count + 1) why)
 
+-- reading ends in one of these three ways, with this answer
 abbrev pub Ends : {State Line Refusal Answer : Type 0} (format : Format State Line Refusal Answer) (count : ℕ) (s : State) (rest : List ℕ) (answer : Answer) → Type 0
 Ends format count s rest answer = EndsWhole format count s rest answer ⊎ (EndsUnread format count s rest answer ⊎ EndsRefused format count s rest answer)
 

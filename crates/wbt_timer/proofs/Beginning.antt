@@ -12,7 +12,7 @@ use Rattle.wbt_fraction.specs.declared.domain.note.Note.TheVariants.{Found, Peri
 use Rattle.wbt_grant.specs.declared.record.TimerRecord.{TimerRecord}
 use Rattle.wbt_trace.specs.declared.trace.Trace.{Trace}
 use Rattle.wbt_journal.specs.Machine.{domains}
-use Rattle.wbt_journal.specs.Timer.{Line, TimerGoesOn, is_opening, lines_after}
+use Rattle.wbt_journal.specs.Timer.{LastLine, TimerGoesOn, is_opening, lines_after}
 use Rattle.wbt_journal.specs.declared.timer.TimerEntry.{TimerEntry}
 use Rattle.wbt_journal.specs.declared.timer.TimerEntry.TheVariants.{Period as PeriodLine}
 use Rattle.wbt_kit.specs.Kit.{AreSeatsOf}
@@ -93,7 +93,7 @@ tries_line domain k old new owed added (began a b c d) = inr d
 tries_line domain k old new owed added (refused a b c d) = inl d
 tries_line domain k old new owed added (came_between again a b c d) = inl d
 
-module _ (trace : Trace) (opened : ℕ) (r : TimerRecord) (lines : List Line) (opens : is_opening trace lines ≡ false) where
+module _ (trace : Trace) (opened : ℕ) (r : TimerRecord) (lines : List LastLine) (opens : is_opening trace lines ≡ false) where
   -- periods of one domain, which change the notes of no other
   one_since : (domain k : ℕ) (old new : ℕ → List Note) (added : List TimerEntry) → domain < domains trace → (added ≡ []) ⊎ (added ≡ PeriodLine domain k ∷ [])
       → OneNoted domain (old domain) (new domain) added → ((of : ℕ) → of ≢ domain → new of ≡ old of)

@@ -12,7 +12,7 @@ use Rattle.wbt_grant.specs.declared.record.TimerRecord.{TimerRecord}
 use Rattle.wbt_trace.specs.declared.trace.Trace.{Trace}
 use Rattle.wbt_journal.specs.Each.{Each}
 use Rattle.wbt_journal.specs.Machine.{domains}
-use Rattle.wbt_journal.specs.Timer.{Line, LineFollows, LimitsBy, TimerGoesOn, is_opening, put_line, lines_after}
+use Rattle.wbt_journal.specs.Timer.{LastLine, LineFollows, LimitsBy, TimerGoesOn, is_opening, put_line, lines_after}
 use Rattle.wbt_journal.specs.Walk.{after}
 use Rattle.wbt_journal.specs.declared.timer.TimerEntry.{TimerEntry}
 use Rattle.wbt_rules.specs.declared.moments.TheConstants.{TIMER_REST}
@@ -38,30 +38,30 @@ at_front (y ∷ pre) x xs (suc n) is = at_front pre x xs n (omega (arith, is))
 -- ---- lines of a turn, each of a domain whose last one is 200 ticks old
 
 module _ (trace : Trace) (opened now last global : ℕ) (late : last + TIMER_REST ≤ now) where
-  abbrev Follows : (old : List Line) (entries : List TimerEntry) (new : List Line) → Type 0
+  abbrev Follows : (old : List LastLine) (entries : List TimerEntry) (new : List LastLine) → Type 0
   Follows old entries new = Walked (TimerGoesOn trace opened) lines_after old entries new
 
-  one_follows : (lines : List Line) (d : ℕ) (s : DomainSide) (c : Count) → length lines ≡ domains trace → d < domains trace → s.at ≤ last
+  one_follows : (lines : List LastLine) (d : ℕ) (s : DomainSide) (c : Count) → length lines ≡ domains trace → d < domains trace → s.at ≤ last
       → slice_get lines d ≡ Some (line_of s) → LimitsBy (is_opening trace lines) trace opened lines d now (limits_by trace now d global s.hard c)
   one_follows lines d s c many less early at =
       let l : Limits = limits_by trace now d global s.hard c in
       let opens : is_opening trace lines ≡ false = le-ltb (length lines) (domains trace) (omega (arith, many)) in
       subst (λ (b : Bool). LimitsBy b trace opened lines d now l) (sym opens)
-      (subst (λ (o : Option Line). LineFollows trace o d now l) (sym at)
+      (subst (λ (o : Option LastLine). LineFollows trace o d now l) (sym at)
       (omega (arith, late, early), has_thresholds trace now d global (pages_read c) l less refl refl, hard_follows s.hard (thresholds_at trace now d global (pages_read c)) (pages_read c)))
 
-  one_put : (pre : List Line) (x y : Line) (more : List Line) (d : ℕ) → length pre ≡ d → put_line d y (pre ++ x ∷ more) ≡ (pre ++ y ∷ []) ++ more
+  one_put : (pre : List LastLine) (x y : LastLine) (more : List LastLine) (d : ℕ) → length pre ≡ d → put_line d y (pre ++ x ∷ more) ≡ (pre ++ y ∷ []) ++ more
   one_put pre x y more d is =
       let there : d < length (pre ++ x ∷ more) = omega (arith, is, length-append pre (x ∷ more)) in
       ap (λ (b : Bool). if b then set (pre ++ x ∷ more) d y else (pre ++ x ∷ more) ++ y ∷ []) (lt-ltb d (length (pre ++ x ∷ more)) there)
       ∙ set_at pre x more y d is ∙ sym (append_assoc pre (y ∷ []) more)
 
   -- a domain's line, where its limits were published
-  line_follows : (put : Put) (l : Limits) (pre : List Line) (d : ℕ) (s : DomainSide) (c : Count) (sides : List DomainSide) → length pre ≡ d
+  line_follows : (put : Put) (l : Limits) (pre : List LastLine) (d : ℕ) (s : DomainSide) (c : Count) (sides : List DomainSide) → length pre ≡ d
       → length (pre ++ line_of s ∷ map line_of sides) ≡ domains trace → d < domains trace → s.at ≤ last → l ≡ limits_by trace now d global s.hard c
       → Follows (pre ++ line_of s ∷ map line_of sides) (line_for put d now l) ((pre ++ line_of (side_after put now l s) ∷ []) ++ map line_of sides)
   line_follows Done l pre d s c sides is many less early its =
-      let lines : List Line = pre ++ line_of s ∷ map line_of sides in
+      let lines : List LastLine = pre ++ line_of s ∷ map line_of sides in
       record {
         allowed = (
           subst (λ (x : Limits). LimitsBy (is_opening trace lines) trace opened lines d now x) (sym its)
@@ -73,7 +73,7 @@ module _ (trace : Trace) (opened now last global : ℕ) (late : last + TIMER_RES
   line_follows Stopped l pre d s c sides is many less early its = record { allowed = tt; reached = sym (append_assoc pre (line_of s ∷ []) (map line_of sides)) }
   line_follows Last l pre d s c sides is many less early its = record { allowed = tt; reached = sym (append_assoc pre (line_of s ∷ []) (map line_of sides)) }
 
-  pub turn_follows : (pre : List Line) (d : ℕ) (outcomes : List Outcome) (sides : List DomainSide) (counts : List Count) → length pre ≡ d
+  pub turn_follows : (pre : List LastLine) (d : ℕ) (outcomes : List Outcome) (sides : List DomainSide) (counts : List Count) → length pre ≡ d
       → limits_of outcomes ≡ limits_each trace now d global sides counts → d + length sides ≡ domains trace → Each (λ (s : DomainSide). s.at ≤ last) sides
       → Follows (pre ++ map line_of sides) (lines_from now d outcomes) (pre ++ map line_of (with_limits now outcomes sides))
   turn_follows pre d [] sides counts is same all early = walked_none (TimerGoesOn trace opened) lines_after (pre ++ map line_of sides)
@@ -81,14 +81,14 @@ module _ (trace : Trace) (opened now last global : ℕ) (late : last + TIMER_RES
   turn_follows pre d (o ∷ os) [] (c ∷ counts) is same all early = absurd (let n = ap (λ (l : List Limits). length l) same in omega (arith, n))
   turn_follows pre d (o ∷ os) (s ∷ sides) [] is same all early = absurd (let n = ap (λ (l : List Limits). length l) same in omega (arith, n))
   turn_follows pre d (o ∷ os) (s ∷ sides) (c ∷ counts) is same all early =
-      let lines : List Line = pre ++ line_of s ∷ map line_of sides in
-      let next : List Line = pre ++ line_of (side_after o.put now o.limits s) ∷ [] in
+      let lines : List LastLine = pre ++ line_of s ∷ map line_of sides in
+      let next : List LastLine = pre ++ line_of (side_after o.put now o.limits s) ∷ [] in
       let its : o.limits ≡ limits_by trace now d global s.hard c = ap (λ (l : List Limits). get_or l 0 o.limits) same in
       let many : length lines ≡ domains trace = omega (arith, is, all, length-append pre (line_of s ∷ map line_of sides), length-map sides line_of) in
       let one : Follows lines (line_for o.put d now o.limits) (next ++ map line_of sides) = line_follows o.put o.limits pre d s c sides is many (omega (arith, all)) early.0 its in
       let rest : Follows (next ++ map line_of sides) (lines_from now (suc d) os) (next ++ map line_of (with_limits now os sides)) =
       turn_follows next (suc d) os sides counts (omega (arith, is, length-append pre (line_of (side_after o.put now o.limits s) ∷ []))) (ap (λ (l : List Limits). drop 1 l) same) (omega (arith, all)) early.1 in
-      subst (λ (new : List Line). Follows lines (line_for o.put d now o.limits ++ lines_from now (suc d) os) new)
+      subst (λ (new : List LastLine). Follows lines (line_for o.put d now o.limits ++ lines_from now (suc d) os) new)
       (append_assoc pre (line_of (side_after o.put now o.limits s) ∷ []) (map line_of (with_limits now os sides)))
       (walked_more (TimerGoesOn trace opened) lines_after lines (next ++ map line_of sides) (next ++ map line_of (with_limits now os sides))
       (line_for o.put d now o.limits) (lines_from now (suc d) os) one rest)

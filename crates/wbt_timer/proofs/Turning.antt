@@ -15,7 +15,7 @@ use Rattle.wbt_trace.specs.declared.trace.Trace.{Trace}
 use Rattle.wbt_trace.specs.declared.trace.Cgroup.{Cgroup}
 use Rattle.wbt_journal.specs.Machine.{domains}
 use Rattle.wbt_rules.specs.Thresholds.{avail_among, thresholds_at, limits_after}
-use Rattle.wbt_journal.specs.Timer.{Line, is_opening}
+use Rattle.wbt_journal.specs.Timer.{LastLine, is_opening}
 use Rattle.wbt_journal.specs.declared.timer.TimerEntry.{TimerEntry}
 use Rattle.wbt_kit.specs.Kit.{HasTimer}
 use Rattle.wbt_kit.specs.declared.kit.Seats.{Seats}
@@ -135,7 +135,7 @@ module _ (now g : ℕ) (outcomes : List Outcome) (old : Side) (sides1 : List Dom
         → TimerSince trace opened (stops_in (peaks_from 0 outcomes)) lines (ticked r old s0.share) (record { held = held; lines = map line_of sides; shares = noted s1.share })
     first_half opened sides same =
         subst (λ (sh : ShareSeats). TimerSince trace opened (stops_in (peaks_from 0 outcomes)) lines (ticked r old s0.share) (record { held = held; lines = map line_of sides; shares = noted sh })) (sym p.kept.share)
-        (subst (λ (l : List Line). TimerSince trace opened (stops_in (peaks_from 0 outcomes)) lines (ticked r old s0.share) (record { held = held; lines = l; shares = noted s0.share })) (ap (map line_of) (sym p.sides_are) ∙ sym same)
+        (subst (λ (l : List LastLine). TimerSince trace opened (stops_in (peaks_from 0 outcomes)) lines (ticked r old s0.share) (record { held = held; lines = l; shares = noted s0.share })) (ap (map line_of) (sym p.sides_are) ∙ sym same)
         (limits_since trace opened now old.last (global_in p.counts) outcomes old.domains p.counts r held (noted s0.share) late all many early
         (p.became r has).published_are (p.became r has).raised_are (p.lasts r has)))
 

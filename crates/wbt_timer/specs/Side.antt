@@ -5,7 +5,7 @@ use Rattle.wbt_trace.specs.declared.trace.Trace.{Trace}
 use Rattle.wbt_fraction.specs.Several.{no_seat, Seats as ShareSeats}
 use Rattle.wbt_grant.specs.declared.record.TimerRecord.{TimerRecord}
 use Rattle.wbt_journal.specs.Machine.{domains}
-use Rattle.wbt_journal.specs.Timer.{Line}
+use Rattle.wbt_journal.specs.Timer.{LastLine}
 use Rattle.wbt_rules.specs.declared.moments.TheConstants.{TIMER_REST, PERIOD_TICKS}
 use Rattle.wbt_rules.specs.Thresholds.{DomainFits, first_limits}
 use Rattle.wbt_run_laws.specs.Ticks.{Ticked}
@@ -60,11 +60,11 @@ pub record IsFirstSide (trace : Trace) (now : ℕ) (side : Side) : Type 0 where
 -- ---- what is known of the timer between two turns
 
 -- its last line of a domain
-abbrev pub line_of : (s : DomainSide) → Line
+abbrev pub line_of : (s : DomainSide) → LastLine
 line_of s = record { now = s.at; hard = s.hard }
 
 -- its last lines of all domains
-abbrev pub lines_of : (side : Side) → List Line
+abbrev pub lines_of : (side : Side) → List LastLine
 lines_of side = map line_of side.domains
 
 -- with its record, and with what its seat noted of shares

@@ -16,7 +16,7 @@ use Rattle.wbt_grant.specs.declared.record.DomainLimits.{DomainLimits}
 use Rattle.wbt_grant.specs.declared.record.Raised.{Raised}
 use Rattle.wbt_grant.specs.declared.record.TimerRecord.{TimerRecord}
 use Rattle.wbt_journal.specs.Machine.{domains}
-use Rattle.wbt_journal.specs.Timer.{Line, is_opening}
+use Rattle.wbt_journal.specs.Timer.{LastLine, is_opening}
 use Rattle.wbt_journal.specs.declared.timer.TimerEntry.{TimerEntry}
 use Rattle.wbt_journal.specs.declared.timer.TimerEntry.TheVariants.{Limits as LimitsLine, Period as PeriodLine}
 use Rattle.wbt_kit.specs.Kit.{HasTimer}
@@ -250,7 +250,7 @@ pub record TriedEach (come done : ℕ) (sides sides' : List DomainSide) (old new
   pub each : (domain : ℕ) → domain < done → (added : List TimerEntry)
       × Tries domain ((get_or sides domain no_side).owed + come) (seat_at domain old.share) (seat_at domain new.share) (get_or sides' domain no_side).owed added
   pub later : (domain : ℕ) → done ≤ domain → (seat_at domain new.share ≡ seat_at domain old.share) × (get_or sides' domain no_side ≡ get_or sides domain no_side)
-  pub since : (trace : Trace) (opened : ℕ) (r : TimerRecord) (lines : List Line) → is_opening trace lines ≡ false → done ≤ domains trace
+  pub since : (trace : Trace) (opened : ℕ) (r : TimerRecord) (lines : List LastLine) → is_opening trace lines ≡ false → done ≤ domains trace
       → TimerSince trace opened 0 periods (record { held = r; lines = lines; shares = noted old.share }) (record { held = r; lines = lines; shares = noted new.share })
 
 -- ---- the turn

@@ -2,7 +2,8 @@
 
 ghost use Rattle.std.specs.Prelude.{◌≡◌, ◌<◌, ◌≤◌, IfOk};
 ghost use Rattle.wbt_num.specs.declared.most.TheConstants.{MOST_PAGES as MOST_PAGES_NUMBER};
-ghost use Rattle.wbt_trace.specs.Bulk.{bulk_inodes, bulk_trace, bulk_write, bulk_writes, disk as disk_value, pages_of as pages_of_value};
+ghost use Rattle.wbt_trace.specs.Bulk.{bulk_avail, bulk_contexts, bulk_flushers, bulk_inodes, bulk_tasks, bulk_trace, bulk_write, bulk_writes};
+ghost use Rattle.wbt_trace.specs.Bulk.{disk as disk_value, pages_of as pages_of_value};
 ghost use Rattle.wbt_trace.specs.Lawful.{IsLawful};
 ghost use Rattle.wbt_trace.specs.Sofar.{pages_in};
 ghost use Rattle.wbt_trace.specs.declared.bulk.TheConstants.{LEAST_BULK_PAGES as LEAST_BULK_NUMBER};
@@ -99,15 +100,21 @@ fn actions(alloc: Global, n: u64) -> Result<Vec<Action>, AllocError>
     .to_vec(alloc)
 }
 
-fn whole(alloc: Global, n: u64) -> Result<Trace, AllocError>
-    requires { n ≤ MOST_PAGES_NUMBER }
-    ensures { IfOk result (λ trace. trace ≡ bulk_trace n) }
+fn avail(alloc: Global) -> Result<Vec<Avail>, AllocError>
+    ensures { IfOk result (λ avail. avail.items ≡ bulk_avail) }
 {
-    let avail = [Avail {
+    [Avail {
         from: 0,
         pages: BULK_AVAIL,
-    }];
-    let contexts = [
+    }]
+    .to_vec(alloc)
+}
+
+// One context on each disk.
+fn contexts(alloc: Global) -> Result<Vec<Context>, AllocError>
+    ensures { IfOk result (λ contexts. contexts.items ≡ bulk_contexts) }
+{
+    [
         Context {
             device: 0,
             domain: 0,
@@ -120,17 +127,38 @@ fn whole(alloc: Global, n: u64) -> Result<Trace, AllocError>
             expire: None,
             estimate: None,
         },
-    ];
-    let tasks = [
+    ]
+    .to_vec(alloc)
+}
+
+// The first two tasks run on CPU 0, the other two on CPU 1.
+fn tasks(alloc: Global) -> Result<Vec<TaskLine>, AllocError>
+    ensures { IfOk result (λ tasks. tasks.items ≡ bulk_tasks) }
+{
+    [
         TaskLine { cpu: 0, pace: None },
         TaskLine { cpu: 0, pace: None },
         TaskLine { cpu: 1, pace: None },
         TaskLine { cpu: 1, pace: None },
-    ];
-    let flushers = [
+    ]
+    .to_vec(alloc)
+}
+
+// Each disk's flusher runs on a CPU of its own.
+fn flushers(alloc: Global) -> Result<Vec<FlusherLine>, AllocError>
+    ensures { IfOk result (λ flushers. flushers.items ≡ bulk_flushers) }
+{
+    [
         FlusherLine { device: 0, cpu: 2 },
         FlusherLine { device: 1, cpu: 3 },
-    ];
+    ]
+    .to_vec(alloc)
+}
+
+fn whole(alloc: Global, n: u64) -> Result<Trace, AllocError>
+    requires { n ≤ MOST_PAGES_NUMBER }
+    ensures { IfOk result (λ trace. trace ≡ bulk_trace n) }
+{
     Ok(Trace {
         cpus: 4,
         cap: MOST_CAP,
@@ -140,13 +168,13 @@ fn whole(alloc: Global, n: u64) -> Result<Trace, AllocError>
             bytes: 0,
             bg_bytes: 0,
         },
-        avail: Items::from_vec(avail.to_vec(alloc)?),
+        avail: Items::from_vec(avail(alloc)?),
         devices: Items::from_vec([disk(), disk()].to_vec(alloc)?),
         cgroups: Items::new(alloc),
-        contexts: Items::from_vec(contexts.to_vec(alloc)?),
+        contexts: Items::from_vec(contexts(alloc)?),
         inodes: Items::from_vec(inodes(alloc, n)?),
-        tasks: Items::from_vec(tasks.to_vec(alloc)?),
-        flushers: Items::from_vec(flushers.to_vec(alloc)?),
+        tasks: Items::from_vec(tasks(alloc)?),
+        flushers: Items::from_vec(flushers(alloc)?),
         actions: Items::from_vec(actions(alloc, n)?),
         order: Items::new(alloc),
         halt: None,

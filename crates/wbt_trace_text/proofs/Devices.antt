@@ -1,5 +1,5 @@
 -- Devices, and which of them are strict.
-use Rattle.std.proofs.Common.{◌≡◌, ℕ, zero, suc, true, false, Option, Some, None, List, [], ◌∷◌, ◌++◌, length, refl, sym, ◌∙◌, ap, arith}
+use Rattle.std.proofs.Common.{◌≡◌, ℕ, zero, suc, true, false, Some, None, List, [], ◌∷◌, ◌++◌, length, refl, sym, ◌∙◌, ap, arith}
 use Rattle.std.proofs.lemmas.List.Sums.{sum_by-cons}
 use Rattle.wbt_trace.specs.Sofar.{least_shares, device_at, with_strict, with_chunk, with_cyclic}
 use Rattle.wbt_trace.specs.declared.trace.Device.{Device}

@@ -1,5 +1,5 @@
 -- The lines of a trace, and how they are spelled.
-use Rattle.std.specs.Prelude.{◌≡◌, ℕ, List, [], ◌∷◌, ◌++◌, codes, Option, Some, None}
+use Rattle.std.specs.Prelude.{◌≡◌, ℕ, List, [], ◌∷◌, ◌++◌, codes, Option, Some, None, ⊤}
 use Rattle.wbt_text.specs.Numbers.{AreNumbers}
 use Rattle.wbt_trace_text.specs.declared.kind.Kind.{Kind}
 use Rattle.wbt_trace_text.specs.declared.kind.Kind.TheVariants as kind
@@ -61,6 +61,30 @@ kind_of (line.Order a b) = kind.Order
 kind_of (line.OrderTimer a) = kind.OrderTimer
 kind_of (line.Tick a) = kind.Tick
 kind_of (line.Halt a) = kind.Halt
+
+-- a line of a device: its rate and shares, that it is strict, its chunk, or that its scans go round
+abbrev pub IsOfDevice : (l : Line) → Type 0
+IsOfDevice (line.Device a b c d) = ⊤
+IsOfDevice (line.Strict a) = ⊤
+IsOfDevice (line.Chunk a b) = ⊤
+IsOfDevice (line.Cyclic a) = ⊤
+IsOfDevice other = ⊥
+
+-- a line of a context: its device and domain, after how long its inodes are due, or its first estimate
+abbrev pub IsOfContext : (l : Line) → Type 0
+IsOfContext (line.Context a b c) = ⊤
+IsOfContext (line.Expire a b) = ⊤
+IsOfContext (line.Estimate a b c d) = ⊤
+IsOfContext other = ⊥
+
+-- a line that says what happens: an action of a task, or an order that is forced on a replay
+abbrev pub SaysWhatHappens : (l : Line) → Type 0
+SaysWhatHappens (line.Write a b c d) = ⊤
+SaysWhatHappens (line.Rest a b) = ⊤
+SaysWhatHappens (line.Order a b) = ⊤
+SaysWhatHappens (line.OrderTimer a) = ⊤
+SaysWhatHappens (line.Tick a) = ⊤
+SaysWhatHappens other = ⊥
 
 -- the numbers of a line, in their order
 abbrev pub numbers_of : (l : Line) → List ℕ

@@ -2,6 +2,7 @@
 
 ghost use Rattle.std.specs.Prelude.{◌≡◌, ◌+◌, nat_lt, IfOk};
 ghost use Rattle.wbt_trace_text.specs.Accept as spec;
+ghost use Rattle.wbt_trace_text.specs.Lines.{IsOfContext, IsOfDevice, SaysWhatHappens};
 ghost use Rattle.wbt_trace_text.specs.Seen.{Gives, seen};
 ghost use Rattle.wbt_trace.specs.Sofar.{start};
 ghost use Rattle.wbt_trace_text.specs.declared.fault.AcceptError.TheVariants.{Refused};
@@ -67,32 +68,16 @@ impl Builder {
             Line::DirtyBytes { bytes } => self.dirty_bytes(*bytes),
             Line::BackgroundBytes { bytes } => self.background_bytes(*bytes),
             Line::Avail { from, pages } => self.avail(*from, *pages),
-            Line::Device {
-                device,
-                rate,
-                min,
-                max,
-            } => self.device(*device, *rate, *min, *max),
-            Line::Strict { device } => self.strict(*device),
-            Line::Chunk { device, pages } => self.chunk(*device, *pages),
-            Line::Cyclic { device } => self.cyclic(*device),
+            Line::Device { .. } | Line::Strict { .. } | Line::Chunk { .. } | Line::Cyclic { .. } =>
+                { self.accept_of_device(line) }
             Line::Cgroup {
                 cgroup,
                 filepages,
                 headroom,
             } => self.cgroup(*cgroup, *filepages, *headroom),
-            Line::Context {
-                context,
-                device,
-                domain,
-            } => self.context(*context, *device, *domain),
-            Line::Expire { context, centi } => self.expire(*context, *centi),
-            Line::Estimate {
-                context,
-                bandwidth,
-                average,
-                ratelimit,
-            } => self.estimate(*context, *bandwidth, *average, *ratelimit),
+            Line::Context { .. } | Line::Expire { .. } | Line::Estimate { .. } => {
+                self.accept_of_context(line)
+            }
             Line::Inode {
                 inode,
                 context,
@@ -105,6 +90,59 @@ impl Builder {
                 device,
                 cpu,
             } => self.flusher(*flusher, *device, *cpu),
+            Line::Write { .. }
+            | Line::Rest { .. }
+            | Line::Order { .. }
+            | Line::OrderTimer { .. }
+            | Line::Tick { .. } => self.accept_happening(line),
+            Line::Halt { steps } => self.halt(*steps),
+        }
+    }
+
+    fn accept_of_device(&mut self, line: &Line) -> Result<(), AcceptError>
+        requires device { IsOfDevice line.now }
+        ensures { Gives result (seen self.new) (spec.accept line.now (seen self.old)) }
+    {
+        match line {
+            Line::Device {
+                device,
+                rate,
+                min,
+                max,
+            } => self.device(*device, *rate, *min, *max),
+            Line::Strict { device } => self.strict(*device),
+            Line::Chunk { device, pages } => self.chunk(*device, *pages),
+            Line::Cyclic { device } => self.cyclic(*device),
+            _ => unreachable!(),
+        }
+    }
+
+    fn accept_of_context(&mut self, line: &Line) -> Result<(), AcceptError>
+        requires context { IsOfContext line.now }
+        ensures { Gives result (seen self.new) (spec.accept line.now (seen self.old)) }
+    {
+        match line {
+            Line::Context {
+                context,
+                device,
+                domain,
+            } => self.context(*context, *device, *domain),
+            Line::Expire { context, centi } => self.expire(*context, *centi),
+            Line::Estimate {
+                context,
+                bandwidth,
+                average,
+                ratelimit,
+            } => self.estimate(*context, *bandwidth, *average, *ratelimit),
+            _ => unreachable!(),
+        }
+    }
+
+    fn accept_happening(&mut self, line: &Line) -> Result<(), AcceptError>
+        requires happens { SaysWhatHappens line.now }
+        ensures { Gives result (seen self.new) (spec.accept line.now (seen self.old)) }
+    {
+        match line {
             Line::Write {
                 task,
                 inode,
@@ -115,7 +153,7 @@ impl Builder {
             Line::Order { cpu, steps } => self.order(*cpu, *steps),
             Line::OrderTimer { steps } => self.order_timer(*steps),
             Line::Tick { ticks } => self.tick(*ticks),
-            Line::Halt { steps } => self.halt(*steps),
+            _ => unreachable!(),
         }
     }
 }

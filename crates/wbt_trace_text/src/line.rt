@@ -1,7 +1,9 @@
 //! A line of a trace, as its kind and its numbers say it. Whether the numbers are in range is no matter here.
 
+ghost use Rattle.std.specs.Fmt.{WritesOnOk};
 ghost use Rattle.std.specs.Prelude.{◌≡◌, IfSome, IfNone, IfOk};
 ghost use Rattle.wbt_trace_text.specs.Lines as spec;
+ghost use Rattle.wbt_trace_text.specs.Writing.{line_text};
 ghost use Rattle.wbt_trace_text.specs.declared.line.Line.{Line as LineValue};
 
 use crate::kind::{Kind, kind_of};
@@ -117,7 +119,6 @@ pub enum Line {
 
 impl fmt::Display for Line {
     ghost use Rattle.std.specs.Prelude.{Some};
-    ghost use Rattle.wbt_trace_text.specs.Writing.{line_text};
 
     ghost output = { λ line. Some (line_text line) };
 
@@ -130,32 +131,16 @@ impl fmt::Display for Line {
             Line::DirtyBytes { bytes } => write!(f, "set dirty_bytes {bytes}"),
             Line::BackgroundBytes { bytes } => write!(f, "set dirty_background_bytes {bytes}"),
             Line::Avail { from, pages } => write!(f, "avail {from} {pages}"),
-            Line::Device {
-                device,
-                rate,
-                min,
-                max,
-            } => write!(f, "device {device} {rate} {min} {max}"),
-            Line::Strict { device } => write!(f, "strict {device}"),
-            Line::Chunk { device, pages } => write!(f, "chunk {device} {pages}"),
-            Line::Cyclic { device } => write!(f, "cyclic {device}"),
+            Line::Device { .. } | Line::Strict { .. } | Line::Chunk { .. } | Line::Cyclic { .. } =>
+                { write_of_device(f, self) }
             Line::Cgroup {
                 cgroup,
                 filepages,
                 headroom,
             } => write!(f, "cgroup {cgroup} {filepages} {headroom}"),
-            Line::Context {
-                context,
-                device,
-                domain,
-            } => write!(f, "context {context} {device} {domain}"),
-            Line::Expire { context, centi } => write!(f, "expire {context} {centi}"),
-            Line::Estimate {
-                context,
-                bandwidth,
-                average,
-                ratelimit,
-            } => write!(f, "estimate {context} {bandwidth} {average} {ratelimit}"),
+            Line::Context { .. } | Line::Expire { .. } | Line::Estimate { .. } => {
+                write_of_context(f, self)
+            }
             Line::Inode {
                 inode,
                 context,
@@ -168,18 +153,71 @@ impl fmt::Display for Line {
                 device,
                 cpu,
             } => write!(f, "flusher {flusher} {device} {cpu}"),
-            Line::Write {
-                task,
-                inode,
-                from,
-                pages,
-            } => write!(f, "write {task} {inode} {from} {pages}"),
-            Line::Rest { task, ticks } => write!(f, "rest {task} {ticks}"),
-            Line::Order { cpu, steps } => write!(f, "order {cpu} {steps}"),
-            Line::OrderTimer { steps } => write!(f, "order timer {steps}"),
-            Line::Tick { ticks } => write!(f, "tick {ticks}"),
+            Line::Write { .. }
+            | Line::Rest { .. }
+            | Line::Order { .. }
+            | Line::OrderTimer { .. }
+            | Line::Tick { .. } => write_happening(f, self),
             Line::Halt { steps } => write!(f, "halt {steps}"),
         }
+    }
+}
+
+fn write_of_device<W: fmt::Write>(f: &mut fmt::Formatter<W>, line: &Line) -> fmt::Result
+    requires device { spec.IsOfDevice line.now }
+    ensures { WritesOnOk W.write_str_gives f.old result (line_text line.now) f.new }
+{
+    match line {
+        Line::Device {
+            device,
+            rate,
+            min,
+            max,
+        } => write!(f, "device {device} {rate} {min} {max}"),
+        Line::Strict { device } => write!(f, "strict {device}"),
+        Line::Chunk { device, pages } => write!(f, "chunk {device} {pages}"),
+        Line::Cyclic { device } => write!(f, "cyclic {device}"),
+        _ => unreachable!(),
+    }
+}
+
+fn write_of_context<W: fmt::Write>(f: &mut fmt::Formatter<W>, line: &Line) -> fmt::Result
+    requires context { spec.IsOfContext line.now }
+    ensures { WritesOnOk W.write_str_gives f.old result (line_text line.now) f.new }
+{
+    match line {
+        Line::Context {
+            context,
+            device,
+            domain,
+        } => write!(f, "context {context} {device} {domain}"),
+        Line::Expire { context, centi } => write!(f, "expire {context} {centi}"),
+        Line::Estimate {
+            context,
+            bandwidth,
+            average,
+            ratelimit,
+        } => write!(f, "estimate {context} {bandwidth} {average} {ratelimit}"),
+        _ => unreachable!(),
+    }
+}
+
+fn write_happening<W: fmt::Write>(f: &mut fmt::Formatter<W>, line: &Line) -> fmt::Result
+    requires happens { spec.SaysWhatHappens line.now }
+    ensures { WritesOnOk W.write_str_gives f.old result (line_text line.now) f.new }
+{
+    match line {
+        Line::Write {
+            task,
+            inode,
+            from,
+            pages,
+        } => write!(f, "write {task} {inode} {from} {pages}"),
+        Line::Rest { task, ticks } => write!(f, "rest {task} {ticks}"),
+        Line::Order { cpu, steps } => write!(f, "order {cpu} {steps}"),
+        Line::OrderTimer { steps } => write!(f, "order timer {steps}"),
+        Line::Tick { ticks } => write!(f, "tick {ticks}"),
+        _ => unreachable!(),
     }
 }
 

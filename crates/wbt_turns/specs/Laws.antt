@@ -25,8 +25,10 @@ pub record TimerTurnsFollow (domains : ℕ) : Type 0 where
   -- such turns are whole
   pub times : (turns : ℕ) → IsWhole (IsTimerTurn domains) (repeated turns (publications domains))
 
+-- so it is with the turns of CPUs, whatever the number of domains
 abbrev pub TurnsFollowOneAnother : Type 0
 TurnsFollowOneAnother = (domains : ℕ) → TurnsFollow domains
 
+-- so it is with the timer's turns, whatever the number of domains
 abbrev pub TimerTurnsFollowOneAnother : Type 0
 TimerTurnsFollowOneAnother = (domains : ℕ) → TimerTurnsFollow domains

@@ -11,7 +11,7 @@ use Rattle.wbt_replay_moves.specs.declared.state.Stretch.TheVariants as stretch
 use Rattle.wbt_replay_order.specs.Definition.Order.{advance, advance_by, ahead_of, follow, go_on, with_orders}
 use Rattle.wbt_replay_order.specs.declared.chance.Ahead.{Ahead}
 use Rattle.wbt_replay_order.specs.declared.chance.Ahead.TheVariants as ahead
-use Rattle.wbt_replay_order.specs.Kept.Horizon.{AreWithin, reserve, ticks_of}
+use Rattle.wbt_replay_order.specs.Kept.Horizon.{MomentsAreWithin, reserve, ticks_of}
 use Rattle.wbt_replay_order.specs.Kept.Sound.{IsStretch, Sound}
 
 pub step_follows : (trace : Trace) (s : State) (actor : Actor) (steps : ℕ) (more : List Stretch) → s.orders ≡ stretch.Steps actor steps ∷ more → ahead_of actor s ≡ ahead.Step
@@ -45,7 +45,7 @@ lines_sound trace s lines sound fit same =
         counted = h.counted;
         orders = fit;
         timer = h.timer;
-        horizon = subst (λ (n : ℕ). AreWithin (n + 0) s.now s.timer.next s.tasks s.flushers) (sym kept) h.horizon;
+        horizon = subst (λ (n : ℕ). MomentsAreWithin (n + 0) s.now s.timer.next s.tasks s.flushers) (sym kept) h.horizon;
       };
       closed = sound.closed;
     }

@@ -7,7 +7,7 @@ use Rattle.wbt_grant.specs.declared.who.StepKind.TheVariants as kind
 use Rattle.wbt_rules.specs.Places.{page_of}
 use Rattle.wbt_rules.specs.Things.{context_of, group_of, max_share}
 use Rattle.wbt_replay_moves.specs.Definition.Flight.{part_in, share, share_group, landed, complete_first, complete_in, complete_by, land_in, land_by}
-use Rattle.wbt_replay_moves.specs.Definition.Scan.{is_over, look_in, look_by, claim_in, claim_by, close_in, close_by, land_empty, hand_over_in, hand_over_by}
+use Rattle.wbt_replay_moves.specs.Definition.Scan.{is_scan_over, look_in, look_by, claim_in, claim_by, close_in, close_by, land_empty, hand_over_in, hand_over_by}
 use Rattle.wbt_replay_moves.specs.declared.state.ReplayPhase.{ReplayPhase}
 use Rattle.wbt_replay_moves.specs.declared.state.ReplayPhase.TheVariants as phase
 use Rattle.wbt_replay_moves.specs.declared.state.Whose.{Whose}
@@ -48,7 +48,7 @@ module _ (trace : Trace) (cpu : ℕ) (s : State) where
   claim_agrees word (whose.Task task) = refl
 
   close_in_agrees : (f : ℕ) (p : ReplayPhase) → IsMade trace s (where_scanning (close_changes cpu) f p s) (close_in trace cpu f p s)
-  close_in_agrees f (phase.Scanning scan) = chosen trace s (is_over scan (length (flusher_of f s).batch)) _ _ _ _ refl refl
+  close_in_agrees f (phase.Scanning scan) = chosen trace s (is_scan_over scan (length (flusher_of f s).batch)) _ _ _ _ refl refl
   close_in_agrees f (phase.Idle until kept) = refl
   close_in_agrees f (phase.Taken inode) = refl
   close_in_agrees f (phase.Flying inode pages until) = refl

@@ -29,7 +29,7 @@ module _ (trace : Trace) (cpu : ℕ) where
   phase_agrees f (phase.Flying inode pages until) s = refl
   phase_agrees f phase.Finished s = refl
 
-  whose_agrees : (w : Whose) (s : State) → IsMade trace s (whose_changes trace cpu w s) (begin_for trace cpu w s)
+  pub whose_agrees : (w : Whose) (s : State) → IsMade trace s (whose_changes trace cpu w s) (begin_for trace cpu w s)
   whose_agrees (whose.Task task) s = task_agrees trace cpu s task
   whose_agrees (whose.Flusher f) s = phase_agrees f (flusher_of f s).phase s
 

@@ -11,7 +11,7 @@ use Rattle.wbt_rules.specs.Things.{context_of, flusher_device, group_of, max_sha
 use Rattle.wbt_rules.specs.declared.moments.TheConstants.{FLUSHER_REST}
 use Rattle.wbt_rules.specs.declared.scan.Scan.{Scan}
 use Rattle.wbt_replay_moves.specs.Definition.Flight.{part_in}
-use Rattle.wbt_replay_moves.specs.Definition.Scan.{close_items, is_over}
+use Rattle.wbt_replay_moves.specs.Definition.Scan.{close_items, is_scan_over}
 use Rattle.wbt_replay_moves.specs.Definition.State.{State, flusher_of, domain_of, writeback_of}
 use Rattle.wbt_replay_moves.specs.declared.todo.Silent.TheVariants as silent
 use Rattle.wbt_replay_moves.specs.declared.todo.Step.TheVariants as step
@@ -49,7 +49,7 @@ claim_changes cpu word flusher scan s =
 -- a scan that is over closes
 abbrev pub close_changes : (cpu flusher : ℕ) (scan : Scan) (s : State) → List Change
 close_changes cpu flusher scan s =
-    if is_over scan (length (flusher_of flusher s).batch)
+    if is_scan_over scan (length (flusher_of flusher s).batch)
     then change.of_flusher flusher (flusher_change.placed scan)
     ∷ change.of_cpu cpu (cpu_change.planned (close_items scan.inode (scan.noted || nat_lt scan.passed scan.pages))) ∷ []
     else []

@@ -9,7 +9,7 @@ use Rattle.wbt_replay_moves.specs.Definition.Cpu.{do_next, then_do, logged, esti
 use Rattle.wbt_replay_moves.specs.Definition.Estimates.{estimate_to}
 use Rattle.wbt_replay_moves.specs.Definition.Idle.{rest_until, take, take_or_rest, with_hard, take_now, with_pairs, told_by, waits, noticed, age, tested_by}
 use Rattle.wbt_rules.specs.declared.moments.TheConstants.{FLUSHER_REST}
-use Rattle.wbt_replay_moves.specs.Definition.Scan.{is_over, places_after, keep_place, close_in, fly, hand_over_in}
+use Rattle.wbt_replay_moves.specs.Definition.Scan.{is_scan_over, places_after, keep_place, close_in, fly, hand_over_in}
 use Rattle.wbt_replay_moves.specs.Definition.Weigh.{is_over_by_itself, over_noted, weigh, weighed_by}
 use Rattle.wbt_io.specs.Moments.{done_at}
 use Rattle.wbt_replay_moves.specs.Definition.State.{State, no_cpu, no_flusher, cpu_of, flusher_of, queue_of, in_phase, no_waiting}
@@ -234,7 +234,7 @@ module _ (trace : Trace) (i : ℕ) (s : State) (there : i < length s.cpus) where
 
     pub close_goes : (p : ReplayPhase) → (flusher_of f s).phase ≡ p → IsScanning p → IsPaid (todo.Silent silent.Close ∷ (cpu_of i s).todo) → Quietly i silent.Close s (close_in trace i f p s)
     close_goes (phase.Scanning scan) is h paid =
-        either (Quietly i silent.Close s) (is_over scan (length (flusher_of f s).batch)) _ _
+        either (Quietly i silent.Close s) (is_scan_over scan (length (flusher_of f s).batch)) _ _
         (λ over.
         either (λ (items : List Todo). Quietly i silent.Close s (then_do i items (keep_place trace f scan s))) (scan.noted || ltb scan.passed scan.pages) _ _
         (λ again. closed (todo.Step (step.Mark scan.inode) ∷ todo.Silent silent.HandOver ∷ []) (omega arith, (omega (arith, paid.0), (tt, paid.1.1))) (omega arith))

@@ -12,7 +12,7 @@ use Rattle.wbt_replay_moves.specs.declared.state.Cpu.{Cpu}
 use Rattle.wbt_replay_moves.specs.declared.state.ReplayTask.{ReplayTask}
 use Rattle.wbt_replay_moves.specs.declared.state.ReplayWork.{ReplayWork}
 use Rattle.wbt_replay_order.specs.Definition.Opening.{opening, opening_moment, work_of, works_of, first_task, first_tasks, first_flusher, first_flushers, first_cpu, first_cpus, stretch_of}
-use Rattle.wbt_replay_order.specs.Kept.Ending.{IsPaid, cpu_cost, pause_cost, task_cost, flusher_cost, wait, work_left, IsWithin, Ending}
+use Rattle.wbt_replay_order.specs.Kept.Ending.{IsPaid, cpu_cost, pause_cost, task_cost, flusher_cost, wait, work_left, IsWithinHalt, Ending}
 use Rattle.wbt_replay_order.specs.Kept.Facts.{Facts}
 use Rattle.wbt_replay_order.proofs.Facts.Lists.{either}
 use Rattle.wbt_replay_ends.proofs.Ends.Goes.{wait_most, phase_most}
@@ -46,7 +46,7 @@ module _ (trace : Trace) where
   cpus_still zero i = (refl, refl)
   cpus_still (suc n) i = each_push (λ (c : Cpu). (c.made ≡ 0) × (c.stopped ≡ false)) (first_cpus trace n) (first_cpu trace n) no_cpu (cpus_still n) (refl, refl) (refl, refl) i
 
-  within_none : (halt : Option ℕ) (made : ℕ) → made ≡ 0 → IsWithin halt made
+  within_none : (halt : Option ℕ) (made : ℕ) → made ≡ 0 → IsWithinHalt halt made
   within_none None made is = tt
   within_none (Some most) made is = omega (arith, is)
 

@@ -12,7 +12,7 @@ use Rattle.wbt_replay_moves.specs.Definition.State.{State, no_cpu}
 use Rattle.wbt_replay_moves.specs.declared.state.Cpu.{Cpu}
 use Rattle.wbt_replay_order.specs.Claims.Ending.{is_made_by}
 use Rattle.wbt_replay_order.specs.Definition.Order.{todo_ahead, is_halted}
-use Rattle.wbt_replay_order.specs.Kept.Ending.{IsWithin, IsPaced, IsSpentAfter, ArePaced}
+use Rattle.wbt_replay_order.specs.Kept.Ending.{IsWithinHalt, IsPaced, IsSpentAfter, ArePaced}
 use Rattle.wbt_replay_order.specs.declared.chance.Ahead.TheVariants as next
 use Rattle.wbt_replay_order.proofs.Facts.Lists.{set_each}
 
@@ -35,7 +35,7 @@ counts_other i j steps more e is who other =
 -- ---- a CPU that makes one step more, or none
 
 -- where the number isn't that of the halt line
-pub within_more : (halt : Option ℕ) (made : ℕ) → is_halted halt made ≡ false → IsWithin halt (made + 1)
+pub within_more : (halt : Option ℕ) (made : ℕ) → is_halted halt made ≡ false → IsWithinHalt halt (made + 1)
 within_more None made on = tt
 within_more (Some most) made on = let less : made < most = grind (arith, nat_tests) in omega (arith, less)
 
@@ -57,7 +57,7 @@ module _ (halt : Option ℕ) (steps : List StepEntry) (cpus : List Cpu) (paced :
 
     pub paced_quietly : c.made ≡ (get_or cpus i no_cpu).made → c.stopped ≡ false → ArePaced halt steps (set cpus i c)
     paced_quietly made on = let h = paced i there in
-        paced_at (record { made = h.made ∙ sym made; within = subst (IsWithin halt) (sym made) h.within; stopped = going c _ on })
+        paced_at (record { made = h.made ∙ sym made; within = subst (IsWithinHalt halt) (sym made) h.within; stopped = going c _ on })
 
     pub paced_step : (more : List StepEntry) (e : StepEntry) → more ≡ steps ++ e ∷ [] → e.who ≡ i → c.made ≡ (get_or cpus i no_cpu).made + 1 → c.stopped ≡ false
         → is_halted halt (get_or cpus i no_cpu).made ≡ false → ArePaced halt more (set cpus i c)
@@ -65,7 +65,7 @@ module _ (halt : Option ℕ) (steps : List StepEntry) (cpus : List Cpu) (paced :
         set_each (λ k d. k < length cpus → IsPaced halt more k d) cpus i c no_cpu there
         (λ l. record {
           made = counts_own i steps more e is who ∙ (ap (λ n. n + 1) (paced i there).made ∙ sym made);
-          within = subst (IsWithin halt) (sym made) (within_more halt (get_or cpus i no_cpu).made free);
+          within = subst (IsWithinHalt halt) (sym made) (within_more halt (get_or cpus i no_cpu).made free);
           stopped = going c _ on;
         })
         (λ k n l. let h = paced k l in record { made = counts_other i k steps more e is who n ∙ h.made; within = h.within; stopped = h.stopped })
@@ -74,7 +74,7 @@ module _ (halt : Option ℕ) (steps : List StepEntry) (cpus : List Cpu) (paced :
     -- it is stopped
     pub paced_stop : c.made ≡ (get_or cpus i no_cpu).made → is_halted halt c.made ≡ true → todo_ahead c.todo ≡ next.Step → ArePaced halt steps (set cpus i c)
     paced_stop made halted due = let h = paced i there in
-        paced_at (record { made = h.made ∙ sym made; within = subst (IsWithin halt) (sym made) h.within; stopped = λ is. (halted, due) })
+        paced_at (record { made = h.made ∙ sym made; within = subst (IsWithinHalt halt) (sym made) h.within; stopped = λ is. (halted, due) })
 
 -- a run that goes on isn't spent
 pub unspent : (trace : Trace) (s : State) → s.spent ≡ false → s.spent ≡ true → IsSpentAfter trace s.most s

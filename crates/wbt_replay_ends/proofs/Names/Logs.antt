@@ -16,7 +16,7 @@ use Rattle.wbt_replay_moves.specs.Definition.Cpu.{logged, checked, estimated}
 use Rattle.wbt_replay_moves.specs.Definition.State.{State, no_cpu, cpu_of}
 use Rattle.wbt_replay_moves.specs.declared.state.Cpu.{Cpu}
 use Rattle.wbt_replay_order.specs.Claims.Whole.{IsAtHome}
-use Rattle.wbt_replay_order.specs.Kept.Naming.{IsNamed, Naming}
+use Rattle.wbt_replay_order.specs.Kept.Naming.{PartNamesInOrder, Naming}
 
 -- ---- one entry more
 
@@ -45,13 +45,13 @@ more_estimate checks estimates longer check est (entry.Check place ∷ more) is 
 more_estimate checks estimates longer check est (entry.Est place ∷ more) is h = (h.0, more_estimate checks estimates longer check (est + 1) more is h.1)
 more_estimate checks estimates longer check est (other ∷ more) is h = more_estimate checks estimates longer check est more is h
 
-pub logged_named : (e : Entry) (c : Cpu) → NamesNone e → IsNamed c → IsNamed (logged e c)
+pub logged_named : (e : Entry) (c : Cpu) → NamesNone e → PartNamesInOrder c → PartNamesInOrder (logged e c)
 logged_named e c none h = more_entry (length c.checks) (length c.estimates) 0 0 c.entries e none h
 
-pub checked_named : (check : CheckEntry) (c : Cpu) → IsNamed c → IsNamed (checked check c)
+pub checked_named : (check : CheckEntry) (c : Cpu) → PartNamesInOrder c → PartNamesInOrder (checked check c)
 checked_named check c h = more_check (length c.checks) (length (c.checks ++ check ∷ [])) (length c.estimates) 0 0 c.entries (length-append c.checks (check ∷ [])) h
 
-pub estimated_named : (est : EstEntry) (c : Cpu) → IsNamed c → IsNamed (estimated est c)
+pub estimated_named : (est : EstEntry) (c : Cpu) → PartNamesInOrder c → PartNamesInOrder (estimated est c)
 estimated_named est c h = more_estimate (length c.checks) (length c.estimates) (length (c.estimates ++ est ∷ [])) 0 0 c.entries (length-append c.estimates (est ∷ [])) h
 
 -- ---- one CPU changed, and steps more
@@ -81,16 +81,17 @@ plain_home trace s none global = ((inl none, omega (arith, global)), tt)
 pub change_home : (trace : Trace) (s : StepEntry) → s.context < length trace.contexts → s.domain ≡ 0 → AreHome trace (s ∷ [])
 change_home trace s there global = ((inr there, omega (arith, global)), tt)
 
-pub cpu_logs : (trace : Trace) (s r : State) (i : ℕ) (c : Cpu) (new : List StepEntry) → r.cpus ≡ set s.cpus i c → (IsNamed (cpu_of i s) → IsNamed c) → r.steps ≡ s.steps ++ new → AreHome trace new
+pub cpu_logs : (trace : Trace) (s r : State) (i : ℕ) (c : Cpu) (new : List StepEntry) → r.cpus ≡ set s.cpus i c → (PartNamesInOrder (cpu_of i s) → PartNamesInOrder c) → r.steps ≡ s.steps ++ new → AreHome trace new
     → Logs trace s r
 cpu_logs trace s r i c new cpus keeps steps home h = record {
-  named = λ j. subst (λ (l : List Cpu). IsNamed (get_or l j no_cpu)) (sym cpus) (set_all IsNamed s.cpus i c no_cpu (keeps (h.named i)) h.named j);
+  named = λ j. subst (λ (l : List Cpu). PartNamesInOrder (get_or l j no_cpu)) (sym cpus)
+      (set_all PartNamesInOrder s.cpus i c no_cpu (keeps (h.named i)) h.named j);
   steps = subst (AreHome trace) (sym steps) (each_append (IsAtHome (length trace.contexts) (domains trace)) s.steps new h.steps home);
 }
 
 pub same_logs : (trace : Trace) (s r : State) (new : List StepEntry) → r.cpus ≡ s.cpus → r.steps ≡ s.steps ++ new → AreHome trace new → Logs trace s r
 same_logs trace s r new cpus steps home h = record {
-  named = λ j. subst (λ (l : List Cpu). IsNamed (get_or l j no_cpu)) (sym cpus) (h.named j);
+  named = λ j. subst (λ (l : List Cpu). PartNamesInOrder (get_or l j no_cpu)) (sym cpus) (h.named j);
   steps = subst (AreHome trace) (sym steps) (each_append (IsAtHome (length trace.contexts) (domains trace)) s.steps new h.steps home);
 }
 
@@ -98,7 +99,7 @@ same_logs trace s r new cpus steps home h = record {
 pub quiet_logs : (trace : Trace) (s r : State) → r.cpus ≡ s.cpus → r.steps ≡ s.steps → Logs trace s r
 quiet_logs trace s r cpus steps = same_logs trace s r [] cpus (steps ∙ sym (append-nil s.steps)) tt
 
-pub entry_logs : (trace : Trace) (s r : State) (i : ℕ) (c : Cpu) → r.cpus ≡ set s.cpus i c → (IsNamed (cpu_of i s) → IsNamed c) → r.steps ≡ s.steps → Logs trace s r
+pub entry_logs : (trace : Trace) (s r : State) (i : ℕ) (c : Cpu) → r.cpus ≡ set s.cpus i c → (PartNamesInOrder (cpu_of i s) → PartNamesInOrder c) → r.steps ≡ s.steps → Logs trace s r
 entry_logs trace s r i c cpus keeps steps = cpu_logs trace s r i c [] cpus keeps (steps ∙ sym (append-nil s.steps)) tt
 
 -- ---- one step more
@@ -111,7 +112,7 @@ plain_entry actor kind = step_entry actor kind 0 (pos 0)
 
 -- a plain step of a CPU that changes
 pub plain_logs : (trace : Trace) (s r : State) (i : ℕ) (c : Cpu) (kind : StepKind) → r.cpus ≡ set s.cpus i c → r.steps ≡ s.steps ++ plain_entry i kind ∷ []
-    → (IsNamed (cpu_of i s) → IsNamed c) → Logs trace s r
+    → (PartNamesInOrder (cpu_of i s) → PartNamesInOrder c) → Logs trace s r
 plain_logs trace s r i c kind cpus steps keeps = cpu_logs trace s r i c (plain_entry i kind ∷ []) cpus keeps steps (plain_home trace (plain_entry i kind) refl refl)
 
 -- a plain step, where no CPU changes
@@ -120,6 +121,6 @@ alone_logs trace s r i kind cpus steps = same_logs trace s r (plain_entry i kind
 
 -- a step of a CPU that changes the count of a context of the trace
 pub change_logs : (trace : Trace) (s r : State) (i : ℕ) (c : Cpu) (kind : StepKind) (context : ℕ) (change : ℤ) → context < length trace.contexts → r.cpus ≡ set s.cpus i c
-    → r.steps ≡ s.steps ++ step_entry i kind context change ∷ [] → (IsNamed (cpu_of i s) → IsNamed c) → Logs trace s r
+    → r.steps ≡ s.steps ++ step_entry i kind context change ∷ [] → (PartNamesInOrder (cpu_of i s) → PartNamesInOrder c) → Logs trace s r
 change_logs trace s r i c kind context change there cpus steps keeps =
     cpu_logs trace s r i c (step_entry i kind context change ∷ []) cpus keeps steps (change_home trace (step_entry i kind context change) there refl)

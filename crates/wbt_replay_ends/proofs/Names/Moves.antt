@@ -4,32 +4,18 @@ use Rattle.std.proofs.lemmas.List.Elements.{All-head}
 use Rattle.wbt_flex.specs.Proportions.{after_period}
 use Rattle.wbt_flex.specs.declared.half.Half.{Half}
 use Rattle.wbt_grant.specs.declared.who.StepKind.TheVariants as kind
-use Rattle.wbt_task.specs.declared.allowance.Due.{Due}
-use Rattle.wbt_task.specs.declared.allowance.Due.TheVariants as due
 use Rattle.wbt_trace.specs.declared.trace.Trace.{Trace}
-use Rattle.wbt_replay_moves.specs.Definition.Check.{writer_of}
-use Rattle.wbt_replay_moves.specs.Definition.Cpu.{do_next, do_last, do_last_at, then_do, at_turn}
-use Rattle.wbt_replay_moves.specs.Definition.Idle.{take_or_finish, domain_loads, measures_of, weighs_of, begin_test, take_last}
-use Rattle.wbt_replay_moves.specs.Definition.Perform.{make_timer_step, make_timer_move, begin_phase, begin_for, begin_turn}
-use Rattle.wbt_replay_moves.specs.Definition.State.{State, cpu_of, task_of, flusher_of, queue_of, domain_of, is_drained, with_cpu, waiting_of}
-use Rattle.wbt_rules.specs.Things.{group_of, flusher_device}
+use Rattle.wbt_replay_moves.specs.Definition.Perform.{make_timer_step, make_timer_move}
+use Rattle.wbt_replay_moves.specs.Definition.State.{State, cpu_of, domain_of, with_cpu}
 use Rattle.wbt_replay_moves.specs.Definition.Timer.{begin_timer, with_timer, peak, is_time, periods, period_to}
-use Rattle.wbt_replay_moves.specs.Definition.Writer.{check_items, pause_in, begin_page, begin_work, begin_due}
 use Rattle.wbt_replay_moves.specs.declared.state.Actor.{Actor}
 use Rattle.wbt_replay_moves.specs.declared.state.Actor.TheVariants as who
 use Rattle.wbt_replay_moves.specs.declared.state.Cpu.{Cpu}
 use Rattle.wbt_replay_moves.specs.declared.state.ReplayJob.{ReplayJob}
 use Rattle.wbt_replay_moves.specs.declared.state.ReplayJob.TheVariants as job
-use Rattle.wbt_replay_moves.specs.declared.state.ReplayPhase.{ReplayPhase}
-use Rattle.wbt_replay_moves.specs.declared.state.ReplayPhase.TheVariants as phase
 use Rattle.wbt_replay_moves.specs.declared.state.Stretch.{Stretch}
 use Rattle.wbt_replay_moves.specs.declared.state.Stretch.TheVariants as stretch
-use Rattle.wbt_replay_moves.specs.declared.state.Whose.{Whose}
 use Rattle.wbt_replay_moves.specs.declared.state.Whose.TheVariants as whose
-use Rattle.wbt_replay_moves.specs.declared.state.ReplayWork.{ReplayWork}
-use Rattle.wbt_replay_moves.specs.declared.state.ReplayWork.TheVariants as work
-use Rattle.wbt_replay_moves.specs.declared.todo.Silent.TheVariants as silent
-use Rattle.wbt_replay_moves.specs.declared.todo.Step.TheVariants as step
 use Rattle.wbt_replay_moves.specs.declared.todo.TimerSilent.{TimerSilent}
 use Rattle.wbt_replay_moves.specs.declared.todo.TimerSilent.TheVariants as timer_silent
 use Rattle.wbt_replay_moves.specs.declared.todo.TimerStep.{TimerStep}
@@ -40,84 +26,26 @@ use Rattle.wbt_replay_moves.specs.declared.todo.Todo.{Todo}
 use Rattle.wbt_replay_moves.specs.declared.todo.Todo.TheVariants as todo
 use Rattle.wbt_replay_order.specs.Definition.Order.{actor_at, after, ahead_of, is_nothing, turn_at, job_at, is_full, is_halted, stop, cpu_on, timer_on, go_on, begin_job, begin, with_orders, begin_or_drop, follow, next_moment, at_moment, place_after, chance_of, take, take_turn, seek_turn, next_turn, finish_turn, rotate_from, tick, advance_by, advance}
 use Rattle.wbt_replay_order.specs.Kept.Facts.{Facts}
-use Rattle.wbt_replay_order.specs.Kept.Naming.{IsNamed, Naming}
+use Rattle.wbt_replay_order.specs.Kept.Naming.{PartNamesInOrder, Naming}
 use Rattle.wbt_replay_order.specs.Kept.Sound.{TimerItemFits, Sound}
 use Rattle.wbt_replay_order.specs.declared.chance.Ahead.{Ahead as Next}
 use Rattle.wbt_replay_order.specs.declared.chance.Ahead.TheVariants as next
 use Rattle.wbt_replay_order.specs.declared.chance.Chance.{Chance}
 use Rattle.wbt_replay_order.specs.declared.chance.Chance.TheVariants as chance
 use Rattle.wbt_replay_order.proofs.Facts.Lists.{either}
-use Rattle.wbt_replay_ends.proofs.Names.Items.{Reaches, reaches, step_logs, move_logs, told_logs}
+use Rattle.wbt_replay_ends.proofs.Names.Items.{Reaches, reaches, step_logs, move_logs}
+use Rattle.wbt_replay_ends.proofs.Names.Changes.{turn_logs}
 use Rattle.wbt_replay_ends.proofs.Names.Logs.{Logs, quiet_logs, entry_logs, alone_logs, same_logs}
-use Rattle.wbt_expiry.specs.declared.due.Due.{Due as Pair}
-use Rattle.wbt_journal.specs.declared.entry.Entry.TheVariants as entry
 
 -- ---- turns begin
 
-module _ (trace : Trace) (i : ℕ) (s : State) where
-  then_logs : (items : List Todo) → Logs trace s (then_do i items s)
-  then_logs items = entry_logs trace s (then_do i items s) i (do_next items (cpu_of i s)) refl (λ h. h) refl
-
-  page_logs : (t : ℕ) (pause : Option ℕ) → Logs trace s (begin_page i t pause s)
-  page_logs t None = then_logs (todo.Step step.Dirty ∷ todo.Silent silent.End ∷ [])
-  page_logs t (Some ticks) =
-      entry_logs trace s (begin_page i t (Some ticks) s) i (do_next (todo.Silent silent.End ∷ []) (cpu_of i s)) refl (λ h. h) refl
-
-  work_logs : (t : ℕ) (works : List ReplayWork) → Logs trace s (begin_work i t works s)
-  work_logs t [] = then_logs (todo.Silent silent.End ∷ [])
-  work_logs t (work.Rest ticks ∷ works) =
-      entry_logs trace s (begin_work i t (work.Rest ticks ∷ works) s) i (do_next (todo.Silent silent.End ∷ []) (cpu_of i s)) refl (λ h. h) refl
-  work_logs t (work.Write inode page pages ∷ works) = page_logs t (pause_in (task_of t s))
-
-  due_logs : (t : ℕ) (d : Due) → Logs trace s (begin_due trace i t d s)
-  due_logs t due.Check = then_logs (check_items (task_of t s).context (group_of trace (task_of t s).context))
-  due_logs t due.No = work_logs t (task_of t s).works
-
-  taken_logs : (f : ℕ) (queue : List ℕ) → Logs trace s (take_or_finish trace i f queue s)
-  taken_logs f [] = quiet_logs trace s (take_or_finish trace i f [] s) refl refl
-  taken_logs f (inode ∷ inodes) =
-      entry_logs trace s (take_or_finish trace i f (inode ∷ inodes) s) i (do_next (todo.Step step.Unmark ∷ []) (cpu_of i s)) refl (λ h. h) refl
-
-  last_taken_logs : (f : ℕ) (pairs : List Pair) → Logs trace s (take_last trace i f pairs s)
-  last_taken_logs f [] = taken_logs f (queue_of (flusher_device trace f) s)
-  last_taken_logs f (pair ∷ pairs) = told_logs trace i s f pair.inode (entry.Taken f pair.inode) pairs (λ c e. (refl, refl))
-
-  last_logs : (items : List Todo) → Logs trace s (do_last_at i items s)
-  last_logs items = entry_logs trace s (do_last_at i items s) i (do_last items (cpu_of i s)) refl (λ h. h) refl
-
-module _ (trace : Trace) (i : ℕ) (s : State) where
-  test_logs : (f : ℕ) → Logs trace s (begin_test i f s)
-  test_logs f h =
-      let u = do_last_at i (domain_loads (length s.domains) 0) s in
-      let v = do_last_at i (measures_of (flusher_of f s).measures s) u in
-      let w = do_last_at i (weighs_of (flusher_of f s).weighs) v in
-      last_logs trace i w (todo.Silent silent.Test ∷ []) (last_logs trace i v (weighs_of (flusher_of f s).weighs)
-      (last_logs trace i u (measures_of (flusher_of f s).measures s) (last_logs trace i s (domain_loads (length s.domains) 0) h)))
-
-  phase_logs : (f : ℕ) (p : ReplayPhase) → Logs trace s (begin_phase trace i f p s)
-  phase_logs f (phase.Idle until kept) = either (Logs trace s) (is_drained s) _ _
-      (λ drained. last_taken_logs trace i s f (waiting_of f s).pairs)
-      (λ running. test_logs f)
-  phase_logs f (phase.Taken n) = then_logs trace i s (todo.Step step.Unmark ∷ [])
-  phase_logs f (phase.Scanning scan) = then_logs trace i s (todo.Step step.Look ∷ [])
-  phase_logs f (phase.Flying n pages until) = then_logs trace i s (todo.Step step.Complete ∷ [])
-  phase_logs f phase.Finished = λ h. h
-
-  for_logs : (w : Whose) → Logs trace s (begin_for trace i w s)
-  for_logs (whose.Task t) = due_logs trace i s t (writer_of (task_of t s)).due
-  for_logs (whose.Flusher f) = phase_logs f (flusher_of f s).phase
-
 module _ (trace : Trace) (i : ℕ) where
-  turn_logs : (w : Whose) (s : State) → Logs trace s (begin_turn trace i w s)
-  turn_logs w s h =
-      let u = with_cpu i (at_turn w s.now (cpu_of i s)) s in
-      for_logs trace i u w (entry_logs trace s u i (at_turn w s.now (cpu_of i s)) refl (λ h. h) refl h)
-
-  job_logs : (place : ℕ) (j : ReplayJob) (c : Cpu) (s : State) → (IsNamed (cpu_of i s) → IsNamed c) → Logs trace s (begin_job trace i place j c s)
+  job_logs : (place : ℕ) (j : ReplayJob) (c : Cpu) (s : State) → (PartNamesInOrder (cpu_of i s) → PartNamesInOrder c)
+      → Logs trace s (begin_job trace i place j c s)
   job_logs place job.Writer c s keeps h =
       let d = record c { next_task = after (length c.tasks) place } in
-      turn_logs (whose.Task (get_or c.tasks place 0)) (with_cpu i d s) (entry_logs trace s (with_cpu i d s) i d refl keeps refl h)
-  job_logs place (job.Flusher f) c s keeps h = turn_logs (whose.Flusher f) (with_cpu i c s) (entry_logs trace s (with_cpu i c s) i c refl keeps refl h)
+      turn_logs trace i (whose.Task (get_or c.tasks place 0)) (with_cpu i d s) (entry_logs trace s (with_cpu i d s) i d refl keeps refl h)
+  job_logs place (job.Flusher f) c s keeps h = turn_logs trace i (whose.Flusher f) (with_cpu i c s) (entry_logs trace s (with_cpu i c s) i c refl keeps refl h)
 
 begin_logs : (trace : Trace) (actor : Actor) (n place : ℕ) (s : State) → Logs trace s (begin trace actor n place s)
 begin_logs trace (who.Cpu i) n place s =

@@ -17,7 +17,7 @@ use Rattle.wbt_replay_order.specs.Definition.Opening.{opening, first_cpu, first_
 use Rattle.wbt_replay_order.specs.Definition.Order.{advance, is_ended}
 use Rattle.wbt_replay_order.specs.Definition.Run.{base_of, bases_of, left_from, part_of, last_state, state_at, most_moves, journal_of}
 use Rattle.wbt_replay_order.specs.Kept.Facts.{Facts}
-use Rattle.wbt_replay_order.specs.Kept.Naming.{IsNamed, Naming}
+use Rattle.wbt_replay_order.specs.Kept.Naming.{PartNamesInOrder, Naming}
 use Rattle.wbt_replay_order.specs.Kept.Sound.{Sound}
 use Rattle.wbt_replay_order.proofs.Facts.Lists.{either}
 use Rattle.wbt_replay_ends.proofs.Ends.Opening.{each_push}
@@ -37,7 +37,7 @@ left_in_order (suc pages) page least book from =
 
 -- ---- parts
 
-parts_in_order : (cpus : List Cpu) → ((i : ℕ) → IsNamed (get_or cpus i no_cpu)) → Each NamesInOrder (map part_of cpus)
+parts_in_order : (cpus : List Cpu) → ((i : ℕ) → PartNamesInOrder (get_or cpus i no_cpu)) → Each NamesInOrder (map part_of cpus)
 parts_in_order [] all = tt
 parts_in_order (c ∷ cpus) all = (all 0, parts_in_order cpus (λ i. all (suc i)))
 
@@ -54,9 +54,9 @@ each_home bound (c ∷ contexts) all = (all 0 (omega arith), each_home bound con
 
 -- ---- the opening
 
-first_named : (trace : Trace) (n i : ℕ) → IsNamed (get_or (first_cpus trace n) i no_cpu)
+first_named : (trace : Trace) (n i : ℕ) → PartNamesInOrder (get_or (first_cpus trace n) i no_cpu)
 first_named trace zero i = (refl, refl)
-first_named trace (suc n) i = each_push IsNamed (first_cpus trace n) (first_cpu trace n) no_cpu (first_named trace n) (refl, refl) (refl, refl) i
+first_named trace (suc n) i = each_push PartNamesInOrder (first_cpus trace n) (first_cpu trace n) no_cpu (first_named trace n) (refl, refl) (refl, refl) i
 
 pub opening_named : (trace : Trace) → Naming trace (opening trace)
 unfolding opening

@@ -9,7 +9,7 @@ use native.Mathlib.Decide.{ℕ_discrete}
 use Rattle.wbt_trace.specs.declared.trace.Trace.{Trace}
 use Rattle.wbt_journal.specs.declared.entry.Entry.TheVariants as entry
 use Rattle.wbt_replay_moves.specs.Definition.Cpu.{then_do}
-use Rattle.wbt_replay_moves.specs.Definition.Scan.{places_after, keep_place, close_in, close_items, is_over, hand_over_in, land_empty, fly}
+use Rattle.wbt_replay_moves.specs.Definition.Scan.{places_after, keep_place, close_in, close_items, is_scan_over, hand_over_in, land_empty, fly}
 use Rattle.wbt_io.specs.Moments.{done_at}
 use Rattle.wbt_replay_moves.specs.Definition.State.{State, no_cpu, cpu_of, flusher_of, with_cpu, in_phase}
 use Rattle.wbt_rules.specs.Places.{IsAhead}
@@ -154,7 +154,7 @@ module _ (trace : Trace) (i f : ℕ) (less : i < trace.cpus) (on : IsFlusherOn t
 
   pub close_waits : (p : ReplayPhase) → (flusher_of f s).phase ≡ p → Waiting trace (close_in trace i f p s)
   close_waits (phase.Scanning scan) at =
-      either (Waiting trace) (is_over scan (length (flusher_of f s).batch)) _ s
+      either (Waiting trace) (is_scan_over scan (length (flusher_of f s).batch)) _ s
       (λ over. kept_waits scan at) (λ more. w)
   close_waits (phase.Idle until kept) at = w
   close_waits (phase.Taken n) at = w

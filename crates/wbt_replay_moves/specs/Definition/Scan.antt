@@ -83,8 +83,8 @@ close_items inode again =
     if again then todo.Step (step.Mark inode) ∷ todo.Silent silent.HandOver ∷ [] else todo.Silent silent.HandOver ∷ []
 
 -- The scan is over where it has passed as many pages as the inode has, or the batch has its quota.
-abbrev pub is_over : (scan : Scan) (pages : ℕ) → Bool
-is_over scan pages = nat_le scan.pages scan.passed || nat_le scan.quota pages
+abbrev pub is_scan_over : (scan : Scan) (pages : ℕ) → Bool
+is_scan_over scan pages = nat_le scan.pages scan.passed || nat_le scan.quota pages
 
 -- The next scan of the inode begins at the place to which this one has come, where the flusher's device is cyclic.
 abbrev pub places_after : (trace : Trace) (flusher : ℕ) (scan : Scan) (places : List ℕ) → List ℕ
@@ -101,7 +101,7 @@ keep_place trace flusher scan s =
 -- a scan that is over closes: its place is kept, the inode may be marked again, and the batch goes to the disk
 abbrev pub close_in : (trace : Trace) (cpu flusher : ℕ) (phase : ReplayPhase) (s : State) → State
 close_in trace cpu flusher (phase.Scanning scan) s =
-    if is_over scan (length (flusher_of flusher s).batch)
+    if is_scan_over scan (length (flusher_of flusher s).batch)
     then then_do cpu (close_items scan.inode (scan.noted || nat_lt scan.passed scan.pages)) (keep_place trace flusher scan s)
     else s
 close_in trace cpu flusher other s = s

@@ -14,7 +14,7 @@ use Rattle.wbt_replay_moves.specs.declared.state.Flusher.{Flusher}
 use Rattle.wbt_replay_moves.specs.declared.state.ReplayTask.{ReplayTask}
 use Rattle.wbt_replay_moves.specs.declared.state.Writeback.{Writeback}
 use Rattle.wbt_replay_order.specs.Kept.Further.{after_rests, after_waits, counts_fit, fits_further, latest_moment, left_further, moments_fit, takes_folds}
-use Rattle.wbt_replay_order.specs.Kept.Horizon.{AreWithin, latest, most_ever, reserve, step_ticks, until_of}
+use Rattle.wbt_replay_order.specs.Kept.Horizon.{MomentsAreWithin, latest, most_ever, reserve, step_ticks, until_of}
 use Rattle.wbt_replay_order.specs.Kept.Sound.{Sound, Holds, HasRoom, IsCount, IsDomain, IsContext, most_counted}
 
 -- ---- the latest moment
@@ -104,7 +104,7 @@ module _ (trace : Trace) (s : State) (fits : fits_further s ≡ true) (h : Holds
   more_left : s.most + MOST_STEPS - length s.steps ≡ s.most - length s.steps + MOST_STEPS
   more_left = omega (arith, h.few)
 
-  moments : AreWithin (reserve (extended s) + 0) s.now s.timer.next s.tasks s.flushers
+  moments : MomentsAreWithin (reserve (extended s) + 0) s.now s.timer.next s.tasks s.flushers
   moments =
       let rests = rests_from (max s.now s.timer.next) s.tasks in
       let waits = waits_from (after_rests (max s.now s.timer.next) s.tasks) s.flushers in

@@ -1,5 +1,5 @@
 -- What quiet moves, checks, estimates and the timer's moves keep, each move keeps, and so it holds at each moment.
-use Rattle.std.proofs.Common.{◌≡◌, ℕ, zero, suc, ◌+◌, ◌<◌, Bool, true, false, List, [], ◌∷◌, length, get_or, refl, sym, ◌∙◌, ap, subst, arith, ⊎_elim, Option, Some, None, ◌≢◌}
+use Rattle.std.proofs.Common.{◌≡◌, ℕ, zero, suc, ◌+◌, ◌<◌, Bool, true, false, List, [], ◌∷◌, length, get_or, refl, sym, ◌∙◌, ap, subst, arith, ⊎_elim, Option, Some, None}
 use Rattle.std.proofs.lemmas.Bool.{cases_lt}
 use Rattle.std.proofs.lemmas.List.{get_or_past, length-set}
 use Rattle.wbt_trace.specs.declared.trace.Trace.{Trace}
@@ -38,11 +38,9 @@ use Rattle.wbt_replay_order.specs.declared.chance.Chance.TheVariants as chance
 use Rattle.wbt_replay_order.proofs.Facts.Lists.{either}
 use Rattle.wbt_replay_order.proofs.Growth.Quiet.{HasNames, Quiet, still, same_at, quiet_cpu}
 use Rattle.wbt_replay_moves.specs.Definition.Writer.{dirty}
-use Rattle.wbt_replay_order.proofs.Written.Items.{wrote_add, wrote_fold, wrote_clear, wrote_first, wrote_middle, wrote_limits, wrote_count, wrote_mark, wrote_end, wrote_weigh, wrote_test, wrote_unmark, wrote_look, wrote_claim, wrote_close, wrote_hand_over}
 use Rattle.wbt_replay_order.proofs.Written.Same.{told_by, Wrote, unwritten, wrote_cpu}
-use Rattle.wbt_replay_order.proofs.Written.Turns.{wrote_complete, wrote_land, wrote_turn}
-use Rattle.wbt_replay_order.proofs.Growth.QuietItems.{quiet_add, quiet_fold, quiet_clear, quiet_first, quiet_middle, quiet_limits, quiet_count, quiet_dirty, quiet_mark, quiet_end, quiet_weigh, quiet_test, quiet_unmark, quiet_look, quiet_claim, quiet_close, quiet_hand_over}
-use Rattle.wbt_replay_order.proofs.Growth.QuietTurns.{quiet_complete, quiet_land, quiet_turn}
+use Rattle.wbt_replay_order.proofs.Growth.Calm.{calm_turn, calm_step, calm_move, quiet_dirty}
+use Rattle.wbt_replay_changes.specs.Plain.{IsPlainStep, IsPlainMove}
 
 -- the CPU's first item is taken
 abbrev popped : (cpu : ℕ) (rest : List Todo) (s : State) → State
@@ -71,32 +69,25 @@ module _ (trace : Trace) (P : State → Type 0) (frame : (s u : State) → Quiet
     (passes : (item : TimerSilent) (rest : List TimerTodo) (s : State) → s.timer.todo ≡ timer_todo.Silent item ∷ rest → P s
     → P (make_timer_move item (with_timer (record s.timer { todo = rest }) s)))
     (begins : (s : State) → P s → P (begin_timer s)) where
-  -- ---- items
-
-  by_step : (cpu : ℕ) (item : Step) (s : State) → (item ≢ step.Dirty) → P s → P (make_step trace cpu item s)
-  unfolding make_step
-  by_step cpu step.Dirty s other h = absurd (other refl)
-  by_step cpu (step.Add counter change) s other h = frame s _ (quiet_add trace cpu counter change s) (wrote_add trace cpu counter change s) h
-  by_step cpu (step.Fold counter) s other h = frame s _ (quiet_fold cpu counter s) (wrote_fold cpu counter s) h
-  by_step cpu (step.Clear counter) s other h = frame s _ (quiet_clear cpu counter s) (wrote_clear cpu counter s) h
-  by_step cpu (step.Mark inode) s other h = frame s _ (quiet_mark trace cpu inode s) (wrote_mark trace cpu inode s) h
-  by_step cpu (step.First domain) s other h = frame s _ (quiet_first cpu domain s) (wrote_first cpu domain s) h
-  by_step cpu (step.Middle domain) s other h = frame s _ (quiet_middle cpu s) (wrote_middle cpu s) h
-  by_step cpu (step.Limits domain) s other h = frame s _ (quiet_limits cpu domain s) (wrote_limits cpu domain s) h
-  by_step cpu (step.Count counter) s other h = frame s _ (quiet_count cpu counter s) (wrote_count cpu counter s) h
-  by_step cpu step.Unmark s other h = frame s _ (quiet_unmark trace cpu s) (wrote_unmark trace cpu s) h
-  by_step cpu step.Look s other h = frame s _ (quiet_look cpu s) (wrote_look cpu s) h
-  by_step cpu (step.Claim word) s other h = frame s _ (quiet_claim cpu word s) (wrote_claim cpu word s) h
-  by_step cpu step.Complete s other h = frame s _ (quiet_complete trace cpu s) (wrote_complete trace cpu s) h
-
   -- ---- an actor's move
 
   on_cpu : (cpu : ℕ) (c : Cpu) (s : State) → c.checks ≡ (cpu_of cpu s).checks → c.estimates ≡ (cpu_of cpu s).estimates → (HasNames (cpu_of cpu s) → HasNames c)
       → ((t : ℕ) → told_by t c ≡ told_by t (cpu_of cpu s)) → P s → P (with_cpu cpu c s)
   on_cpu cpu c s checks ests names told h = frame s (with_cpu cpu c s) (quiet_cpu cpu c s checks ests names) (wrote_cpu cpu c s told) h
 
-  stepped : (cpu : ℕ) (rest : List Todo) (s : State) → P s → P (stepping cpu rest s)
-  stepped cpu rest s h = on_cpu cpu (record (cpu_of cpu s) { todo = rest; made = (cpu_of cpu s).made + 1 }) s refl refl (λ n. n) (λ t. refl) h
+  -- by a plain step, and a plain silent move
+  stepped : (cpu : ℕ) (item : Step) (rest : List Todo) (s : State) → IsPlainStep item → P s → P (make_step trace cpu item (stepping cpu rest s))
+  stepped cpu item rest s plain h =
+      let u = stepping cpu rest s in
+      let calm = calm_step trace cpu item u plain in
+      frame u (make_step trace cpu item u) calm.0 calm.1
+      (on_cpu cpu (record (cpu_of cpu s) { todo = rest; made = (cpu_of cpu s).made + 1 }) s refl refl (λ n. n) (λ t. refl) h)
+
+  passed : (cpu : ℕ) (item : Silent) (rest : List Todo) (s : State) → IsPlainMove item → P s → P (make_move trace cpu item (popped cpu rest s))
+  passed cpu item rest s plain h =
+      let u = popped cpu rest s in
+      let calm = calm_move trace cpu item u plain in
+      frame u (make_move trace cpu item u) calm.0 calm.1 (on_cpu cpu (record (cpu_of cpu s) { todo = rest }) s refl refl (λ n. n) (λ t. refl) h)
 
   by_decide : (cpu : ℕ) (rest : List Todo) (w : Whose) (s : State) → cpu < length s.cpus → (cpu_of cpu s).todo ≡ todo.Silent silent.Decide ∷ rest
       → (cpu_of cpu s).turn.whose ≡ w → Can s.now s.domains s.cpus s.tasks s.contexts → P s → P (decide_by trace cpu w (popped cpu rest s))
@@ -110,33 +101,16 @@ module _ (trace : Trace) (P : State → Type 0) (frame : (s u : State) → Quiet
       let u = popped cpu rest s in
       subst (λ (w : Whose). P (decide_by trace cpu w u)) (sym (same_at (λ (c : Cpu). c.turn.whose) s.cpus cpu (record (cpu_of cpu s) { todo = rest }) no_cpu refl cpu))
       (by_decide cpu rest (cpu_of cpu s).turn.whose s there is refl can h)
-  by_move cpu silent.End rest s there is can h = let u = popped cpu rest s in frame u _ (quiet_end cpu u) (wrote_end cpu u) (on_cpu cpu (record (cpu_of cpu s) { todo = rest }) s refl refl (λ n. n) (λ t. refl) h)
   by_move cpu (silent.Estimate context) rest s there is can h =
       estimates cpu context (popped cpu rest s) (omega (arith, there, length-set s.cpus cpu (record (cpu_of cpu s) { todo = rest })))
       (on_cpu cpu (record (cpu_of cpu s) { todo = rest }) s refl refl (λ n. n) (λ t. refl) h)
-  by_move cpu (silent.Weigh context) rest s there is can h = let u = popped cpu rest s in frame u _ (quiet_weigh trace cpu context u) (wrote_weigh trace cpu context u) (on_cpu cpu (record (cpu_of cpu s) { todo = rest }) s refl refl (λ n. n) (λ t. refl) h)
-  by_move cpu silent.Test rest s there is can h = let u = popped cpu rest s in frame u _ (quiet_test trace cpu u) (wrote_test trace cpu u) (on_cpu cpu (record (cpu_of cpu s) { todo = rest }) s refl refl (λ n. n) (λ t. refl) h)
-  by_move cpu silent.Close rest s there is can h = let u = popped cpu rest s in frame u _ (quiet_close trace cpu u) (wrote_close trace cpu u) (on_cpu cpu (record (cpu_of cpu s) { todo = rest }) s refl refl (λ n. n) (λ t. refl) h)
-  by_move cpu silent.HandOver rest s there is can h = let u = popped cpu rest s in frame u _ (quiet_hand_over trace cpu u) (wrote_hand_over trace cpu u) (on_cpu cpu (record (cpu_of cpu s) { todo = rest }) s refl refl (λ n. n) (λ t. refl) h)
-  by_move cpu silent.Land rest s there is can h = let u = popped cpu rest s in frame u _ (quiet_land trace cpu u) (wrote_land trace cpu u) (on_cpu cpu (record (cpu_of cpu s) { todo = rest }) s refl refl (λ n. n) (λ t. refl) h)
+  by_move cpu other rest s there is can h = passed cpu other rest s tt h
 
-  -- a step, of which a write is one by itself
   by_item : (cpu : ℕ) (item : Step) (rest : List Todo) (s : State) → cpu < length s.cpus → (cpu_of cpu s).todo ≡ todo.Step item ∷ rest
       → Can s.now s.domains s.cpus s.tasks s.contexts → P s → P (make_step trace cpu item (stepping cpu rest s))
   unfolding make_step
   by_item cpu step.Dirty rest s there is can h = writes cpu rest s there is can h
-  by_item cpu (step.Add counter change) rest s there is can h = by_step cpu (step.Add counter change) (stepping cpu rest s) (λ e. cc e) (stepped cpu rest s h)
-  by_item cpu (step.Fold counter) rest s there is can h = by_step cpu (step.Fold counter) (stepping cpu rest s) (λ e. cc e) (stepped cpu rest s h)
-  by_item cpu (step.Clear counter) rest s there is can h = by_step cpu (step.Clear counter) (stepping cpu rest s) (λ e. cc e) (stepped cpu rest s h)
-  by_item cpu (step.Mark inode) rest s there is can h = by_step cpu (step.Mark inode) (stepping cpu rest s) (λ e. cc e) (stepped cpu rest s h)
-  by_item cpu (step.First domain) rest s there is can h = by_step cpu (step.First domain) (stepping cpu rest s) (λ e. cc e) (stepped cpu rest s h)
-  by_item cpu (step.Middle domain) rest s there is can h = by_step cpu (step.Middle domain) (stepping cpu rest s) (λ e. cc e) (stepped cpu rest s h)
-  by_item cpu (step.Limits domain) rest s there is can h = by_step cpu (step.Limits domain) (stepping cpu rest s) (λ e. cc e) (stepped cpu rest s h)
-  by_item cpu (step.Count counter) rest s there is can h = by_step cpu (step.Count counter) (stepping cpu rest s) (λ e. cc e) (stepped cpu rest s h)
-  by_item cpu step.Unmark rest s there is can h = by_step cpu step.Unmark (stepping cpu rest s) (λ e. cc e) (stepped cpu rest s h)
-  by_item cpu step.Look rest s there is can h = by_step cpu step.Look (stepping cpu rest s) (λ e. cc e) (stepped cpu rest s h)
-  by_item cpu (step.Claim word) rest s there is can h = by_step cpu (step.Claim word) (stepping cpu rest s) (λ e. cc e) (stepped cpu rest s h)
-  by_item cpu step.Complete rest s there is can h = by_step cpu step.Complete (stepping cpu rest s) (λ e. cc e) (stepped cpu rest s h)
+  by_item cpu other rest s there is can h = stepped cpu other rest s tt h
 
   by_cpu : (cpu : ℕ) (todos : List Todo) (s : State) → (cpu_of cpu s).todo ≡ todos → Can s.now s.domains s.cpus s.tasks s.contexts → P s → P (cpu_on trace cpu todos s)
   by_cpu cpu [] s is can h = h
@@ -165,7 +139,10 @@ module _ (trace : Trace) (P : State → Type 0) (frame : (s u : State) → Quiet
   begins_turn : (cpu : ℕ) (w : Whose) (c : Cpu) (s : State) → c.checks ≡ (cpu_of cpu s).checks → c.estimates ≡ (cpu_of cpu s).estimates → (HasNames (cpu_of cpu s) → HasNames c)
       → ((t : ℕ) → told_by t c ≡ told_by t (cpu_of cpu s)) → P s
       → P (begin_turn trace cpu w (with_cpu cpu c s))
-  begins_turn cpu w c s checks ests names told h = frame (with_cpu cpu c s) _ (quiet_turn trace cpu w (with_cpu cpu c s)) (wrote_turn trace cpu w (with_cpu cpu c s)) (on_cpu cpu c s checks ests names told h)
+  begins_turn cpu w c s checks ests names told h =
+      let u = with_cpu cpu c s in
+      let calm = calm_turn trace cpu w u in
+      frame u (begin_turn trace cpu w u) calm.0 calm.1 (on_cpu cpu c s checks ests names told h)
 
   begins_job : (cpu place : ℕ) (j : ReplayJob) (c : Cpu) (s : State) → c.checks ≡ (cpu_of cpu s).checks → c.estimates ≡ (cpu_of cpu s).estimates → (HasNames (cpu_of cpu s) → HasNames c)
       → ((t : ℕ) → told_by t c ≡ told_by t (cpu_of cpu s)) → P s

@@ -5,7 +5,7 @@ use Rattle.std.proofs.lemmas.List.{append-nil, map-append}
 use Rattle.wbt_counter.specs.Counters.{is_same}
 use Rattle.wbt_counter.specs.declared.counter.Counter.{Counter}
 use Rattle.wbt_counter.specs.declared.record.Fold.{Fold}
-use Rattle.wbt_journal.specs.Counts.{Load, Version, fold_in, loads_in, loads_of, versions_in, version_of_fold, versions_of, is_behind, is_fresh, CountsAreFresh, versions_after}
+use Rattle.wbt_journal.specs.Counts.{Load, Version, fold_in, loads_in, loads_of, versions_in, version_of_fold, versions_of, is_behind, is_fresh_count, CountsAreFresh, versions_after}
 use Rattle.wbt_journal.specs.Each.{Each}
 use Rattle.wbt_journal.specs.Effects.{effect, listed, of_part}
 use Rattle.wbt_journal.specs.Items.{tells}
@@ -79,14 +79,14 @@ module _ (checks checks2 : List CheckEntry) (ests ests2 : List EstEntry) (same_c
   told_same check est (other ∷ more) h = ap (λ (l : List Told). told_entry checks ests other ++ l) (told_same check est more h)
 
 pub fresh_checked : (check : CheckEntry) (checks : List CheckEntry) (ests : List EstEntry) (entries : List Entry) → InOrder (length checks) (length ests) 0 0 entries
-    → Each (λ (load : Load). is_fresh (seen_in (told_in checks ests entries)) load ≡ true) (loads_of check) → FreshIn (told_in checks ests entries)
+    → Each (λ (load : Load). is_fresh_count (seen_in (told_in checks ests entries)) load ≡ true) (loads_of check) → FreshIn (told_in checks ests entries)
     → FreshIn (told_in (checks ++ check ∷ []) ests (entries ++ entry.Check (length checks) ∷ []))
 fresh_checked check checks ests entries order fresh h =
     let longer : List CheckEntry = checks ++ check ∷ [] in
     let same = told_same checks longer ests ests (slice_more checks (check ∷ [])) (λ i less. refl) 0 0 entries order in
     fresh_logged longer ests entries (entry.Check (length checks)) (subst FreshIn (sym same) h)
     (subst (λ (which : Option CheckEntry). Along CountsAreFresh versions_after (seen_in (told_in longer ests entries)) (map (tells 0) (one_checked which))) (sym (slice_last checks check))
-    (subst (λ (l : List Told). Each (λ (load : Load). is_fresh (seen_in l) load ≡ true) (loads_of check)) (sym same) fresh, tt))
+    (subst (λ (l : List Told). Each (λ (load : Load). is_fresh_count (seen_in l) load ≡ true) (loads_of check)) (sym same) fresh, tt))
 
 pub fresh_estimated : (est : EstEntry) (checks : List CheckEntry) (ests : List EstEntry) (entries : List Entry) → InOrder (length checks) (length ests) 0 0 entries
     → FreshIn (told_in checks ests entries) → FreshIn (told_in checks (ests ++ est ∷ []) (entries ++ entry.Est (length ests) ∷ []))

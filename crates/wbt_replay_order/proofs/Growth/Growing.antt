@@ -1,5 +1,5 @@
 -- A move makes one step at most.
-use Rattle.std.proofs.Common.{◌≡◌, ℕ, zero, suc, ◌+◌, ◌⊎◌, inl, inr, Bool, true, false, cond, eqb, List, [], ◌∷◌, ◌++◌, length, get_or, refl, ◌∙◌, ap, Option, Some, None}
+use Rattle.std.proofs.Common.{◌≡◌, ℕ, ◌⊎◌, inl, inr, Bool, true, cond, eqb, List, [], ◌∷◌, ◌++◌, get_or, refl, ◌∙◌, ap, Option, Some, None}
 use Rattle.wbt_trace.specs.declared.trace.Trace.{Trace}
 use Rattle.wbt_book.specs.Book.{is_claimable}
 use Rattle.wbt_book.specs.PageWords.{shared_word}
@@ -7,22 +7,20 @@ use Rattle.wbt_counter.specs.declared.counter.Counter.{Counter}
 use Rattle.wbt_counter.specs.declared.counter.Counter.TheVariants.{Domain as ofDomain, Context as ofContext}
 use Rattle.wbt_estimate.specs.declared.estimate.Estimate.{Estimate}
 use Rattle.wbt_estimate.specs.Estimate.{update_of}
-use Rattle.wbt_flex.specs.Proportions.{fraction_of, may_be_added}
 use Rattle.wbt_journal.specs.declared.step.StepEntry.{StepEntry}
-use Rattle.wbt_replay_moves.specs.Definition.Check.{decide_by, writer_of}
+use Rattle.wbt_replay_moves.specs.Definition.Check.{decide_by}
 use Rattle.wbt_replay_moves.specs.Definition.Counters.{fold}
 use Rattle.wbt_replay_moves.specs.Definition.Estimates.{estimate_to, sample_of}
-use Rattle.wbt_replay_moves.specs.Definition.Flight.{complete_by, complete_in, complete_first, land_by, land_in, landed, share, share_now, share_group, part_in, with_written}
-use Rattle.wbt_replay_moves.specs.Definition.Idle.{take_or_finish, take_or_rest, rest_until, test_by, with_hard, unmark_by, unmark_in, take_last, noticed, age, tested_by}
+use Rattle.wbt_replay_moves.specs.Definition.Flight.{complete_by, complete_in, complete_first}
+use Rattle.wbt_replay_moves.specs.Definition.Idle.{unmark_by, unmark_in}
 use Rattle.wbt_replay_moves.specs.Definition.Perform.{make_step, make_move}
-use Rattle.wbt_replay_moves.specs.Definition.Scan.{look_by, look_in, looked_at, claim_by, claim_in, claim_now, close_by, close_in, is_over, hand_over_by, hand_over_in, land_empty}
-use Rattle.wbt_replay_moves.specs.Definition.State.{State, cpu_of, flusher_of, task_of, with_task, domain_of, writeback_of, queue_of, in_phase}
+use Rattle.wbt_replay_moves.specs.Definition.Scan.{look_by, look_in, looked_at, claim_by, claim_in, claim_now}
+use Rattle.wbt_replay_moves.specs.Definition.State.{State, cpu_of, flusher_of, task_of, with_task, writeback_of}
 use Rattle.wbt_rules.specs.Places.{page_of}
-use Rattle.wbt_rules.specs.Things.{context_of, group_of, flusher_device, max_share}
-use Rattle.wbt_replay_moves.specs.Definition.Writer.{passed_page, dirty_by, dirty_next, dirty_page, dirty_fresh, mark, marked, end_by, end_now, has_nothing}
+use Rattle.wbt_rules.specs.Things.{context_of}
+use Rattle.wbt_replay_moves.specs.Definition.Writer.{passed_page, dirty_by, dirty_next, dirty_page, dirty_fresh, mark, marked}
 use Rattle.wbt_replay_moves.specs.declared.state.ReplayPhase.{ReplayPhase}
 use Rattle.wbt_replay_moves.specs.declared.state.ReplayPhase.TheVariants as phase
-use Rattle.wbt_replay_moves.specs.declared.state.ReplayTurn.{ReplayTurn}
 use Rattle.wbt_replay_moves.specs.declared.state.Whose.{Whose}
 use Rattle.wbt_replay_moves.specs.declared.state.Whose.TheVariants as whose
 use Rattle.wbt_replay_moves.specs.declared.state.ReplayWork.{ReplayWork}
@@ -34,10 +32,12 @@ use Rattle.wbt_replay_moves.specs.declared.todo.Step.TheVariants as step
 use Rattle.wbt_replay_moves.specs.declared.todo.TimerStep.TheVariants as timer_step
 use Rattle.wbt_replay_moves.specs.declared.todo.TimerTodo.{TimerTodo}
 use Rattle.wbt_replay_moves.specs.declared.todo.TimerTodo.TheVariants as timer_todo
+use Rattle.wbt_replay_changes.specs.Apply.{apply}
+use Rattle.wbt_replay_changes.specs.Change.{Change}
+use Rattle.wbt_replay_changes.specs.Change as change
+use Rattle.wbt_replay_changes.specs.Plain.{IsSilent}
+use Rattle.wbt_replay_changes.proofs.Keeping.{move_keeps}
 use Rattle.wbt_replay_order.proofs.Facts.Lists.{either}
-use Rattle.wbt_expiry.specs.declared.due.Due.{Due}
-use Rattle.wbt_expiry.specs.Waiting.{Waiting as Wheel}
-use Rattle.wbt_replay_order.proofs.Facts.Ages.{noticed_kept, aged_kept}
 
 -- ---- steps before, and now
 
@@ -177,102 +177,25 @@ silent_decide : (trace : Trace) (cpu : ℕ) (w : Whose) (s : State) → Silently
 silent_decide trace cpu (whose.Task task) s = refl
 silent_decide trace cpu (whose.Flusher flusher) s = refl
 
-silent_end : (cpu : ℕ) (w : Whose) (s : State) → Silently s (end_by cpu w s)
-silent_end cpu (whose.Task task) s =
-    both_silent s (has_nothing (task_of task s).works (writer_of (task_of task s)).due) (end_now cpu task s) s refl refl
-silent_end cpu (whose.Flusher flusher) s = refl
-
 silent_estimate : (cpu context : ℕ) (found : Option Estimate) (s : State) → Silently s (estimate_to cpu context found s)
 silent_estimate cpu context None s = refl
 silent_estimate cpu context (Some e) s = refl
 
-silent_take_or_rest : (trace : Trace) (cpu flusher until : ℕ) (numbers : List ℕ) (s : State) → Silently s (take_or_rest trace cpu flusher until numbers s)
-silent_take_or_rest trace cpu flusher until [] s = refl
-silent_take_or_rest trace cpu flusher until (inode ∷ inodes) s = refl
+pub silent_change : (trace : Trace) (s : State) (one : Change) → IsSilent one s → Silently s (apply trace one s)
+silent_change trace s (change.stepped who kind) h = absurd h
+silent_change trace s (change.dirtied cpu task inode page works) h = absurd h
+silent_change trace s (change.completed cpu flusher context page left) h = absurd h
+silent_change trace s (change.raised domain hard) h = absurd h
+silent_change trace s (change.folded cpu (ofDomain d)) h = refl
+silent_change trace s (change.folded cpu (ofContext k)) h = refl
+silent_change trace s other h = refl
 
-silent_take_or_finish : (trace : Trace) (cpu flusher : ℕ) (numbers : List ℕ) (s : State) → Silently s (take_or_finish trace cpu flusher numbers s)
-silent_take_or_finish trace cpu flusher [] s = refl
-silent_take_or_finish trace cpu flusher (inode ∷ inodes) s = refl
-
-pub silent_take_last : (trace : Trace) (cpu flusher : ℕ) (pairs : List Due) (s : State) → Silently s (take_last trace cpu flusher pairs s)
-silent_take_last trace cpu flusher [] s = silent_take_or_finish trace cpu flusher (queue_of (flusher_device trace flusher) s) s
-silent_take_last trace cpu flusher (pair ∷ pairs) s = refl
-
-silent_age : (trace : Trace) (cpu flusher now : ℕ) (over : Bool) (s : State) → Silently s (age trace cpu flusher now over s)
-silent_age trace cpu flusher now over s =
-    let u = noticed trace cpu flusher now s in
-    let same : Silently s u = noticed_kept trace cpu flusher now (Silently s) (λ v h. h) (λ v n ns is waits h. h) (λ v n ns is new h. h) s refl in
-    aged_kept cpu flusher now over u (Silently s) same (λ pair pairs is by_now. same) (λ pair pairs is. same)
-
-silent_tested : (trace : Trace) (cpu flusher : ℕ) (turn : ReplayTurn) (wheel : Option Wheel) (s : State) → Silently s (tested_by trace cpu flusher turn wheel s)
-silent_tested trace cpu flusher turn None s =
-    both_silent s turn.over (take_or_rest trace cpu flusher (turn.began + 100) (queue_of (flusher_device trace flusher) s) s) (rest_until flusher (turn.began + 100) s)
-    (silent_take_or_rest trace cpu flusher (turn.began + 100) (queue_of (flusher_device trace flusher) s) s) refl
-silent_tested trace cpu flusher turn (Some w) s = silent_age trace cpu flusher turn.began turn.over s
-
-silent_test : (trace : Trace) (cpu : ℕ) (turn : ReplayTurn) (w : Whose) (s : State) → Silently s (test_by trace cpu turn w s)
-silent_test trace cpu turn (whose.Flusher flusher) s = silent_tested trace cpu flusher turn (flusher_of flusher s).wheel (with_hard flusher turn.global.limits.hard s)
-silent_test trace cpu turn (whose.Task task) s = refl
-
-silent_close_in : (trace : Trace) (cpu flusher : ℕ) (p : ReplayPhase) (s : State) → Silently s (close_in trace cpu flusher p s)
-silent_close_in trace cpu flusher (phase.Scanning scan) s =
-    both_silent s (is_over scan (length (flusher_of flusher s).batch)) _ s refl refl
-silent_close_in trace cpu flusher (phase.Taken inode) s = refl
-silent_close_in trace cpu flusher (phase.Idle until kept) s = refl
-silent_close_in trace cpu flusher (phase.Flying inode pages until) s = refl
-silent_close_in trace cpu flusher phase.Finished s = refl
-
-silent_close : (trace : Trace) (cpu : ℕ) (w : Whose) (s : State) → Silently s (close_by trace cpu w s)
-silent_close trace cpu (whose.Flusher flusher) s = silent_close_in trace cpu flusher (flusher_of flusher s).phase s
-silent_close trace cpu (whose.Task task) s = refl
-
-silent_hand_over_in : (trace : Trace) (cpu flusher : ℕ) (p : ReplayPhase) (s : State) → Silently s (hand_over_in trace cpu flusher p s)
-silent_hand_over_in trace cpu flusher (phase.Scanning scan) s =
-    both_silent s (eqb (length (flusher_of flusher s).batch) 0) (land_empty flusher scan.noted s) _ refl refl
-silent_hand_over_in trace cpu flusher (phase.Taken inode) s = refl
-silent_hand_over_in trace cpu flusher (phase.Idle until kept) s = refl
-silent_hand_over_in trace cpu flusher (phase.Flying inode pages until) s = refl
-silent_hand_over_in trace cpu flusher phase.Finished s = refl
-
-silent_hand_over : (trace : Trace) (cpu : ℕ) (w : Whose) (s : State) → Silently s (hand_over_by trace cpu w s)
-silent_hand_over trace cpu (whose.Flusher flusher) s = silent_hand_over_in trace cpu flusher (flusher_of flusher s).phase s
-silent_hand_over trace cpu (whose.Task task) s = refl
-
-silent_share : (trace : Trace) (cpu domain context n : ℕ) (s : State) → Silently s (share trace cpu domain context n s)
-silent_share trace cpu domain context n s =
-    both_silent s (may_be_added (fraction_of (part_in domain (writeback_of context s)) (domain_of domain s).events) (max_share trace context))
-    (share_now cpu domain context n s) s refl refl
-
-silent_share_group : (trace : Trace) (cpu group context n : ℕ) (s : State) → Silently s (share_group trace cpu group context n s)
-silent_share_group trace cpu zero context n s = refl
-silent_share_group trace cpu (suc cgroup) context n s = silent_share trace cpu (suc cgroup) context n s
-
-silent_landed : (trace : Trace) (cpu flusher context n : ℕ) (s : State) → Silently s (landed trace cpu flusher context n s)
-silent_landed trace cpu flusher context n s =
-    let u = with_written context n (in_phase flusher (phase.Idle 0 false) s) in
-    silent_share_group trace cpu (group_of trace context) context n (share trace cpu 0 context n u) ∙ silent_share trace cpu 0 context n u
-
-silent_land_in : (trace : Trace) (cpu flusher : ℕ) (p : ReplayPhase) (s : State) → Silently s (land_in trace cpu flusher p s)
-silent_land_in trace cpu flusher (phase.Flying inode pages until) s =
-    both_silent s (eqb (length (flusher_of flusher s).batch) 0) (landed trace cpu flusher (context_of trace inode) pages s) s
-    (silent_landed trace cpu flusher (context_of trace inode) pages s) refl
-silent_land_in trace cpu flusher (phase.Taken inode) s = refl
-silent_land_in trace cpu flusher (phase.Idle until kept) s = refl
-silent_land_in trace cpu flusher (phase.Scanning scan) s = refl
-silent_land_in trace cpu flusher phase.Finished s = refl
-
-silent_land : (trace : Trace) (cpu : ℕ) (w : Whose) (s : State) → Silently s (land_by trace cpu w s)
-silent_land trace cpu (whose.Flusher flusher) s = silent_land_in trace cpu flusher (flusher_of flusher s).phase s
-silent_land trace cpu (whose.Task task) s = refl
+pub then_silent : (s u v : State) → Silently s u → Silently u v → Silently s v
+then_silent s u v h k = k ∙ h
 
 pub silent_move : (trace : Trace) (cpu : ℕ) (item : Silent) (s : State) → Silently s (make_move trace cpu item s)
 unfolding make_move
 silent_move trace cpu silent.Decide s = silent_decide trace cpu (cpu_of cpu s).turn.whose s
-silent_move trace cpu silent.End s = silent_end cpu (cpu_of cpu s).turn.whose s
 silent_move trace cpu (silent.Estimate context) s =
     silent_estimate cpu context (update_of (writeback_of context s).estimate (sample_of trace context (cpu_of cpu s).turn s)) s
-silent_move trace cpu (silent.Weigh context) s = refl
-silent_move trace cpu silent.Test s = silent_test trace cpu (cpu_of cpu s).turn (cpu_of cpu s).turn.whose s
-silent_move trace cpu silent.Close s = silent_close trace cpu (cpu_of cpu s).turn.whose s
-silent_move trace cpu silent.HandOver s = silent_hand_over trace cpu (cpu_of cpu s).turn.whose s
-silent_move trace cpu silent.Land s = silent_land trace cpu (cpu_of cpu s).turn.whose s
+silent_move trace cpu other s = move_keeps trace Silently (λ u. refl) then_silent (silent_change trace) cpu other s tt

@@ -7,26 +7,18 @@ use Rattle.wbt_flex.specs.Proportions.{after_period}
 use Rattle.wbt_flex.specs.declared.half.Half.{Half}
 use Rattle.wbt_grant.specs.declared.who.StepKind.TheVariants as kind
 use Rattle.wbt_journal.specs.declared.step.StepEntry.{StepEntry}
-use Rattle.wbt_replay_moves.specs.Definition.Check.{writer_of}
-use Rattle.wbt_replay_moves.specs.Definition.Cpu.{at_turn}
-use Rattle.wbt_replay_moves.specs.Definition.Idle.{take_last}
-use Rattle.wbt_replay_moves.specs.Definition.Perform.{make_step, make_timer_step, make_timer_move, begin_turn, begin_for, begin_phase}
-use Rattle.wbt_replay_moves.specs.Definition.State.{State, cpu_of, with_cpu, flusher_of, task_of, domain_of, is_drained, waiting_of}
+use Rattle.wbt_replay_moves.specs.Definition.Perform.{make_step, make_timer_step, make_timer_move, begin_turn, begin_for}
+use Rattle.wbt_replay_moves.specs.Definition.State.{State, cpu_of, with_cpu, domain_of}
 use Rattle.wbt_replay_moves.specs.Definition.Timer.{with_timer, period_to, is_time, periods}
-use Rattle.wbt_replay_moves.specs.Definition.Writer.{pause_in, begin_page, begin_due, begin_work}
 use Rattle.wbt_replay_moves.specs.declared.state.Actor.{Actor}
 use Rattle.wbt_replay_moves.specs.declared.state.Actor.TheVariants as who
 use Rattle.wbt_replay_moves.specs.declared.state.Cpu.{Cpu}
 use Rattle.wbt_replay_moves.specs.declared.state.ReplayJob.{ReplayJob}
 use Rattle.wbt_replay_moves.specs.declared.state.ReplayJob.TheVariants as job
-use Rattle.wbt_replay_moves.specs.declared.state.ReplayPhase.{ReplayPhase}
-use Rattle.wbt_replay_moves.specs.declared.state.ReplayPhase.TheVariants as phase
 use Rattle.wbt_replay_moves.specs.declared.state.Stretch.{Stretch}
 use Rattle.wbt_replay_moves.specs.declared.state.Stretch.TheVariants as stretch
 use Rattle.wbt_replay_moves.specs.declared.state.Whose.{Whose}
 use Rattle.wbt_replay_moves.specs.declared.state.Whose.TheVariants as whose
-use Rattle.wbt_replay_moves.specs.declared.state.ReplayWork.{ReplayWork}
-use Rattle.wbt_replay_moves.specs.declared.state.ReplayWork.TheVariants as work
 use Rattle.wbt_replay_moves.specs.declared.todo.TimerSilent.{TimerSilent}
 use Rattle.wbt_replay_moves.specs.declared.todo.TimerSilent.TheVariants as timer_silent
 use Rattle.wbt_replay_moves.specs.declared.todo.TimerStep.{TimerStep}
@@ -35,8 +27,6 @@ use Rattle.wbt_replay_moves.specs.declared.todo.TimerTodo.{TimerTodo}
 use Rattle.wbt_replay_moves.specs.declared.todo.TimerTodo.TheVariants as timer_todo
 use Rattle.wbt_replay_moves.specs.declared.todo.Todo.{Todo}
 use Rattle.wbt_replay_moves.specs.declared.todo.Todo.TheVariants as todo
-use Rattle.wbt_task.specs.declared.allowance.Due.{Due}
-use Rattle.wbt_task.specs.declared.allowance.Due.TheVariants as due
 use Rattle.wbt_replay_order.specs.Claims.Bound.{WasPast}
 use Rattle.wbt_replay_order.specs.Definition.Opening.{opening}
 use Rattle.wbt_replay_order.specs.Definition.Order.{actor_at, after, ahead_of, turn_at, job_at, is_full, is_halted, is_nothing, is_ended, spend, stop, cpu_on, timer_on, go_on, begin_job, begin, with_orders, begin_or_drop, follow, next_moment, at_moment, place_after, chance_of, take_turn, seek_turn, next_turn, finish_turn, rotate_from, advance_by, advance}
@@ -47,39 +37,17 @@ use Rattle.wbt_replay_order.specs.declared.chance.Ahead.TheVariants as ahead
 use Rattle.wbt_replay_order.specs.declared.chance.Chance.{Chance}
 use Rattle.wbt_replay_order.specs.declared.chance.Chance.TheVariants as chance
 use Rattle.wbt_replay_order.proofs.Facts.Lists.{either}
-use Rattle.wbt_replay_order.proofs.Growth.Growing.{Grew, Steps, Silently, one_step, both_silent, grew_step, silent_move, silent_take_last}
+use Rattle.wbt_replay_order.proofs.Growth.Growing.{Grew, Steps, Silently, one_step, both_silent, grew_step, silent_change, then_silent, silent_move}
+use Rattle.wbt_replay_changes.proofs.Keeping.{for_keeps, turn_keeps}
 use Rattle.wbt_replay_order.proofs.Growth.Runs.{run_last, run_stays}
 
 -- ---- the beginning of a turn
 
-silent_page : (cpu task : ℕ) (pause : Option ℕ) (s : State) → Silently s (begin_page cpu task pause s)
-silent_page cpu task None s = refl
-silent_page cpu task (Some ticks) s = refl
-
-silent_work : (cpu task : ℕ) (works : List ReplayWork) (s : State) → Silently s (begin_work cpu task works s)
-silent_work cpu task [] s = refl
-silent_work cpu task (work.Rest ticks ∷ works) s = refl
-silent_work cpu task (work.Write inode page pages ∷ works) s = silent_page cpu task (pause_in (task_of task s)) s
-
-silent_due : (trace : Trace) (cpu task : ℕ) (d : Due) (s : State) → Silently s (begin_due trace cpu task d s)
-silent_due trace cpu task due.Check s = refl
-silent_due trace cpu task due.No s = silent_work cpu task (task_of task s).works s
-
-silent_phase : (trace : Trace) (cpu flusher : ℕ) (p : ReplayPhase) (s : State) → Silently s (begin_phase trace cpu flusher p s)
-silent_phase trace cpu flusher (phase.Idle until kept) s =
-    both_silent s (is_drained s) (take_last trace cpu flusher (waiting_of flusher s).pairs s) _
-    (silent_take_last trace cpu flusher (waiting_of flusher s).pairs s) refl
-silent_phase trace cpu flusher (phase.Taken inode) s = refl
-silent_phase trace cpu flusher (phase.Scanning scan) s = refl
-silent_phase trace cpu flusher (phase.Flying inode pages until) s = refl
-silent_phase trace cpu flusher phase.Finished s = refl
-
 pub silent_for : (trace : Trace) (cpu : ℕ) (w : Whose) (s : State) → Silently s (begin_for trace cpu w s)
-silent_for trace cpu (whose.Task task) s = silent_due trace cpu task (writer_of (task_of task s)).due s
-silent_for trace cpu (whose.Flusher flusher) s = silent_phase trace cpu flusher (flusher_of flusher s).phase s
+silent_for trace = for_keeps trace Silently (λ s. refl) then_silent (silent_change trace)
 
 silent_turn : (trace : Trace) (cpu : ℕ) (w : Whose) (s : State) → Silently s (begin_turn trace cpu w s)
-silent_turn trace cpu w s = silent_for trace cpu w (with_cpu cpu (at_turn w s.now (cpu_of cpu s)) s)
+silent_turn trace = turn_keeps trace Silently (λ s. refl) then_silent (silent_change trace)
 
 silent_job : (trace : Trace) (cpu place : ℕ) (j : ReplayJob) (c : Cpu) (s : State) → Silently s (begin_job trace cpu place j c s)
 silent_job trace cpu place job.Writer c s =

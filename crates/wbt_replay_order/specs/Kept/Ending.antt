@@ -155,14 +155,14 @@ work_left s =
 -- ---- halts
 
 -- no more steps than the halt line allows
-abbrev pub IsWithin : (halt : Option ℕ) (made : ℕ) → Type 0
-IsWithin None made = Unit {0}
-IsWithin (Some most) made = made ≤ most
+abbrev pub IsWithinHalt : (halt : Option ℕ) (made : ℕ) → Type 0
+IsWithinHalt None made = Unit {0}
+IsWithinHalt (Some most) made = made ≤ most
 
 -- The CPU has made so many of these steps, and not too many. Where it is stopped, it had a further one to make.
 pub record IsPaced (halt : Option ℕ) (steps : List StepEntry) (i : ℕ) (c : Cpu) : Type 0 where
   pub made : count_by (is_made_by i) steps ≡ c.made
-  pub within : IsWithin halt c.made
+  pub within : IsWithinHalt halt c.made
   pub stopped : c.stopped ≡ true → (is_halted halt c.made ≡ true) × (todo_ahead c.todo ≡ ahead.Step)
 
 -- each CPU has made as many steps as it counts, and no more than the halt line allows

@@ -341,13 +341,13 @@ pub record FollowsCpu (trace : Trace) (set : Setting) (i : ℕ) (c : Cpu) (tasks
 -- ---- the timer
 
 -- what may come next of the three steps that publish limits: the first, the second, the last, or none
-abbrev pub PublishesNext : (domain : ℕ) (todos : List TimerTodo) → Type 0
-PublishesNext domain [] = Unit {0}
-PublishesNext domain (timer_todo.Step (timer_item.Unseal d) ∷ more) = d ≡ domain
-PublishesNext domain (timer_todo.Step (timer_item.Thresh d) ∷ more) = ⊥
-PublishesNext domain (timer_todo.Step (timer_item.Publish d) ∷ more) = ⊥
-PublishesNext domain (timer_todo.Step step ∷ more) = Unit {0}
-PublishesNext domain (timer_todo.Silent move ∷ more) = Unit {0}
+abbrev pub MayUnsealNext : (domain : ℕ) (todos : List TimerTodo) → Type 0
+MayUnsealNext domain [] = Unit {0}
+MayUnsealNext domain (timer_todo.Step (timer_item.Unseal d) ∷ more) = d ≡ domain
+MayUnsealNext domain (timer_todo.Step (timer_item.Thresh d) ∷ more) = ⊥
+MayUnsealNext domain (timer_todo.Step (timer_item.Publish d) ∷ more) = ⊥
+MayUnsealNext domain (timer_todo.Step step ∷ more) = Unit {0}
+MayUnsealNext domain (timer_todo.Silent move ∷ more) = Unit {0}
 
 -- the second of the three steps that publish the domain's limits comes next
 abbrev pub IsThreshNext : (domain : ℕ) (todos : List TimerTodo) → Type 0
@@ -375,7 +375,7 @@ PublishesLater (timer_todo.Silent move ∷ more) = Unit {0}
 -- A domain's limits are published next after its peak was raised, in three steps, and at no other time.
 abbrev pub RaisesFirst : (todos : List TimerTodo) → Type 0
 RaisesFirst [] = Unit {0}
-RaisesFirst (timer_todo.Step (timer_item.Peak d) ∷ more) = PublishesNext d more × RaisesFirst more
+RaisesFirst (timer_todo.Step (timer_item.Peak d) ∷ more) = MayUnsealNext d more × RaisesFirst more
 RaisesFirst (timer_todo.Step (timer_item.Unseal d) ∷ more) = IsThreshNext d more × RaisesFirst more
 RaisesFirst (timer_todo.Step (timer_item.Thresh d) ∷ more) = IsPublishedNext d more × RaisesFirst more
 RaisesFirst (timer_todo.Step step ∷ more) = PublishesLater more × RaisesFirst more

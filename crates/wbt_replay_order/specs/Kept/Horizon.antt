@@ -99,7 +99,7 @@ until_of (phase.Flying inode pages until) = until
 until_of phase.Finished = 0
 
 -- With so many ticks more this moment and each that is waited for is still at most the latest.
-pub record AreWithin (ticks now next : ℕ) (tasks : List ReplayTask) (flushers : List Flusher) : Type 0 where
+pub record MomentsAreWithin (ticks now next : ℕ) (tasks : List ReplayTask) (flushers : List Flusher) : Type 0 where
   pub clock : now + ticks ≤ latest
   pub timer : next + ticks ≤ latest
   pub rest : (t : ℕ) → (get_or tasks t no_task).rest + ticks ≤ latest
@@ -107,4 +107,4 @@ pub record AreWithin (ticks now next : ℕ) (tasks : List ReplayTask) (flushers 
 
 -- what is left after the reserve, and so many ticks of a move that is under way
 abbrev pub horizon : (spare : ℕ) (s : State) → Type 0
-horizon spare s = AreWithin (reserve s + spare) s.now s.timer.next s.tasks s.flushers
+horizon spare s = MomentsAreWithin (reserve s + spare) s.now s.timer.next s.tasks s.flushers

@@ -10,11 +10,11 @@ use Rattle.wbt_replay_order.specs.Claims.Whole.{IsAtHome}
 use Rattle.wbt_replay_order.specs.Definition.Run.{part_of}
 
 -- the entries of the CPU's part name all its checks and estimates, each once, in order
-abbrev pub IsNamed : (c : Cpu) → Type 0
-IsNamed c = NamesInOrder (part_of c)
+abbrev pub PartNamesInOrder : (c : Cpu) → Type 0
+PartNamesInOrder c = NamesInOrder (part_of c)
 
 -- at this moment each part names its checks and estimates in order, and each step a context and a domain of the trace
 pub record Naming (trace : Trace) (s : State) : Type 0 where
-  pub named : (i : ℕ) → IsNamed (cpu_of i s)
+  pub named : (i : ℕ) → PartNamesInOrder (cpu_of i s)
   -- each step that changes a count names a context of the trace, and each names a domain of it
   pub steps : Each (IsAtHome (length trace.contexts) (domains trace)) s.steps

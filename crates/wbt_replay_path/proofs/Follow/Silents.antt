@@ -16,7 +16,7 @@ use Rattle.wbt_replay_moves.specs.Definition.Cpu.{do_next, then_do, estimated, l
 use Rattle.wbt_replay_moves.specs.Definition.Estimates.{sample_of, estimate_to, estimate}
 use Rattle.wbt_replay_moves.specs.Definition.Idle.{rest_until, take, take_or_rest, with_hard, test_by, test, take_now, with_pairs, told_by, waits, noticed, age, tested_by}
 use Rattle.wbt_rules.specs.declared.moments.TheConstants.{FLUSHER_REST}
-use Rattle.wbt_replay_moves.specs.Definition.Scan.{is_over, places_after, keep_place, close_in, close_by, close}
+use Rattle.wbt_replay_moves.specs.Definition.Scan.{is_scan_over, places_after, keep_place, close_in, close_by, close}
 use Rattle.wbt_replay_moves.specs.Definition.State.{State, no_cpu, no_task, no_flusher, cpu_of, task_of, flusher_of, writeback_of, queue_of, no_waiting, waiting_of, with_waiting, with_queue, in_phase}
 use Rattle.wbt_rules.specs.Things.{flusher_device}
 use Rattle.wbt_replay_moves.specs.Definition.Weigh.{is_over_by_itself, over_noted, weigh, weighed_by}
@@ -366,7 +366,7 @@ module _ (trace : Trace) (setting : Setting) (suits : Suits trace setting) (i : 
         → (flusher_of f s).phase ≡ phase.Scanning scan → Moves trace setting s.steps (close_in trace i f (phase.Scanning scan) (popped i ts s)) t
     close_at_moves f on turn scan at =
         let inside : IsInside trace (flusher_of f s).batch (phase.Scanning scan) = subst (IsInside trace (flusher_of f s).batch) at (ranges.flusher f on.there) in
-        either (λ r. Moves trace setting s.steps r t) (is_over scan (length (flusher_of f s).batch)) _ _
+        either (λ r. Moves trace setting s.steps r t) (is_scan_over scan (length (flusher_of f s).batch)) _ _
         (λ over. either (λ items. Moves trace setting s.steps (then_do i items (keep_place trace f scan (popped i ts s))) t) (scan.noted || ltb scan.passed scan.pages) _ _
         (λ again. closes f on turn scan (todo.Step (item.Mark scan.inode) ∷ todo.Silent silent.HandOver ∷ []) refl (record { debts = z0.tidy.0.debts; claims = refl }, (z0.tidy.0, z0.tidy.1)) (λ p found r. tt) refl)
         (λ once. closes f on turn scan (todo.Silent silent.HandOver ∷ []) refl (z0.tidy.0, z0.tidy.1) (λ p found r. tt) refl))

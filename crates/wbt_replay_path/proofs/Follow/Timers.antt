@@ -44,7 +44,7 @@ use Rattle.wbt_grant.specs.declared.record.DomainLimits.{DomainLimits}
 use Rattle.wbt_run_laws.specs.Ticks.{published_after}
 use Rattle.wbt_run_laws.proofs.Walking.{after_append}
 use Rattle.wbt_replay_order.specs.Claims.Path.{LinesArePublished, plain_entry}
-use Rattle.wbt_replay_order.specs.Kept.Following.{Suits, heights_of, stage_in, count_in, PublishesNext, IsThreshNext, IsPublishedNext, PublishesLater, RaisesFirst, HasRaised, Follows, Moves, silently, by}
+use Rattle.wbt_replay_order.specs.Kept.Following.{Suits, heights_of, stage_in, count_in, MayUnsealNext, IsThreshNext, IsPublishedNext, PublishesLater, RaisesFirst, HasRaised, Follows, Moves, silently, by}
 use Rattle.wbt_replay_order.specs.Definition.Opening.{first_entries}
 use Rattle.wbt_replay_order.specs.Kept.Ranges.{Ranges}
 use Rattle.wbt_replay_order.proofs.Facts.Lists.{either}
@@ -61,7 +61,7 @@ nothing_raised (todo.Step (item.Publish d) ∷ ts) hard raised later = absurd la
 nothing_raised (todo.Step step ∷ ts) hard raised later = tt
 nothing_raised (todo.Silent move ∷ ts) hard raised later = tt
 
-just_raised : (d hard : ℕ) (ts : List TimerTodo) (older : List Raised) → PublishesNext d ts → HasRaised ts hard ((record { domain = d; hard = hard }) ∷ older)
+just_raised : (d hard : ℕ) (ts : List TimerTodo) (older : List Raised) → MayUnsealNext d ts → HasRaised ts hard ((record { domain = d; hard = hard }) ∷ older)
 just_raised d hard [] older next = tt
 just_raised d hard (todo.Step (item.Unseal e) ∷ ts) older next = cond-true (eqb e d) (Some hard) (last_raised e older) (eq-eqb e d next)
 just_raised d hard (todo.Step (item.Thresh e) ∷ ts) older next = absurd next
@@ -98,7 +98,7 @@ later_sealed e (todo.Step (item.Peak d) ∷ ts) limits later = refl
 later_sealed e (todo.Step (item.Unseal d) ∷ ts) limits later = refl
 later_sealed e (todo.Silent move ∷ ts) limits later = refl
 
-next_sealed : (e d : ℕ) (ts : List TimerTodo) (limits : Limits) → PublishesNext d ts → stage_in e ts limits ≡ stage.Sealed
+next_sealed : (e d : ℕ) (ts : List TimerTodo) (limits : Limits) → MayUnsealNext d ts → stage_in e ts limits ≡ stage.Sealed
 next_sealed e d [] limits next = refl
 next_sealed e d (todo.Step (item.Thresh f) ∷ ts) limits next = absurd next
 next_sealed e d (todo.Step (item.Publish f) ∷ ts) limits next = absurd next

@@ -10,7 +10,7 @@ use Rattle.wbt_replay_order.specs.Claims.Bound.{HasEnded}
 use Rattle.wbt_replay_order.specs.Claims.Ending.{is_over, IsSpentAt, IsStoppedAt, EndsSo}
 use Rattle.wbt_replay_order.specs.Definition.Order.{is_halted}
 use Rattle.wbt_replay_order.specs.Definition.Run.{most_moves, last_state, ending_of, journal_of}
-use Rattle.wbt_replay_order.specs.Kept.Ending.{IsWithin, Ending}
+use Rattle.wbt_replay_order.specs.Kept.Ending.{IsWithinHalt, Ending}
 use Rattle.wbt_replay_order.specs.Kept.Sound.{is_stopped, Sound}
 use Rattle.wbt_replay_order.proofs.Growth.Most.{most_at}
 
@@ -35,7 +35,7 @@ counts test d xs i less is = omega (arith, get_or-le-sum_by (λ y. cond (test y)
 -- ---- a halt line
 
 -- the number that a halted CPU has made
-halted_at : (halt : Option ℕ) (made : ℕ) → is_halted halt made ≡ true → IsWithin halt made → (most : ℕ) × (halt ≡ Some most) × (made ≡ most)
+halted_at : (halt : Option ℕ) (made : ℕ) → is_halted halt made ≡ true → IsWithinHalt halt made → (most : ℕ) × (halt ≡ Some most) × (made ≡ most)
 halted_at None made is within = absurd (cc is)
 halted_at (Some most) made is within = let least : most ≤ made = grind (arith, nat_tests) in (most, refl, omega (arith, least, within))
 

@@ -9,7 +9,7 @@ use Rattle.wbt_counter.specs.declared.record.Reading.{Reading}
 use Rattle.wbt_counter.proofs.Debts.{is_same-true, is_same-itself}
 use Rattle.wbt_grant.specs.Rule.{NewestFirst}
 use Rattle.wbt_grant.specs.Setting.{IsSetting}
-use Rattle.wbt_journal.specs.Counts.{Load, Version, fold_in, loads_in, is_fresh, CountsAreFresh, versions_after}
+use Rattle.wbt_journal.specs.Counts.{Load, Version, fold_in, loads_in, is_fresh_count, CountsAreFresh, versions_after}
 use Rattle.wbt_journal.specs.Each.{Each}
 use Rattle.wbt_journal.specs.Items.{tells}
 use Rattle.wbt_journal.specs.Laws.{OfPart}
@@ -61,7 +61,7 @@ ReadBefore q r = is_same r.counter q.counter ≡ true → r.version ≤ q.versio
 
 -- a load is no older than what the CPU has seen
 load_fresh : (c : Cpu) (load : Load) → FoldsBehind (folds_told [] c.entries) (reading_of load) → All (ReadBefore (reading_of load)) (readings_told [] c.checks)
-    → is_fresh (seen_in (told_in c.checks c.estimates c.entries)) load ≡ true
+    → is_fresh_count (seen_in (told_in c.checks c.estimates c.entries)) load ≡ true
 load_fresh c load folds readings =
     let x : Counter = load.counter in
     let version : ℕ = load.count.version in
@@ -77,7 +77,7 @@ load_fresh c load folds readings =
 -- each of a turn's loads, by what is before it
 loads_fresh : (c : Cpu) (group context : ℕ) (turn : ReplayTurn) → Each (FoldsBehind (folds_told [] c.entries)) (turn_loads context group turn)
     → NewestFirst (turn_loads context group turn ++ readings_told [] c.checks)
-    → Each (λ (load : Load). is_fresh (seen_in (told_in c.checks c.estimates c.entries)) load ≡ true) (check_loads group context turn)
+    → Each (λ (load : Load). is_fresh_count (seen_in (told_in c.checks c.estimates c.entries)) load ≡ true) (check_loads group context turn)
 loads_fresh c zero context turn folds newest =
     let older : List Reading = readings_told [] c.checks in
     let all : Load = record { counter = counter.Domain 0; count = turn.global.count } in

@@ -9,7 +9,7 @@ use Rattle.wbt_estimate.specs.declared.estimate.Estimate.{Estimate}
 use Rattle.wbt_flex.specs.Proportions.{after_period}
 use Rattle.wbt_flex.specs.declared.half.Half.{Half}
 use Rattle.wbt_counter.specs.declared.counter.Counter.TheVariants as counter
-use Rattle.wbt_journal.specs.Counts.{Load, cgroup_reads, read_loads, loads_of, is_fresh}
+use Rattle.wbt_journal.specs.Counts.{Load, cgroup_reads, read_loads, loads_of, is_fresh_count}
 use Rattle.wbt_journal.specs.Each.{Each}
 use Rattle.wbt_journal.specs.Told.{InOrder, NamesInOrder}
 use Rattle.wbt_journal.specs.declared.entry.CheckEntry.{CheckEntry}
@@ -62,7 +62,7 @@ names_est n m check est (other ∷ more) h = names_est n m check est more h
 
 -- the check's counts are no older than what the CPU had seen
 abbrev pub IsFreshOn : (c : Cpu) (check : CheckEntry) → Type 0
-IsFreshOn c check = Each (λ (load : Load). is_fresh (seen_in (told_in c.checks c.estimates c.entries)) load ≡ true) (loads_of check)
+IsFreshOn c check = Each (λ (load : Load). is_fresh_count (seen_in (told_in c.checks c.estimates c.entries)) load ≡ true) (loads_of check)
 
 checked_names : (check : CheckEntry) (c : Cpu) → IsFreshOn c check → HasNames c → HasNames (checked check c)
 checked_names check c fresh h =
@@ -97,7 +97,7 @@ loads_are (suc cgroup) context turn s = refl
 abbrev pub MayDecide : (trace : Trace) (cpus : List Cpu) (tasks : List ReplayTask) → Type 0
 MayDecide trace cpus tasks = (cpu task : ℕ) (rest : List Todo) → cpu < length cpus → (get_or cpus cpu no_cpu).todo ≡ todo.Silent move.Decide ∷ rest
     → (get_or cpus cpu no_cpu).turn.whose ≡ whose.Task task
-    → Each (λ (load : Load). is_fresh (seen_in (told_in (get_or cpus cpu no_cpu).checks (get_or cpus cpu no_cpu).estimates (get_or cpus cpu no_cpu).entries)) load ≡ true)
+    → Each (λ (load : Load). is_fresh_count (seen_in (told_in (get_or cpus cpu no_cpu).checks (get_or cpus cpu no_cpu).estimates (get_or cpus cpu no_cpu).entries)) load ≡ true)
     (check_loads (group_of trace (get_or tasks task no_task).context) (get_or tasks task no_task).context (get_or cpus cpu no_cpu).turn)
 
 -- ---- what a run keeps
@@ -125,7 +125,7 @@ module _ (trace : Trace) where
       loads_are (group_of trace context) context (cpu_of cpu v).turn v ∙ ap (λ (x : Cpu). check_loads (group_of trace context) context x.turn) here in
       let fresh : IsFreshOn (cpu_of cpu v) check =
       subst (λ (x : Cpu). IsFreshOn x check) (sym here)
-      (subst (Each (λ (load : Load). is_fresh (seen_in (told_in (cpu_of cpu s).checks (cpu_of cpu s).estimates (cpu_of cpu s).entries)) load ≡ true)) (sym loads) (can cpu task rest there is of)) in
+      (subst (Each (λ (load : Load). is_fresh_count (seen_in (told_in (cpu_of cpu s).checks (cpu_of cpu s).estimates (cpu_of cpu s).entries)) load ≡ true)) (sym loads) (can cpu task rest there is of)) in
       one_named v.cpus cpu (checked check (cpu_of cpu v)) (checked_names check (cpu_of cpu v) fresh) (one_named s.cpus cpu c (λ n. n) h)
 
   estimates : (cpu context : ℕ) (s : State) → cpu < length s.cpus → AllNamed s.cpus → AllNamed (estimate trace cpu context s).cpus

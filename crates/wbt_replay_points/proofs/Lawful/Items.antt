@@ -33,7 +33,7 @@ use Rattle.wbt_replay_moves.specs.Definition.Estimates.{estimate, estimate_to, s
 use Rattle.wbt_replay_moves.specs.Definition.Flight.{complete_by, complete_in, complete_first, complete_page, part_in, share_now, share, share_group, with_written, landed, land_by, land_in}
 use Rattle.wbt_replay_moves.specs.Definition.Idle.{finish, begin_idle, begin_test, domain_loads, measure, measures_of, weighs_of, rest_until, take, take_or_finish, take_or_rest, tested, test_by, with_hard, scan_of, unmark_by, unmark_in, take_now, with_pairs, take_last, told_by, tell, waits, note, noticed, age, tested_by}
 use Rattle.wbt_replay_moves.specs.Definition.Perform.{make_step, make_move, begin_phase, begin_for, begin_turn}
-use Rattle.wbt_replay_moves.specs.Definition.Scan.{look_by, look_in, looked_at, claim_by, claim_in, claim_now, close_by, close_in, close_items, is_over, places_after, keep_place, fly, land_empty, hand_over_by, hand_over_in}
+use Rattle.wbt_replay_moves.specs.Definition.Scan.{look_by, look_in, looked_at, claim_by, claim_in, claim_now, close_by, close_in, close_items, is_scan_over, places_after, keep_place, fly, land_empty, hand_over_by, hand_over_in}
 use Rattle.wbt_replay_moves.specs.Definition.State.{State, no_cpu, no_flusher, cpu_of, with_cpu, task_of, with_task, flusher_of, with_flusher, domain_of, writeback_of, queue_of, with_queue, queued, count_of, plain_step, in_phase, is_drained, no_waiting, waiting_of, with_waiting}
 use Rattle.wbt_replay_moves.specs.Definition.Weigh.{is_over_by_itself, over_noted, weigh, weighed_by}
 use Rattle.wbt_replay_moves.specs.Definition.Writer.{pause_in, begin_page, begin_work, begin_due, check_items, marked, passed_page, dirty_by, dirty_next, dirty_fresh, mark, end_by, end_now, has_nothing}
@@ -422,7 +422,7 @@ module _ (trace : Trace) (facts : Facts trace) (R : State → State → Type 0) 
   see_close cpu f (phase.Scanning scan) s =
       let v : Flusher = record (flusher_of f s) { places = places_after trace f scan (flusher_of f s).places } in
       let u : State = keep_place trace f scan s in
-      either (R s) (is_over scan (length (flusher_of f s).batch)) _ s
+      either (R s) (is_scan_over scan (length (flusher_of f s).batch)) _ s
       (λ over. thens s u _ (hide s u (hide_flusher f v s refl refl refl)) (do_quietly cpu _ u (close_untold scan.inode (scan.noted || ltb scan.passed scan.pages)))) (λ more. none s)
   see_close cpu f (phase.Taken inode) s = none s
   see_close cpu f (phase.Idle until kept) s = none s

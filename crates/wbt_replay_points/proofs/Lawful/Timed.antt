@@ -15,7 +15,7 @@ use Rattle.wbt_trace.specs.declared.trace.Trace.{Trace}
 use Rattle.wbt_journal.specs.Estimates.{opened_at}
 use Rattle.wbt_journal.specs.Lawful.{TimerFollows, TimerHasOpened}
 use Rattle.wbt_journal.specs.Machine.{domains}
-use Rattle.wbt_journal.specs.Timer.{TimerGoesOn, Line, lines_after}
+use Rattle.wbt_journal.specs.Timer.{TimerGoesOn, LastLine, lines_after}
 use Rattle.wbt_journal.specs.Walk.{Along}
 use Rattle.wbt_replay_moves.specs.Definition.Counters.{fold, counted}
 use Rattle.wbt_replay_moves.specs.Definition.Cpu.{own_of}
@@ -179,11 +179,11 @@ module _ (trace : Trace) where
         many_are = many_first n;
         walk = first.walk;
         all_there = first.many;
-        hards = λ d less. ap (λ (l : Line). l.hard) (first.each d less) ∙ sym (ap (λ (q : Domain). q.limits.hard) (first_domain_of trace n d less));
+        hards = λ d less. ap (λ (l : LastLine). l.hard) (first.each d less) ∙ sym (ap (λ (q : Domain). q.limits.hard) (first_domain_of trace n d less));
         least = n;
         goes = tt;
         ready = λ d less later. absurd (omega (arith, less, later));
-        not_later = λ d less. (let now_is = ap (λ (l : Line). l.now) (first.each d less) in omega (arith, now_is));
+        not_later = λ d less. (let now_is = ap (λ (l : LastLine). l.now) (first.each d less) in omega (arith, now_is));
         rested = λ none. omega arith;
       }
 

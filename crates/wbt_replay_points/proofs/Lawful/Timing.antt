@@ -19,7 +19,7 @@ use Rattle.wbt_trace.specs.declared.trace.Cgroup.{Cgroup}
 use Rattle.wbt_trace.specs.declared.trace.Trace.{Trace}
 use Rattle.wbt_journal.specs.Estimates.{opened_at}
 use Rattle.wbt_journal.specs.Machine.{domains}
-use Rattle.wbt_journal.specs.Timer.{IsCgroup, HasThresholds, HardBy, HardFollows, Line, LimitsBy, LineFollows, TimerGoesOn, lines_after}
+use Rattle.wbt_journal.specs.Timer.{IsCgroup, HasThresholds, HardBy, HardFollows, LastLine, LimitsBy, LineFollows, TimerGoesOn, lines_after}
 use Rattle.wbt_journal.specs.Walk.{Along, after}
 use Rattle.wbt_journal.specs.declared.timer.TimerEntry.{TimerEntry}
 use Rattle.wbt_journal.specs.declared.timer.TimerEntry.TheVariants as timer
@@ -119,13 +119,13 @@ items_rest n =
 
 -- ---- lines
 
-abbrev pub no_line : Line
+abbrev pub no_line : LastLine
 no_line = record { now = 0; hard = 0 }
 
-abbrev pub lines_of : (entries : List TimerEntry) → List Line
+abbrev pub lines_of : (entries : List TimerEntry) → List LastLine
 lines_of entries = after lines_after [] entries
 
-abbrev pub line_at : (d : ℕ) (entries : List TimerEntry) → Line
+abbrev pub line_at : (d : ℕ) (entries : List TimerEntry) → LastLine
 line_at d entries = get_or (lines_of entries) d no_line
 
 -- What holds of the timer between two moves, where so many domains have these hard limits.
@@ -236,35 +236,35 @@ module _ (trace : Trace) (t : Timer) (many : ℕ) (hard : ℕ → ℕ) (h : IsTi
   published d ts hard2 is less here others =
       let goes = subst (Goes _ h.least) is h.goes in
       let known : d < length (lines_of t.entries) = omega (arith, less, h.all_there) in
-      let line : Line = record { now = t.began; hard = t.limits.hard } in
+      let line : LastLine = record { now = t.began; hard = t.limits.hard } in
       let entries2 : List TimerEntry = t.entries ++ timer.Limits d t.began t.limits ∷ [] in
       let lines : lines_of entries2 ≡ set (lines_of t.entries) d line = lines_more t.entries d t.began t.limits known in
-      let at_d : line_at d entries2 ≡ line = ap (λ (l : List Line). get_or l d no_line) lines ∙ get_or-set_same (lines_of t.entries) d line no_line known in
+      let at_d : line_at d entries2 ≡ line = ap (λ (l : List LastLine). get_or l d no_line) lines ∙ get_or-set_same (lines_of t.entries) d line no_line known in
       let at_other : (e : ℕ) → e ≢ d → line_at e entries2 ≡ line_at e t.entries =
-      λ e apart. ap (λ (l : List Line). get_or l e no_line) lines ∙ get_or-set_other (lines_of t.entries) d e line no_line apart in
+      λ e apart. ap (λ (l : List LastLine). get_or l e no_line) lines ∙ get_or-set_other (lines_of t.entries) d e line no_line apart in
       let follows : LineFollows trace (slice_get (lines_of t.entries) d) d t.began t.limits =
-      subst (λ (o : Option Line). LineFollows trace o d t.began t.limits) (sym (slice_get-get_or (lines_of t.entries) d no_line known))
+      subst (λ (o : Option LastLine). LineFollows trace o d t.began t.limits) (sym (slice_get-get_or (lines_of t.entries) d no_line known))
       (h.ready d less goes.0, goes.1.0, subst (λ (n : ℕ). HardFollows n t.limits) (sym (h.hards d less)) goes.1.1) in
       record {
         many_are = h.many_are;
         walk = along_more (TimerGoesOn trace opening_moment) lines_after [] t.entries (timer.Limits d t.began t.limits ∷ []) h.walk
             (subst (λ (b : Bool). LimitsBy b trace opening_moment (lines_of t.entries) d t.began t.limits) (sym not_opening) follows, tt);
-        all_there = ap (λ (l : List Line). length l) lines ∙ length-set (lines_of t.entries) d line ∙ h.all_there;
+        all_there = ap (λ (l : List LastLine). length l) lines ∙ length-set (lines_of t.entries) d line ∙ h.all_there;
         hards = λ e low. dite (ℕ_discrete e d)
-            (λ same. ap (λ (n : ℕ). (line_at n entries2).hard) same ∙ ap (λ (l : Line). l.hard) at_d ∙ sym here ∙ ap hard2 (sym same))
-            (λ apart. ap (λ (l : Line). l.hard) (at_other e apart) ∙ h.hards e low ∙ sym (others e apart));
+            (λ same. ap (λ (n : ℕ). (line_at n entries2).hard) same ∙ ap (λ (l : LastLine). l.hard) at_d ∙ sym here ∙ ap hard2 (sym same))
+            (λ apart. ap (λ (l : LastLine). l.hard) (at_other e apart) ∙ h.hards e low ∙ sym (others e apart));
         least = d + 1;
         goes = goes_whole _ (d + 1) ts goes.2;
         ready = λ e low later.
             let apart : e ≢ d = λ (same : e ≡ d). omega (arith, later, same) in
-            let now_is : (line_at e entries2).now ≡ (line_at e t.entries).now = ap (λ (l : Line). l.now) (at_other e apart) in
+            let now_is : (line_at e entries2).now ≡ (line_at e t.entries).now = ap (λ (l : LastLine). l.now) (at_other e apart) in
             omega (arith, now_is, h.ready e low (omega (arith, later, goes.0)));
         not_later = λ e low. dite (ℕ_discrete e d)
             (λ same.
-            let now_is : (line_at e entries2).now ≡ t.began = ap (λ (n : ℕ). (line_at n entries2).now) same ∙ ap (λ (l : Line). l.now) at_d in
+            let now_is : (line_at e entries2).now ≡ t.began = ap (λ (n : ℕ). (line_at n entries2).now) same ∙ ap (λ (l : LastLine). l.now) at_d in
             omega (arith, now_is))
             (λ apart.
-            let now_is : (line_at e entries2).now ≡ (line_at e t.entries).now = ap (λ (l : Line). l.now) (at_other e apart) in
+            let now_is : (line_at e entries2).now ≡ (line_at e t.entries).now = ap (λ (l : LastLine). l.now) (at_other e apart) in
             omega (arith, now_is, h.not_later e low));
         rested = λ none. h.rested (ap has_rest is ∙ none);
       }
@@ -296,13 +296,13 @@ module _ (trace : Trace) (t : Timer) (many : ℕ) (hard : ℕ → ℕ) (h : IsTi
         many_are = h.many_are;
         walk = along_more (TimerGoesOn trace opening_moment) lines_after [] t.entries (timer.Period d k ∷ []) h.walk
             (record { opened = not_opening; named = lt-ltb d (domains trace) less }, tt);
-        all_there = ap (λ (l : List Line). length l) lines ∙ h.all_there;
-        hards = λ e low. ap (λ (l : List Line). (get_or l e no_line).hard) lines ∙ h.hards e low;
+        all_there = ap (λ (l : List LastLine). length l) lines ∙ h.all_there;
+        hards = λ e low. ap (λ (l : List LastLine). (get_or l e no_line).hard) lines ∙ h.hards e low;
         least = h.least;
         goes = goes_whole _ h.least ts (subst (Goes _ h.least) is h.goes);
         ready = λ e low later.
-            let now_is = ap (λ (l : List Line). (get_or l e no_line).now) lines in omega (arith, now_is, h.ready e low later);
-        not_later = λ e low. let now_is = ap (λ (l : List Line). (get_or l e no_line).now) lines in omega (arith, now_is, h.not_later e low);
+            let now_is = ap (λ (l : List LastLine). (get_or l e no_line).now) lines in omega (arith, now_is, h.ready e low later);
+        not_later = λ e low. let now_is = ap (λ (l : List LastLine). (get_or l e no_line).now) lines in omega (arith, now_is, h.not_later e low);
         rested = λ none. h.rested (ap has_rest is ∙ none);
       }
 
@@ -349,8 +349,8 @@ module _ (trace : Trace) where
   are_first (suc n) few =
       let h = are_first n (omega (arith, few)) in
       let before : List TimerEntry = first_entries trace n in
-      let lines : List Line = lines_of before in
-      let line : Line = record { now = opening_moment; hard = (first_limits trace n).hard } in
+      let lines : List LastLine = lines_of before in
+      let line : LastLine = record { now = opening_moment; hard = (first_limits trace n).hard } in
       let low : n < domains trace = omega (arith, few) in
       let last : TimerEntry = timer.Limits n opening_moment (first_limits trace n) in
       let more : lines_of (before ++ last ∷ []) ≡ lines ++ line ∷ [] =
@@ -361,12 +361,12 @@ module _ (trace : Trace) where
               (record { next = sym h.many; at_once = refl; thresholds = has_thresholds trace opening_moment n 0 0 (first_limits trace n) low refl refl; hard = refl }),
           tt,
         );
-        many = ap (λ (l : List Line). length l) more ∙ length-append lines (line ∷ []) ∙ (let m = h.many in omega (arith, m));
+        many = ap (λ (l : List LastLine). length l) more ∙ length-append lines (line ∷ []) ∙ (let m = h.many in omega (arith, m));
         each = λ d less. ⊎_elim
-            (λ earlier. ap (λ (l : List Line). get_or l d no_line) more ∙ get_or_append_left lines (line ∷ []) no_line d (omega (arith, earlier, h.many)) ∙ h.each d earlier)
+            (λ earlier. ap (λ (l : List LastLine). get_or l d no_line) more ∙ get_or_append_left lines (line ∷ []) no_line d (omega (arith, earlier, h.many)) ∙ h.each d earlier)
             (λ at_last.
             let same : n ≡ d = omega (arith, less, at_last) in
-            ap (λ (l : List Line). get_or l d no_line) more ∙ get_or_push lines line no_line d (h.many ∙ same) ∙ ap (λ (k : ℕ). record { now = opening_moment; hard = (first_limits trace k).hard }) same)
+            ap (λ (l : List LastLine). get_or l d no_line) more ∙ get_or_push lines line no_line d (h.many ∙ same) ∙ ap (λ (k : ℕ). record { now = opening_moment; hard = (first_limits trace k).hard }) same)
             (cases_lt d n);
       }
 

@@ -19,7 +19,7 @@ use Rattle.wbt_trace.specs.declared.trace.Trace.{Trace}
 use Rattle.wbt_journal.specs.declared.step.StepEntry.{StepEntry}
 use Rattle.wbt_replay_moves.specs.Definition.Cpu.{then_do}
 use Rattle.wbt_rules.specs.declared.moments.TheConstants.{FLUSHER_REST}
-use Rattle.wbt_replay_moves.specs.Definition.Scan.{look_in, claim_now, claim_in, close_items, is_over, places_after, close_in, fly, land_empty, hand_over_in}
+use Rattle.wbt_replay_moves.specs.Definition.Scan.{look_in, claim_now, claim_in, close_items, is_scan_over, places_after, close_in, fly, land_empty, hand_over_in}
 use Rattle.wbt_io.specs.Moments.{done_at}
 use Rattle.wbt_replay_moves.specs.Definition.State.{State, cpu_of, flusher_of, in_phase}
 use Rattle.wbt_rules.specs.Places.{place_after, page_of}
@@ -213,7 +213,7 @@ module _ (trace : Trace) (facts : Facts trace) (i : ℕ) (less : i < trace.cpus)
         })
         (omega arith) (omega arith) (omega arith) (omega arith) refl in
         let x : State = record s { flushers = set s.flushers f y; working = s.working } in
-        either (Done trace i) (is_over scan (length (flusher_of f s).batch)) (then_do i (close_items scan.inode again) x) s
+        either (Done trace i) (is_scan_over scan (length (flusher_of f s).batch)) (then_do i (close_items scan.inode again) x) s
         (λ over. marks_done again x turn (ap (λ (v : Flusher). v.phase) m.is ∙ is) m.going m.free at.there)
         (λ on'. stays_done 0 silent_ticks 2 s g free turn (subst (IsOpenAt trace (flusher_of f s).batch) (sym is) (not_over scan.pages scan.passed scan.quota (length (flusher_of f s).batch) on')))
       where

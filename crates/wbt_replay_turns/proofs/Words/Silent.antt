@@ -16,7 +16,7 @@ use Rattle.wbt_replay_moves.specs.Definition.Estimates.{estimate_to, sample_of}
 use Rattle.wbt_replay_moves.specs.Definition.Flight.{land_by, land_in, landed, share, share_now, share_group, part_in, with_written}
 use Rattle.wbt_replay_moves.specs.Definition.Idle.{take_or_rest, rest_until, test_by, with_hard, noticed, age, tested_by, take_now}
 use Rattle.wbt_replay_moves.specs.Definition.Perform.{make_move}
-use Rattle.wbt_replay_moves.specs.Definition.Scan.{close_by, close_in, close_items, is_over, keep_place, hand_over_by, hand_over_in, land_empty}
+use Rattle.wbt_replay_moves.specs.Definition.Scan.{close_by, close_in, close_items, is_scan_over, keep_place, hand_over_by, hand_over_in, land_empty}
 use Rattle.wbt_replay_moves.specs.Definition.State.{State, cpu_of, flusher_of, task_of, domain_of, writeback_of, queue_of, in_phase}
 use Rattle.wbt_replay_moves.specs.Definition.Writer.{end_by, end_now, has_nothing}
 use Rattle.wbt_replay_moves.specs.declared.state.ReplayPhase.{ReplayPhase}
@@ -146,7 +146,7 @@ module _ (trace : Trace) (i : ℕ) (s : State) (there : i < length s.cpus) where
   leaves_close_in f (phase.Scanning scan) =
       let again : Bool = scan.noted || ltb scan.passed scan.pages in
       let items : List Todo = close_items scan.inode again in
-      either (Leaves i silent.Close s) (is_over scan (length (flusher_of f s).batch)) (then_do i items (keep_place trace f scan s)) s
+      either (Leaves i silent.Close s) (is_scan_over scan (length (flusher_of f s).batch)) (then_do i items (keep_place trace f scan s)) s
       (λ over. record { items = items; yields = λ w h. close_runs scan.inode again w h; todos = then_next i s there left items s (as_before i s) })
       (λ more. record { items = []; yields = λ w h. inl h; todos = as_before i s })
   leaves_close_in f (phase.Taken inode) = record { items = []; yields = λ w h. inl h; todos = as_before i s }
