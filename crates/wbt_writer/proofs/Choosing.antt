@@ -1,8 +1,9 @@
 -- The search for the next turn goes on.
-use Rattle.std.proofs.Common.{◌≡◌, ℕ, ◌+◌, ◌<◌, ◌≤◌, inl, inr, Bool, true, false, ◌&&◌, cond, nat_le, min, Option, Some, None, refl, sym, ap, ◌∙◌, subst, arith, true≢false}
+use Rattle.std.proofs.Common.{◌≡◌, ℕ, ◌+◌, ◌<◌, ◌≤◌, inl, inr, Bool, true, false, ◌&&◌, cond, nat_le, min, Option, Some, None, length, refl, sym, ap, ◌∙◌, subst, arith, true≢false}
 use Rattle.std.proofs.lemmas.Bool.{cases_Bool, leb-true, leb-false}
-use Rattle.wbt_writer.specs.Choice.{AllEnded, AllRest, HasLeast, IsFirst, IsLeast, IsOpen, end_of, is_open, sooner_of}
+use Rattle.wbt_writer.specs.Choice.{AllEnded, AllRest, HasLeast, IsChosen, IsFirst, IsLeast, IsOpen, end_of, is_open, sooner_of}
 use Rattle.wbt_writer.specs.Counted.{task_at}
+use Rattle.wbt_writer.specs.declared.choose.Chosen.TheVariants as chosen
 use Rattle.wbt_writer.specs.declared.task.TaskPlace.{TaskPlace}
 use Rattle.wbt_writer.specs.declared.tasks.Tasks.{Tasks}
 
@@ -114,3 +115,17 @@ is_first s now from to at x inside below before same ready = record {
   open_still = subst IsOpen same (left_of (is_open x) (nat_le x.rest now) ready);
   rested = subst (λ (y : TaskPlace). y.rest ≤ now) same (leb-true _ _ (right_of (is_open x) (nat_le x.rest now) ready));
 }
+
+-- ---- whether all have ended
+
+goes_on : (s : Tasks) (task : ℕ) → task < length s.tasks.items → IsOpen (task_at s task) → AllEnded s 0 (length s.tasks.items) → ⊥
+goes_on s task there still all = true≢false (sym still ∙ all task (omega arith) there)
+
+-- one may begin
+pub goes_on_next : (s : Tasks) (now task : ℕ) → s.next ≤ length s.tasks.items → IsChosen s now (chosen.Task task) → AllEnded s 0 (length s.tasks.items) → ⊥
+goes_on_next s now task low (inl behind) all = goes_on s task behind.inside.1 behind.open_still all
+goes_on_next s now task low (inr before) all = goes_on s task (let less = before.1.inside.1 in omega arith) before.1.open_still all
+
+-- one rests
+pub goes_on_later : (s : Tasks) (now until : ℕ) → IsChosen s now (chosen.Resting until) → AllEnded s 0 (length s.tasks.items) → ⊥
+goes_on_later s now until rests all = goes_on s rests.1.task rests.1.inside.1 rests.1.open_still all

@@ -1,5 +1,5 @@
 -- A turn of a CPU's writers: what was put before a task's turn.
-use Rattle.std.proofs.Common.{◌≡◌, ℕ, Bool, List, [], get_or, refl, sym, ap, subst}
+use Rattle.std.proofs.Common.{◌≡◌, ℕ, Bool, List, [], get_or, length, refl, sym, ap, subst}
 use Rattle.wbt_fraction.specs.Several as fraction
 use Rattle.wbt_journal.specs.Told.{Told}
 use Rattle.wbt_journal.specs.declared.entry.CpuJournal.{CpuJournal}
@@ -11,7 +11,7 @@ use Rattle.wbt_published.specs.Passes as est
 use Rattle.wbt_table.specs.Seat.{Seated}
 use Rattle.wbt_trace.specs.declared.trace.Trace.{Trace}
 use Rattle.wbt_writer.specs.Answers.{HasMemory, Idles, Turned, WriterAnswers}
-use Rattle.wbt_writer.specs.Choice.{IsChosen}
+use Rattle.wbt_writer.specs.Choice.{AllEnded, IsChosen}
 use Rattle.wbt_writer.specs.Desk.{AreAt, Sight, no_fractions, sight}
 use Rattle.wbt_writer.specs.Did.{Did, OnlyPuts}
 use Rattle.wbt_writer.specs.Lines.{LinesRead}
@@ -108,6 +108,10 @@ module _ (told : ℕ → Type 0) (said : ℕ → ℕ → Bool → Type 0) (trace
     holds = tt;
     answers = (now, subst (λ (s : Tasks). IsChosen s now chosen.Done) puts.tasks none, idle, puts.tasks, all_done trace is.tasks at.is_work.lawful at.is_work.tasks at.is_work.over none);
   }
+
+  -- all had ended before
+  pub turned_ended : AreAt trace cpu kit is mid → AllEnded was.tasks 0 (length was.tasks.tasks.items) → Turned told said trace cpu kit Done (sight was old log) (sight is mid log)
+  turned_ended at all = turned_done at 0 (subst (λ (s : Tasks). AllEnded s 0 (length s.tasks.items)) (sym puts.tasks) all)
 
   pub turned_resting : (now until : ℕ) → told now → IsChosen is.tasks now (chosen.Resting until) → Turned told said trace cpu kit (Resting now until) (sight was old log) (sight is mid log)
   turned_resting now until was_told all = record {

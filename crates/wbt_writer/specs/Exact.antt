@@ -249,8 +249,8 @@ pub data TakesSome (trace : Trace) (kit : Kit) (cpu task : ℕ) (said : ℕ → 
       → TakesSome trace kit cpu task said old new
 
 -- the turn of a task begins: the search for the next one goes on behind it
-abbrev pub begun : (task : ℕ) (s : Sight) → Sight
-begun task s = record s { work = record s.work { tasks = record s.work.tasks { next = task + 1 } } }
+abbrev pub turn_begun : (task : ℕ) (s : Sight) → Sight
+turn_begun task s = record s { work = record s.work { tasks = record s.work.tasks { next = task + 1 } } }
 
 -- a write was due, and its page wasn't dirtied
 pub record WritesNone (trace : Trace) (task : ℕ) (old new : Sight) : Type 0 where
@@ -264,9 +264,10 @@ pub record WritesNone (trace : Trace) (task : ℕ) (old new : Sight) : Type 0 wh
 -- by answer, once the inodes that waited were put: a task took its turn, or was stopped in it, or had no page step for its write; or no
 -- task could begin, and nothing was done
 abbrev pub TookBy : (told : ℕ → Type 0) (said : ℕ → ℕ → Bool → Type 0) (trace : Trace) (kit : Kit) (cpu : ℕ) (answer : Turn) (old new : Sight) → Type 0
-TookBy told said trace kit cpu Stepped old new = (now task : ℕ) × Goes told old.work.tasks now task × TakesTurn trace kit now cpu task said (begun task old) new
-TookBy told said trace kit cpu Halted old new = (now task : ℕ) × Goes told old.work.tasks now task × TakesSome trace kit cpu task said (begun task old) new
-TookBy told said trace kit cpu Spent old new = (now task : ℕ) × Goes told old.work.tasks now task × WritesNone trace task (begun task old) new
+TookBy told said trace kit cpu Stepped old new = (now task : ℕ) × Goes told old.work.tasks now task
+    × TakesTurn trace kit now cpu task said (turn_begun task old) new
+TookBy told said trace kit cpu Halted old new = (now task : ℕ) × Goes told old.work.tasks now task × TakesSome trace kit cpu task said (turn_begun task old) new
+TookBy told said trace kit cpu Spent old new = (now task : ℕ) × Goes told old.work.tasks now task × WritesNone trace task (turn_begun task old) new
 TookBy told said trace kit cpu (Resting now until) old new = new ≡ old
 TookBy told said trace kit cpu Done old new = new ≡ old
 TookBy told said trace kit cpu Faulted old new = ⊥

@@ -1,6 +1,6 @@
 //! Which task takes the next turn.
 
-ghost use Rattle.std.specs.Prelude.{◌≡◌, ◌^◌, ◌<◌, ◌≤◌, ◌&&◌, nat_le, length};
+ghost use Rattle.std.specs.Prelude.{◌≡◌, ◌^◌, ◌<◌, ◌≤◌, ◌&&◌, ◌↔◌, IsTrue, nat_le, length};
 ghost use Rattle.wbt_writer.specs.Choice as spec;
 ghost use Rattle.wbt_writer.specs.Choice.{IsChosen, IsSought, sooner_of};
 ghost use Rattle.wbt_writer.specs.Counted.{task_at};
@@ -37,6 +37,20 @@ impl Tasks {
         match self.seek(self.next, self.tasks.len(), now) {
             Sought::Task { task } => Chosen::Task { task },
             Sought::Nobody { least } => self.from_first(now, least),
+        }
+    }
+
+    // Whether every task has ended.
+    pub(crate) fn have_ended(&self) -> bool
+        requires few { length self.now.tasks.items < 2 ^ 32 }
+        requires next { self.now.next ≤ length self.now.tasks.items }
+        ensures { IsTrue result ↔ spec.AllEnded self.now 0 (length self.now.tasks.items) }
+    {
+        // No rest lasts beyond that moment.
+        match self.choose(u64::MAX) {
+            Chosen::Done => true,
+            Chosen::Task { .. } => false,
+            Chosen::Resting { .. } => false,
         }
     }
 

@@ -96,6 +96,15 @@ impl<'t> WriterCpu<'t> {
         ensures kinds { StepsInTurn (domains hands.now.kit.now.throttle.layout) self.old.cpu result seats.old seats.new }
         ensures may_go_on { MayGoOn result hands.now.kit.now self.old self.new seats.old seats.new }
     {
+        let place = WriterPlace {
+            trace: self.trace,
+            cpu: self.cpu,
+        };
+        // Writers that have ended are still asked as long as flushers have work, so their turn is kept cheap.
+        if self.work.tasks.have_ended() {
+            self.work.put_waiting(hands, &place, seats);
+            return Turn::Done;
+        }
         let mut pen = Pen::open(hands.alloc, log);
         let turn = self.turn_with(hands, seats, &mut pen);
         pen.close(log);

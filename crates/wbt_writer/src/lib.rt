@@ -20,8 +20,8 @@
 //! ```
 //!
 //! The gate is asked before each step; where it says no the turn ends there, and what was told stands. A turn takes its memory
-//! first: where there is none, nothing is done. The kinds of its steps are a word of a turn as `wbt_turns` has it, or a first part of
-//! one where the gate said no.
+//! first: where there is none, nothing is done. Once every task has ended a turn only puts the inodes that wait: it takes no memory,
+//! and asks no clock. The kinds of its steps are a word of a turn as `wbt_turns` has it, or a first part of one where the gate said no.
 //!
 //! After each entry the tasks and counts are the side that a journal shows there (`side_of`). A task that has no page left to write
 //! and no check due ends there, unless it rests last: then it ends with that rest.
