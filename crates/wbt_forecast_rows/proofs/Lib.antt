@@ -1,8 +1,8 @@
-mod Numbered
-mod Counting
-mod Smalls
-mod Gaining
-mod Adding
-mod Going
-mod Looping
-mod Paging
+pub mod Numbered
+pub mod Counting
+pub mod Smalls
+pub mod Gaining
+pub mod Adding
+pub mod Going
+pub mod Looping
+pub mod Paging

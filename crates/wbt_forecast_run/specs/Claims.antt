@@ -1,5 +1,5 @@
 -- What is proved of the run that a forecast tells.
-use Rattle.std.specs.Prelude.{◌≡◌, ◌≢◌, ℕ, ◌+◌, ◌^◌, ◌≤◌, true, List, length, count_by, flat_map, sum_by}
+use Rattle.std.specs.Prelude.{◌≡◌, ◌≢◌, ℕ, ◌+◌, ◌^◌, ◌<◌, ◌≤◌, true, List, length, count_by, flat_map, sum_by}
 use Rattle.wbt_trace.specs.Lawful.{IsLawful}
 use Rattle.wbt_trace.specs.declared.trace.Trace.{Trace}
 use Rattle.wbt_journal.specs.Each.{Each}
@@ -114,8 +114,7 @@ pub record SumsAreTold (trace : Trace) (intervals : List Span) (journal : Journa
   pub pauses : (t : ℕ) → sum_by (λ i. (task_between i.first i.last t).pauses) intervals ≡ count_by (is_pause_of t) (checks_in journal)
   pub ticks : (t : ℕ) → sum_by (λ i. (task_between i.first i.last t).ticks) intervals ≡ sum_by (pause_after t) (checks_in journal)
 
--- The run goes through the states of a replay, but for how many steps may be made. So its sums and its ending are those of the replay's
--- journal.
+-- The run goes through the states of a replay, but for how many steps may be made. So its sums and its ending are those of the replay's journal.
 pub record IsAsReplayed (trace : Trace) : Type 0 where
   pub at : (moves : ℕ) → moves ≤ replayed.most_moves → record (state_after trace moves) { most = (state_at trace moves).most } ≡ state_at trace moves
   pub last : record (state_after trace most_moves) { most = (last_state trace).most } ≡ last_state trace
@@ -138,8 +137,8 @@ IsBounded row = (row.count ≤ row.bound) × (row.most ≤ row.bound)
 abbrev pub AreBounded : (row : IntervalRow) → Type 0
 AreBounded row = Each IsBounded row.domains
 
--- Each count of a forecast is within its bound, where the run is let make at most 2^31 steps. Past that the step relation, by which it is
--- shown, has no room for its sequences and its page steps.
+-- Each count of a forecast is within its bound, where the run makes fewer than 2^31 steps. Past that the step relation, by which it is shown, has no room
+-- for its sequences and its page steps.
 abbrev pub RowsAreBounded : Type 0
-RowsAreBounded = (trace : Trace) → IsLawful trace → (state_after trace most_moves).most ≤ most_followed
-    → (every : ℕ) → Each AreBounded (forecast trace every).rows
+RowsAreBounded = (trace : Trace) → IsLawful trace → length (state_after trace most_moves).steps < most_followed → (every : ℕ)
+    → Each AreBounded (forecast trace every).rows

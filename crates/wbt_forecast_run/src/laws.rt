@@ -1,7 +1,6 @@
 //! The laws of the run that a forecast tells. Each function proves what its contract says, and does nothing.
 
-ghost use Rattle.wbt_forecast_run.specs.Claims.{AsReplayed, ClockAlone, CountsAreTold, FewAreTold, MovesAreCut, RowsAreBounded};
-ghost use Rattle.wbt_forecast_run.specs.Claims.{RunsEnd, RunsStaySound, RunsTellInOrder};
+ghost use Rattle.wbt_forecast_run.specs.Claims.{AsReplayed, ClockAlone, CountsAreTold, FewAreTold, MovesAreCut, RowsAreBounded, RunsEnd, RunsStaySound, RunsTellInOrder};
 
 /// Each state of a lawful trace's run is in range, however far the run is let on; and each move, and what is forgotten, keeps it so.
 pub fn runs_stay_sound()
@@ -40,15 +39,15 @@ pub fn counts_are_told()
     ensures { CountsAreTold }
 {}
 
-/// Where the ordered run isn't spent the forecast tells the run that `replay` tells: its totals and its ending are those of that journal,
-/// and what its intervals count adds up to what that journal tells.
+/// Where the ordered run isn't spent the forecast tells the run that `replay` tells: its totals and its ending are those of that journal, and what its
+/// intervals count adds up to what that journal tells.
 pub fn as_replayed()
     ensures { AsReplayed }
 {
     wbt_forecast_rows::laws::runs_sum_up();
 }
 
-/// Each count of a domain that a row tells is at most the bound beside it, where the run may make at most 2^31 steps.
+/// Each count of a domain that a row tells is at most the bound beside it, where the run makes fewer than 2^31 steps.
 pub fn rows_are_bounded()
     ensures { RowsAreBounded }
 {}

@@ -1,6 +1,6 @@
-mod Apply
-mod Changes
-mod Lists
-mod Order
-mod Parts
-mod Whole
+pub mod Apply
+pub mod Changes
+pub mod Lists
+pub mod Order
+pub mod Parts
+pub mod Whole

@@ -76,7 +76,8 @@ change_peaks trace (change.renewed k periods events) s = set_peaks s (apply trac
 advance_peaks : (trace : Trace) (s : State) → PeaksGrow s (advance trace s)
 advance_peaks trace s =
     move_keeps trace PeaksGrow (λ a b c one two d. (let x = one d in let y = two d in omega (arith, x, y))) (λ c u. same_peaks u (with_course c u) refl)
-    (λ i c u entries checks. same_peaks u (with_cpu i c u) refl) (λ todos u. same_peaks u (with_timer (record u.timer { todo = todos }) u) refl) (λ one u. change_peaks trace one u) s
+    (λ i c u entries checks. same_peaks u (with_cpu i c u) refl) (λ todos u. same_peaks u (with_timer (record u.timer { todo = todos }) u) refl)
+    (λ one u. change_peaks trace one u) s
 
 let_domains : (s : State) → (let_on s).domains ≡ s.domains
 let_domains s = either (λ (u : State). u.domains ≡ s.domains) (is_full s && fits_further s) (extended s) s (λ is. refl) (λ no. refl)
@@ -89,7 +90,8 @@ let_most s = either (λ (u : State). s.most ≤ u.most) (is_full s && fits_furth
 
 pub moved_peaks : (trace : Trace) (s : State) → PeaksGrow s (moved trace s)
 moved_peaks trace s = either (PeaksGrow s) (is_ended s) s (advance trace (let_on s)) (λ over d. omega arith)
-    (λ going d. (let x = advance_peaks trace (let_on s) d in let y = ap (λ (ds : List Domain). (get_or ds d no_domain).peak) (let_domains s) in omega (arith, x, y)))
+    (λ going d. (let x = advance_peaks trace (let_on s) d in let y =
+    ap (λ (ds : List Domain). (get_or ds d no_domain).peak) (let_domains s) in omega (arith, x, y)))
 
 -- ---- steps
 

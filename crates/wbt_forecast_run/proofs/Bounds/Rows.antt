@@ -44,6 +44,7 @@ use Rattle.wbt_forecast_rows.specs.declared.rows.IntervalRow.{IntervalRow}
 use Rattle.wbt_forecast_run.specs.Claims.{IsBounded, AreBounded, TellsCounts, RowsAreBounded}
 use Rattle.wbt_forecast_run.specs.Run.{most_moves, let_on, moved, state_after, forecast}
 use Rattle.wbt_forecast_run.proofs.Bounds.Peaks.{moved_peaks, GrowsByOne, moved_grows, moved_most}
+use Rattle.wbt_forecast_run.proofs.Bounds.Steps.{few_most}
 use Rattle.wbt_forecast_run.proofs.Counts.Exact.{counts_are_told, suits_lawful}
 use Rattle.wbt_forecast_run.proofs.Runs.Ends.{over_stays, going_moves, next_state}
 use Rattle.wbt_forecast_run.proofs.Runs.Growing.{runs_tell_in_order}
@@ -117,15 +118,18 @@ most_push homes d count (x ∷ xs) e =
 gained_none : {A : Type 0} (xs : List A) → gained xs xs ≡ []
 gained_none xs = drop_all (length xs) xs (omega arith)
 
-module _ (trace : Trace) (tells : TellsCounts trace) (total : ℕ) (followed : (n : ℕ) → n ≤ total → IsFollowed trace (state_after trace n)) (d : ℕ) (less : d < domains trace) where
+module _ (trace : Trace) (tells : TellsCounts trace) (total : ℕ) (followed : (n : ℕ) → n ≤ total → IsFollowed trace (state_after trace n)) (d : ℕ)
+    (less : d < domains trace) where
   -- the greatest count between two moments, which is that of the second one or was there before
   most_bounded : (k m n : ℕ) → n ≡ m + k → n ≤ total
       → most_after (homes_of trace) d (pos (exact_count trace (state_after trace m) d)) (steps_between (state_after trace m) (state_after trace n))
       ≤ bound_at trace (state_after trace n) d
   most_bounded zero m n is le =
       let same : n ≡ m = omega (arith, is) in
-      let none : most_after (homes_of trace) d (pos (exact_count trace (state_after trace m) d)) (steps_between (state_after trace m) (state_after trace n)) ≡ 0 =
-      ap (λ (i : ℕ). most_after (homes_of trace) d (pos (exact_count trace (state_after trace m) d)) (steps_between (state_after trace m) (state_after trace i))) same
+      let none : most_after (homes_of trace) d (pos (exact_count trace (state_after trace m) d))
+      (steps_between (state_after trace m) (state_after trace n)) ≡ 0 =
+      ap (λ (i : ℕ). most_after (homes_of trace) d (pos (exact_count trace (state_after trace m) d))
+      (steps_between (state_after trace m) (state_after trace i))) same
       ∙ ap (most_after (homes_of trace) d (pos (exact_count trace (state_after trace m) d))) (gained_none (state_after trace m).steps) in
       omega (arith, none)
   most_bounded (suc k) m n is le =
@@ -136,7 +140,8 @@ module _ (trace : Trace) (tells : TellsCounts trace) (total : ℕ) (followed : (
       let before = most_bounded k m (m + k) refl (omega (arith, is, le)) in
       let next = next_state trace (m + k) n (omega (arith, is)) in
       let grows : GrowsByOne u v = subst (GrowsByOne u) (sym next) (moved_grows trace u) in
-      let peaks : (domain_of d u).peak ≤ (domain_of d v).peak = subst (λ (w : State). (domain_of d u).peak ≤ (domain_of d w).peak) (sym next) (moved_peaks trace u d) in
+      let peaks : (domain_of d u).peak ≤ (domain_of d v).peak =
+      subst (λ (w : State). (domain_of d u).peak ≤ (domain_of d w).peak) (sym next) (moved_peaks trace u d) in
       ⊎_elim
       (λ same.
       let stays = ap (λ (l : List StepEntry). most_after (homes_of trace) d start (gained s.steps l)) same in
@@ -182,18 +187,21 @@ module _ (trace : Trace) (every total : ℕ) where
           → Each (IsBetween trace total) (spans_from every (state_after trace) (state_after trace (moves + 1)) (moves + 1) ahead)
           → Each (IsBetween trace total) (elim b as (λ _. List Span) [
             | true ↦ spans_from every (state_after trace) (state_after trace first) (moves + 1) ahead
-            | false ↦ span (state_after trace first) (state_after trace moves) ∷ spans_from every (state_after trace) (state_after trace (moves + 1)) (moves + 1) ahead
+            | false ↦ span (state_after trace first) (state_after trace moves) ∷ spans_from every (state_after trace) (state_after trace (moves + 1))
+                (moves + 1) ahead
           ])
       by_test true same leaves = same
       by_test false same leaves = (record { first = first; last = moves; order = order; within = omega (arith, all); is = refl }, leaves)
 
   -- of those intervals that are told
-  each_row : (P : IntervalRow → Type 0) (is : List Span) → Each (IsBetween trace total) is → ((i : Span) → IsBetween trace total i → P (row_of_span trace every i))
+  each_row : (P : IntervalRow → Type 0) (is : List Span) → Each (IsBetween trace total) is
+      → ((i : Span) → IsBetween trace total i → P (row_of_span trace every i))
       → Each P (rows_of_spans trace every is)
   each_row P [] all each = tt
   each_row P (i ∷ is) all each = by_test (has_step i) (each_row P is all.1 each)
     where
-      by_test : (b : Bool) → Each P (rows_of_spans trace every is) → Each P (map (row_of_span trace every) (cond b (i ∷ filter has_step is) (filter has_step is)))
+      by_test : (b : Bool) → Each P (rows_of_spans trace every is)
+          → Each P (map (row_of_span trace every) (cond b (i ∷ filter has_step is) (filter has_step is)))
       by_test true rest = (each i all.0, rest)
       by_test false rest = rest
 
@@ -219,13 +227,15 @@ most_grows trace (suc k) n m is =
     let more = moved_most trace (state_after trace (n + k)) in
     omega (arith, before, next, more)
 
-forecast_bounded : (trace : Trace) (every : ℕ) → Each AreBounded (rows_of_spans trace every (spans_from every (state_after trace) (state_after trace 0) 0 most_moves))
+forecast_bounded : (trace : Trace) (every : ℕ)
+    → Each AreBounded (rows_of_spans trace every (spans_from every (state_after trace) (state_after trace 0) 0 most_moves))
     → Each AreBounded (forecast trace every).rows
 unfolding forecast
 forecast_bounded trace every h = h
 
 pub rows_are_bounded : RowsAreBounded
-rows_are_bounded = λ trace lawful few every.
+rows_are_bounded = λ trace lawful fewer every.
+    let few = few_most trace most_moves fewer in
     let known = facts trace lawful in
     let suits = suits_lawful trace lawful in
     let first : IsInRange trace (opening trace) = (opening_sound trace lawful, opening_room trace) in
@@ -235,7 +245,8 @@ rows_are_bounded = λ trace lawful few every.
       follows = opening_follows trace known (setting_is trace lawful) (λ w less. pair_of trace lawful w less);
     } in
     let followed : (n : ℕ) → n ≤ most_moves → IsFollowed trace (state_after trace n) =
-    λ n le. followed_at trace known suits first start n (let more = most_grows trace (most_moves - n) n most_moves (omega (arith, le)) in omega (arith, more, few)) in
+    λ n le. followed_at trace known suits first start n
+    (let more = most_grows trace (most_moves - n) n most_moves (omega (arith, le)) in omega (arith, more, few)) in
     forecast_bounded trace every
     (each_row trace every most_moves AreBounded (spans_from every (state_after trace) (state_after trace 0) 0 most_moves)
     (spans_between trace every most_moves most_moves 0 0 (omega arith) (omega arith))

@@ -16,7 +16,7 @@ use Rattle.wbt_task.specs.declared.allowance.Due.TheVariants as due
 use Rattle.wbt_replay_moves.specs.Definition.Check.{writer_of}
 use Rattle.wbt_replay_moves.specs.Definition.Estimates.{sample_of}
 use Rattle.wbt_replay_moves.specs.Definition.Idle.{domain_loads, measure, measures_of, weighs_of}
-use Rattle.wbt_replay_moves.specs.Definition.Scan.{close_items, is_over}
+use Rattle.wbt_replay_moves.specs.Definition.Scan.{close_items, is_scan_over}
 use Rattle.wbt_replay_moves.specs.Definition.State.{State, cpu_of, task_of, flusher_of, waiting_of, queue_of, domain_of, writeback_of, is_drained}
 use Rattle.wbt_replay_moves.specs.Definition.Timer.{is_time, periods}
 use Rattle.wbt_replay_moves.specs.Definition.Writer.{check_items, pause_in, has_nothing}
@@ -178,7 +178,7 @@ module _ (trace : Trace) (i : ℕ) where
 
     close_plain : (p : ReplayPhase) (s : State) → ArePlain i turn (where_scanning (close_changes i) f p s)
     close_plain (phase.Scanning scan) s =
-        one_of turn (is_over scan (length (flusher_of f s).batch)) _ [] (refl, ((refl, close_claims scan.inode _), tt)) tt
+        one_of turn (is_scan_over scan (length (flusher_of f s).batch)) _ [] (refl, ((refl, close_claims scan.inode _), tt)) tt
     close_plain (phase.Taken inode) s = tt
     close_plain (phase.Idle until kept) s = tt
     close_plain (phase.Flying inode pages until) s = tt

@@ -24,7 +24,7 @@ use Rattle.wbt_replay_moves.specs.Definition.Check.{writer_of}
 use Rattle.wbt_replay_moves.specs.Definition.Estimates.{sample_of}
 use Rattle.wbt_replay_moves.specs.Definition.Forget.{extended}
 use Rattle.wbt_replay_moves.specs.Definition.Perform.{make_step, make_move, make_timer_step, make_timer_move, begin_turn}
-use Rattle.wbt_replay_moves.specs.Definition.Scan.{close_items, is_over}
+use Rattle.wbt_replay_moves.specs.Definition.Scan.{close_items, is_scan_over}
 use Rattle.wbt_replay_moves.specs.Definition.State.{State, cpu_of, with_cpu, task_of, flusher_of, waiting_of, queue_of, domain_of, writeback_of, is_drained}
 use Rattle.wbt_replay_moves.specs.Definition.Timer.{begin_timer, is_time, periods}
 use Rattle.wbt_replay_moves.specs.Definition.Writer.{pause_in, without_page, has_nothing}
@@ -231,7 +231,7 @@ module _ (trace : Trace) (i : ℕ) where
     close_two (phase.Scanning scan) s =
         let closes = change.of_flusher f (flusher_change.placed scan)
         ∷ change.of_cpu i (cpu_change.planned (close_items scan.inode (scan.noted || nat_lt scan.passed scan.pages))) ∷ [] in
-        one_of (is_over scan (length (flusher_of f s).batch)) closes [] s (light closes s (tt, (omega arith, (tt, (omega arith, tt))))) (none s)
+        one_of (is_scan_over scan (length (flusher_of f s).batch)) closes [] s (light closes s (tt, (omega arith, (tt, (omega arith, tt))))) (none s)
     close_two (phase.Taken inode) s = none s
     close_two (phase.Idle until kept) s = none s
     close_two (phase.Flying inode pages until) s = none s

@@ -1,0 +1,4 @@
+pub mod Telling
+pub mod Bases
+pub mod Moments
+pub mod Turning

@@ -1,0 +1,6 @@
+use Rattle.std.proofs.Common.{◌≡◌, drop}
+use Rattle.wbt_replay_order.specs.Kept.Further.{after_waits}
+use Rattle.wbt_forecast.proofs.ticks.after_waits.Given as goal
+
+abbrev pub invariant-loop-flusher : goal.invariant-loop-flusher
+invariant-loop-flusher l = after_waits l.latest (drop l.flusher-index l.flushers) ≡ after_waits l.moment l.flushers
