@@ -1,19 +1,17 @@
 //! How the process ends: with the sentence and the code of the status that its call answers.
 
-ghost use Rattle.std.specs.Prelude.{◌≡◌, ◌≢◌, ◌↔◌, ◌⊎◌, ◌≤◌, ℕ, IsTrue};
-ghost use Rattle.std.specs.Io.KnownBytes.{IsAtEnd};
+ghost use Rattle.std.specs.Prelude.{◌≡◌, ◌≢◌, ◌↔◌, ℕ, IsTrue};
 ghost use Rattle.std.specs.Process.{exit_status};
 ghost use Rattle.wbt_io.specs.Faults.{HasRisen, HasRisenBy};
-ghost use Rattle.wbt_io.specs.Told.{GainsPart};
 ghost use Rattle.wbt_rules.specs.declared.moments.TheConstants.{MOST_FAULTS};
-ghost use Rattle.wbt_run.specs.Running.{IsDone, IsFaulted, IsSpent as IsRunSpent};
-ghost use Rattle.wbt_trace_text.specs.declared.fault.TraceFault.{TraceFault as FaultValue};
-ghost use Rattle.wbt_top_plain.specs.Audit.{Answers, Audited, IfAuditTold, IfRunToJudge, IsAudit, IsAuditInput, ReadsText, bad_journal, bad_trace};
+ghost use Rattle.wbt_run.specs.Running.{IsDone};
+ghost use Rattle.wbt_top_plain.specs.Audit.{IsAudit, ReadsText};
 ghost use Rattle.wbt_top_plain.specs.StatusText.{code_of};
-ghost use Rattle.wbt_top_plain.specs.Bulk.{IsBulk, IsRun, RunsThreads};
-ghost use Rattle.wbt_top_plain.specs.Written.{IsWritten, IsWrittenUnless};
-ghost use Rattle.wbt_top.specs.Threads.{IsBulkDone, IsServed, OfCommand, Ran};
-ghost use Rattle.wbt_top_plain.specs.Top.{IsReplay, IsCheck, IsLaw, ReadsTrace, Replayed, ReplayedPart, ReplayedSpent, Checked, CheckedPart, Decided, DecidedPart, IsRefused, IsLawRefused, IsLong, IfLong, IfTold, IfFaulty, IfLawTold, IfLawFaulty, IsSpent, ReadsWhole};
+ghost use Rattle.wbt_top_plain.specs.Bulk.{IsBulk, IsRun};
+ghost use Rattle.wbt_top_plain.specs.Claims.{FitsWords, ReadsInput, RefusesText, ServesAudit, ServesCheck, ServesForecast, ServesLaw, ServesReplay};
+ghost use Rattle.wbt_top_plain.specs.Forecast.{Foretells, IsForecast};
+ghost use Rattle.wbt_top.specs.Threads.{FitsThreads, IsBulkDone, IsServed, RunsAndWrites};
+ghost use Rattle.wbt_top_plain.specs.Top.{IsReplay, IsCheck, IsLaw, ReadsTrace, IfTold};
 
 use crate::threads::run_top;
 use std::alloc::Global;
@@ -23,7 +21,6 @@ use std::sync::Wait;
 use std::thread::Threads;
 use wbt_io::{Clock, FreeGate, Rack, Sink, Source};
 use wbt_top_plain::{Status, Words, code, plain_top};
-use wbt_trace_text::TraceFault;
 
 /// What `main` returns. None is made but by a call, or where memory for the words is refused.
 #[derive(Drop)]
@@ -56,52 +53,22 @@ impl Ended {
         source: &mut S,
         sink: &mut K,
     ) -> Ended
-        ensures replayed { result ≡ Status.Good → IsReplay words.now → Replayed (S.left source.old) (K.held sink.old) (K.held sink.new) }
-        ensures checked { result ≡ Status.Good → IsCheck words.now → Checked (S.left source.old) (K.held sink.old) (K.held sink.new) }
-        ensures decided { result ≡ Status.Good → IsLaw words.now → Decided (S.left source.old) (K.held sink.old) (K.held sink.new) }
-        ensures audited { result ≡ Status.Good → IsAudit words.now → Audited (IsAuditInput (S.left source.old)) Status.Good (IsWritten (K.held sink.old) (K.held sink.new)) }
+        // The status is one that the words may have.
+        ensures words { FitsWords result words.now }
 
-        // Before a text is judged, the input is read to its end.
-        ensures read { ReadsWhole result → IsAtEnd (S.left source.new) }
+        // Each text with a fault is refused by its first one, and a good one is served, where source and sink don't fail and memory suffices.
+        ensures input { ReadsText words.now → ReadsInput result (S.left source.old) (S.left source.new) (HasRisen (S.faults source.old) (S.faults source.new)) }
+        ensures trace { ReadsTrace words.now → RefusesText result (S.left source.old) (HasRisen (S.faults source.old) (S.faults source.new)) }
+        ensures replay { IsReplay words.now → ServesReplay result (S.left source.old) (K.held sink.old) (K.held sink.new) (HasRisen (S.faults source.old) (S.faults source.new)) (HasRisen (K.faults sink.old) (K.faults sink.new)) }
+        ensures forecast { (every : ℕ) → IsForecast every words.now → ServesForecast every result (S.left source.old) (K.held sink.old) (K.held sink.new) (HasRisen (S.faults source.old) (S.faults source.new)) (HasRisen (K.faults sink.old) (K.faults sink.new)) }
+        ensures check { IsCheck words.now → ServesCheck result (S.left source.old) (K.held sink.old) (K.held sink.new) (HasRisen (S.faults source.old) (S.faults source.new)) (HasRisen (K.faults sink.old) (K.faults sink.new)) }
+        ensures law { IsLaw words.now → ServesLaw result (S.left source.old) (K.held sink.old) (K.held sink.new) (HasRisen (S.faults source.old) (S.faults source.new)) (HasRisen (K.faults sink.old) (K.faults sink.new)) }
+        ensures audit { IsAudit words.now → ServesAudit result (S.left source.old) (K.held sink.old) (K.held sink.new) (HasRisen (S.faults source.old) (S.faults source.new)) (HasRisen (K.faults sink.old) (K.faults sink.new)) }
 
-        // Each other status has its cause.
-        ensures bad_words { (result ≡ Status.BadWords) ↔ (¬ ReadsText words.now) }
-        ensures read_fault { result ≡ Status.ReadFault → HasRisen (S.faults source.old) (S.faults source.new) }
-        ensures too_long { result ≡ Status.TooLong → IsLong (S.left source.old) }
-        ensures each_too_long { ReadsText words.now → ¬ HasRisen (S.faults source.old) (S.faults source.new) → IfLong (S.left source.old) ((result ≡ Status.TooLong) ⊎ (result ≡ Status.NoMemory)) }
-        ensures bad_trace { (fault : FaultValue) → result ≡ Status.BadTrace fault → ReadsTrace words.now → (fault ≢ TraceFault.NoMemory) × IsRefused (S.left source.old) fault }
-        ensures bad_law { (fault : FaultValue) → result ≡ Status.BadTrace fault → IsLaw words.now → (fault ≢ TraceFault.NoMemory) × IsLawRefused (S.left source.old) fault }
-        ensures bad_audited { (fault : FaultValue) → result ≡ Status.BadTrace fault → IsAudit words.now → (fault ≢ TraceFault.NoMemory) × IsAuditInput (S.left source.old) (bad_trace fault) }
-        ensures bad_journal { (line : ℕ) → result ≡ Status.BadJournal line → IsAudit words.now × IsAuditInput (S.left source.old) (bad_journal line) }
+        // A write fault comes only where the sink's count of faults rose. It leaves a part of the text in the sink, and so may want of memory where a
+        // forecast was begun. Else nothing is written, but where all is.
         ensures write_fault { result ≡ Status.WriteFault → HasRisen (K.faults sink.old) (K.faults sink.new) }
-        ensures no_disk { result ≢ Status.DiskFault }
-
-        // That a journal isn't lawful, or not settled, is told by its verdict; the line was written, or a part of it where the sink failed.
-        ensures unlawful { result ≡ Status.Unlawful → IsAudit words.now × Audited (IsAuditInput (S.left source.old)) Status.Unlawful (IsWrittenUnless (HasRisen (K.faults sink.old) (K.faults sink.new)) (K.held sink.old) (K.held sink.new)) }
-        ensures unsettled { result ≡ Status.Unsettled → IsAudit words.now × Audited (IsAuditInput (S.left source.old)) Status.Unsettled (IsWrittenUnless (HasRisen (K.faults sink.old) (K.faults sink.new)) (K.held sink.old) (K.held sink.new)) }
-
-        // Where the run is spent its text was written, or a part of it where the sink failed.
-        ensures spent { result ≡ Status.Spent → IsReplay words.now × ReplayedSpent (S.left source.old) (K.held sink.old) (K.held sink.new) (HasRisen (K.faults sink.old) (K.faults sink.new)) }
-
-        // A write fault leaves a part of the text in the sink. Else nothing is written, but where all is.
-        ensures replayed_part { result ≡ Status.WriteFault → IsReplay words.now → ReplayedPart (S.left source.old) (K.held sink.old) (K.held sink.new) }
-        ensures checked_part { result ≡ Status.WriteFault → IsCheck words.now → CheckedPart (S.left source.old) (K.held sink.old) (K.held sink.new) }
-        ensures decided_part { result ≡ Status.WriteFault → IsLaw words.now → DecidedPart (S.left source.old) (K.held sink.old) (K.held sink.new) }
-        ensures audited_part { result ≡ Status.WriteFault → IsAudit words.now → Audited (IsAuditInput (S.left source.old)) Status.WriteFault (GainsPart (K.held sink.old) (K.held sink.new)) }
-        ensures untouched { result ≢ Status.Good → result ≢ Status.WriteFault → result ≢ Status.Spent → result ≢ Status.Unlawful → result ≢ Status.Unsettled → K.held sink.new ≡ K.held sink.old }
-
-        // Where the source counts no fault and tells at most 2^26 bytes, a text with a fault is told by its first one, and a good one is
-        // served: the status is then the good one, or that of a spent run, or a fault of the sink. Only refused memory comes before.
-        ensures each_bad_trace { ReadsTrace words.now → ¬ HasRisen (S.faults source.old) (S.faults source.new) → IfFaulty (S.left source.old) (λ fault. (result ≡ Status.BadTrace fault) ⊎ (result ≡ Status.NoMemory)) }
-        ensures each_bad_law { IsLaw words.now → ¬ HasRisen (S.faults source.old) (S.faults source.new) → IfLawFaulty (S.left source.old) (λ fault. (result ≡ Status.BadTrace fault) ⊎ (result ≡ Status.NoMemory)) }
-        ensures each_replayed { IsReplay words.now → ¬ HasRisen (S.faults source.old) (S.faults source.new) → ¬ HasRisen (K.faults sink.old) (K.faults sink.new) → IfTold (S.left source.old) (λ trace. ¬ IsSpent trace → (result ≡ Status.Good) ⊎ (result ≡ Status.NoMemory)) }
-        ensures each_spent { IsReplay words.now → ¬ HasRisen (S.faults source.old) (S.faults source.new) → IfTold (S.left source.old) (λ trace. IsSpent trace → (result ≡ Status.Spent) ⊎ (result ≡ Status.NoMemory)) }
-        ensures each_checked { IsCheck words.now → ¬ HasRisen (S.faults source.old) (S.faults source.new) → ¬ HasRisen (K.faults sink.old) (K.faults sink.new) → IfTold (S.left source.old) (λ _trace. (result ≡ Status.Good) ⊎ (result ≡ Status.NoMemory)) }
-        ensures each_decided { IsLaw words.now → ¬ HasRisen (S.faults source.old) (S.faults source.new) → ¬ HasRisen (K.faults sink.old) (K.faults sink.new) → IfLawTold (S.left source.old) (λ _law. (result ≡ Status.Good) ⊎ (result ≡ Status.NoMemory)) }
-        ensures each_audited { IsAudit words.now → ¬ HasRisen (S.faults source.old) (S.faults source.new) → IfAuditTold (S.left source.old) (λ told. Answers result (HasRisen (K.faults sink.old) (K.faults sink.new)) told ⊎ (result ≡ Status.NoMemory)) }
-
-        // What `run` writes of its journal, after the trace and the line `journal`, is never called broken.
-        ensures each_run { IsAudit words.now → ¬ HasRisen (S.faults source.old) (S.faults source.new) → ¬ HasRisen (K.faults sink.old) (K.faults sink.new) → IfRunToJudge (S.left source.old) ((result ≡ Status.Good) ⊎ ((result ≡ Status.Unsettled) ⊎ (result ≡ Status.NoMemory))) }
+        ensures untouched { result ≢ Status.Good → result ≢ Status.WriteFault → result ≢ Status.Spent → result ≢ Status.Unlawful → result ≢ Status.Unsettled → (Foretells words.now → result ≢ Status.NoMemory) → K.held sink.new ≡ K.held sink.old }
     {
         Ended {
             status: plain_top(alloc, words, source, sink),
@@ -118,31 +85,23 @@ impl Ended {
         clock: &C,
         rack: &mut R,
     ) -> Ended
-        // At the good status and after a write fault all is done: every page of every write was written, and none is left. The text was written,
-        // or a part of it.
-        ensures done { result ≡ Status.Good → OfCommand words.now (S.left source.old) (λ trace text. Ran (C.told clock.now) trace (R.written rack.old) (R.written rack.new) (R.faults rack.old) (R.faults rack.new) (IsDone trace) text (IsWritten (K.held sink.old) (K.held sink.new))) }
-        ensures done_part { result ≡ Status.WriteFault → OfCommand words.now (S.left source.old) (λ trace text. Ran (C.told clock.now) trace (R.written rack.old) (R.written rack.new) (R.faults rack.old) (R.faults rack.new) (IsDone trace) text (GainsPart (K.held sink.old) (K.held sink.new))) }
+        // The status is one that the words may have.
+        ensures words { FitsThreads result words.now }
 
-        // A disk failed eight times, or a CPU made all its page steps; the text was written, or a part of it where the sink failed too.
-        ensures ran_faulted { result ≡ Status.DiskFault → OfCommand words.now (S.left source.old) (λ trace text. Ran (C.told clock.now) trace (R.written rack.old) (R.written rack.new) (R.faults rack.old) (R.faults rack.new) (IsFaulted trace (R.faults rack.old) (R.faults rack.new)) text (IsWrittenUnless (HasRisen (K.faults sink.old) (K.faults sink.new)) (K.held sink.old) (K.held sink.new))) }
-        ensures ran_spent { result ≡ Status.Spent → OfCommand words.now (S.left source.old) (λ trace text. Ran (C.told clock.now) trace (R.written rack.old) (R.written rack.new) (R.faults rack.old) (R.faults rack.new) IsRunSpent text (IsWrittenUnless (HasRisen (K.faults sink.old) (K.faults sink.new)) (K.held sink.old) (K.held sink.new))) }
-        ensures untouched { result ≢ Status.Good → result ≢ Status.WriteFault → result ≢ Status.DiskFault → result ≢ Status.Spent → K.held sink.new ≡ K.held sink.old }
-
-        // Before a text is judged, the input is read to its end. A bulk run reads nothing.
-        ensures read { IsRun words.now → ReadsWhole result → IsAtEnd (S.left source.new) }
+        // A text with a fault is refused by its first one. A bulk run reads nothing.
+        ensures input { IsRun words.now → ReadsInput result (S.left source.old) (S.left source.new) (HasRisen (S.faults source.old) (S.faults source.new)) }
+        ensures trace { IsRun words.now → RefusesText result (S.left source.old) (HasRisen (S.faults source.old) (S.faults source.new)) }
         ensures unread { (n : ℕ) → IsBulk n words.now → source.new ≡ source.old }
 
-        // Each other status has its cause.
-        ensures bad_words { (result ≡ Status.BadWords) ↔ (¬ RunsThreads words.now) }
-        ensures read_fault { result ≡ Status.ReadFault → HasRisen (S.faults source.old) (S.faults source.new) }
-        ensures too_long { result ≡ Status.TooLong → IsRun words.now × IsLong (S.left source.old) }
-        ensures each_too_long { IsRun words.now → ¬ HasRisen (S.faults source.old) (S.faults source.new) → IfLong (S.left source.old) ((result ≡ Status.TooLong) ⊎ (result ≡ Status.NoMemory)) }
-        ensures bad_trace { (fault : FaultValue) → result ≡ Status.BadTrace fault → IsRun words.now × (fault ≢ TraceFault.NoMemory) × IsRefused (S.left source.old) fault }
+        // At the good status and after a write fault all is done: every page of every write was written, and none is left. The text was written,
+        // or a part of it. Else a disk failed eight times, or a CPU made all its page steps; the text was written, or a part of it where the sink
+        // failed too.
+        ensures ran { RunsAndWrites IsDone result words.now (S.left source.old) (C.told clock.now) (R.written rack.old) (R.written rack.new) (R.faults rack.old) (R.faults rack.new) (K.held sink.old) (K.held sink.new) (HasRisen (K.faults sink.old) (K.faults sink.new)) }
+        ensures untouched { result ≢ Status.Good → result ≢ Status.WriteFault → result ≢ Status.DiskFault → result ≢ Status.Spent → K.held sink.new ≡ K.held sink.old }
         ensures disk_fault { result ≡ Status.DiskFault → HasRisenBy MOST_FAULTS (R.faults rack.old) (R.faults rack.new) }
         ensures write_fault { result ≡ Status.WriteFault → HasRisen (K.faults sink.old) (K.faults sink.new) }
 
-        // Where source and sink count no fault, a text with a fault is told by its first one, and a good one is served.
-        ensures each_bad_trace { IsRun words.now → ¬ HasRisen (S.faults source.old) (S.faults source.new) → IfFaulty (S.left source.old) (λ fault. (result ≡ Status.BadTrace fault) ⊎ (result ≡ Status.NoMemory)) }
+        // Where source and sink count no fault, a good text is served.
         ensures each_run { IsRun words.now → ¬ HasRisen (S.faults source.old) (S.faults source.new) → ¬ HasRisen (K.faults sink.old) (K.faults sink.new) → IfTold (S.left source.old) (λ _trace. IsServed result) }
         ensures each_bulk { (n : ℕ) → IsBulk n words.now → ¬ HasRisen (K.faults sink.old) (K.faults sink.new) → IsServed result }
 

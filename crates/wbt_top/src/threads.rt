@@ -1,7 +1,6 @@
 //! The top call of runs over threads.
 
-ghost use Rattle.std.specs.Prelude.{◌≡◌, ◌≢◌, ◌↔◌, ◌⊎◌, ◌≤◌, ℕ, IsOk, OnOk, IsErrOf};
-ghost use Rattle.std.specs.Io.KnownBytes.{IsAtEnd};
+ghost use Rattle.std.specs.Prelude.{◌≡◌, ◌≢◌, ℕ, OnOk, IsErrOf};
 ghost use Rattle.wbt_io.specs.Faults.{HasRisen, HasRisenBy};
 ghost use Rattle.wbt_io.specs.Told.{GainsPart};
 ghost use Rattle.wbt_journal.specs.Text.{journal_text};
@@ -9,11 +8,11 @@ ghost use Rattle.wbt_rules.specs.declared.moments.TheConstants.{MOST_FAULTS};
 ghost use Rattle.wbt_run.specs.Running.{IsDone, IsFaulted, IsSpent, NeverStops};
 ghost use Rattle.wbt_trace.specs.Bulk.{bulk_trace};
 ghost use Rattle.wbt_trace.specs.Lawful.{IsLawful};
-ghost use Rattle.wbt_trace_text.specs.declared.fault.TraceFault.{TraceFault as FaultValue};
-ghost use Rattle.wbt_top_plain.specs.Bulk.{IsBulk, IsBulkSize, IsRun, RunsThreads, bulk_text};
+ghost use Rattle.wbt_top_plain.specs.Bulk.{IsBulk, IsBulkSize, IsRun, bulk_text};
+ghost use Rattle.wbt_top_plain.specs.Claims.{ReadsInput, RefusesText};
 ghost use Rattle.wbt_top_plain.specs.Written.{IsWritten, IsWrittenUnless};
-ghost use Rattle.wbt_top.specs.Threads.{Finishes, IsBulkDone, IsServed, OfCommand, OfRead, Ran};
-ghost use Rattle.wbt_top_plain.specs.Top.{IfFaulty, IfLong, IfTold, IsLong, IsRefused, ReadsWhole};
+ghost use Rattle.wbt_top.specs.Threads.{Finishes, FitsThreads, IsBulkDone, IsServed, OfCommand, OfRead, Ran, RunsAndWrites};
+ghost use Rattle.wbt_top_plain.specs.Top.{IfTold};
 
 use crate::ran::{RanEnd, of_faulted, of_finished, of_ran, of_spent};
 use std::alloc::Global;
@@ -24,7 +23,7 @@ use wbt_journal::print;
 use wbt_run::{RunEnd, run};
 use wbt_top_plain::{Command, Status, Words, command_of, of_input_end, read_input, write_bulk};
 use wbt_trace::{Trace, generate};
-use wbt_trace_text::{TraceFault, text_has_one_answer};
+use wbt_trace_text::text_has_one_answer;
 
 /// Serves the words `run` and `bulk N`: reads a trace from the source, runs it over threads, and writes the journal of the run; or
 /// reads nothing, runs the trace of N pages, and writes how many pages were dirtied and cleaned and how many are left.
@@ -48,29 +47,22 @@ pub fn run_top<
     gate: &G,
     rack: &mut R,
 ) -> Status
-    // Where text is written, the trace was run. All was done or a CPU was stopped, and the text was written, or a part of it; or a disk
-    // failed eight times, or a CPU made all its page steps, and the text was written, or a part of it where the sink failed too.
-    ensures ran { result ≡ Status.Good → OfCommand words.now (S.left source.old) (λ trace text. Ran (C.told clock.now) trace (R.written rack.old) (R.written rack.new) (R.faults rack.old) (R.faults rack.new) (Finishes (G.said gate.now) trace) text (IsWritten (K.held sink.old) (K.held sink.new))) }
-    ensures ran_part { result ≡ Status.WriteFault → OfCommand words.now (S.left source.old) (λ trace text. Ran (C.told clock.now) trace (R.written rack.old) (R.written rack.new) (R.faults rack.old) (R.faults rack.new) (Finishes (G.said gate.now) trace) text (GainsPart (K.held sink.old) (K.held sink.new))) }
-    ensures ran_faulted { result ≡ Status.DiskFault → OfCommand words.now (S.left source.old) (λ trace text. Ran (C.told clock.now) trace (R.written rack.old) (R.written rack.new) (R.faults rack.old) (R.faults rack.new) (IsFaulted trace (R.faults rack.old) (R.faults rack.new)) text (IsWrittenUnless (HasRisen (K.faults sink.old) (K.faults sink.new)) (K.held sink.old) (K.held sink.new))) }
-    ensures ran_spent { result ≡ Status.Spent → OfCommand words.now (S.left source.old) (λ trace text. Ran (C.told clock.now) trace (R.written rack.old) (R.written rack.new) (R.faults rack.old) (R.faults rack.new) IsSpent text (IsWrittenUnless (HasRisen (K.faults sink.old) (K.faults sink.new)) (K.held sink.old) (K.held sink.new))) }
-    ensures untouched { result ≢ Status.Good → result ≢ Status.WriteFault → result ≢ Status.DiskFault → result ≢ Status.Spent → K.held sink.new ≡ K.held sink.old }
+    // The status is one that the words may have.
+    ensures words { FitsThreads result words.now }
 
-    // Before a text is judged, the input is read to its end. A bulk run reads nothing.
-    ensures read { IsRun words.now → ReadsWhole result → IsAtEnd (S.left source.new) }
+    // A text with a fault is refused by its first one. A bulk run reads nothing.
+    ensures input { IsRun words.now → ReadsInput result (S.left source.old) (S.left source.new) (HasRisen (S.faults source.old) (S.faults source.new)) }
+    ensures trace { IsRun words.now → RefusesText result (S.left source.old) (HasRisen (S.faults source.old) (S.faults source.new)) }
     ensures unread { (n : ℕ) → IsBulk n words.now → source.new ≡ source.old }
 
-    // Each other status has its cause.
-    ensures bad_words { (result ≡ Status.BadWords) ↔ (¬ RunsThreads words.now) }
-    ensures read_fault { result ≡ Status.ReadFault → HasRisen (S.faults source.old) (S.faults source.new) }
-    ensures too_long { result ≡ Status.TooLong → IsRun words.now × IsLong (S.left source.old) }
-    ensures each_too_long { IsRun words.now → ¬ HasRisen (S.faults source.old) (S.faults source.new) → IfLong (S.left source.old) ((result ≡ Status.TooLong) ⊎ (result ≡ Status.NoMemory)) }
-    ensures bad_trace { (fault : FaultValue) → result ≡ Status.BadTrace fault → IsRun words.now × (fault ≢ TraceFault.NoMemory) × IsRefused (S.left source.old) fault }
+    // Where text is written, the trace was run. All was done or a CPU was stopped, and the text was written, or a part of it; or a disk
+    // failed eight times, or a CPU made all its page steps, and the text was written, or a part of it where the sink failed too.
+    ensures ran { RunsAndWrites (Finishes (G.said gate.now)) result words.now (S.left source.old) (C.told clock.now) (R.written rack.old) (R.written rack.new) (R.faults rack.old) (R.faults rack.new) (K.held sink.old) (K.held sink.new) (HasRisen (K.faults sink.old) (K.faults sink.new)) }
+    ensures untouched { result ≢ Status.Good → result ≢ Status.WriteFault → result ≢ Status.DiskFault → result ≢ Status.Spent → K.held sink.new ≡ K.held sink.old }
     ensures disk_fault { result ≡ Status.DiskFault → HasRisenBy MOST_FAULTS (R.faults rack.old) (R.faults rack.new) }
     ensures write_fault { result ≡ Status.WriteFault → HasRisen (K.faults sink.old) (K.faults sink.new) }
 
-    // Where source and sink count no fault, a text with a fault is told by its first one, and a good one is served.
-    ensures each_bad_trace { IsRun words.now → ¬ HasRisen (S.faults source.old) (S.faults source.new) → IfFaulty (S.left source.old) (λ fault. (result ≡ Status.BadTrace fault) ⊎ (result ≡ Status.NoMemory)) }
+    // Where source and sink count no fault, a good text is served.
     ensures each_run { IsRun words.now → ¬ HasRisen (S.faults source.old) (S.faults source.new) → ¬ HasRisen (K.faults sink.old) (K.faults sink.new) → IfTold (S.left source.old) (λ _trace. IsServed result) }
     ensures each_bulk { (n : ℕ) → IsBulk n words.now → ¬ HasRisen (K.faults sink.old) (K.faults sink.new) → IsServed result }
 
@@ -85,6 +77,7 @@ pub fn run_top<
         None | Some(Command::Replay | Command::Check | Command::Law | Command::Audit) => {
             Status::BadWords
         },
+        Some(Command::Forecast { .. }) => Status::BadWords,
     }
 }
 
@@ -103,15 +96,11 @@ fn run_trace<
     ensures ran_spent { result ≡ Status.Spent → OfRead (S.left source.old) (λ trace. Ran (C.told clock.now) trace (R.written rack.old) (R.written rack.new) (R.faults rack.old) (R.faults rack.new) IsSpent journal_text (IsWrittenUnless (HasRisen (K.faults sink.old) (K.faults sink.new)) (K.held sink.old) (K.held sink.new))) }
     ensures done { result ≡ Status.Good → NeverStops (G.said gate.now) → OfRead (S.left source.old) (λ trace. Ran (C.told clock.now) trace (R.written rack.old) (R.written rack.new) (R.faults rack.old) (R.faults rack.new) (IsDone trace) journal_text (IsWritten (K.held sink.old) (K.held sink.new))) }
     ensures untouched { result ≢ Status.Good → result ≢ Status.WriteFault → result ≢ Status.DiskFault → result ≢ Status.Spent → K.held sink.new ≡ K.held sink.old }
-    ensures read { ReadsWhole result → IsAtEnd (S.left source.new) }
+    ensures input { ReadsInput result (S.left source.old) (S.left source.new) (HasRisen (S.faults source.old) (S.faults source.new)) }
+    ensures trace { RefusesText result (S.left source.old) (HasRisen (S.faults source.old) (S.faults source.new)) }
     ensures words { result ≢ Status.BadWords }
-    ensures read_fault { result ≡ Status.ReadFault → HasRisen (S.faults source.old) (S.faults source.new) }
-    ensures too_long { result ≡ Status.TooLong → IsLong (S.left source.old) }
-    ensures each_too_long { ¬ HasRisen (S.faults source.old) (S.faults source.new) → IfLong (S.left source.old) ((result ≡ Status.TooLong) ⊎ (result ≡ Status.NoMemory)) }
-    ensures bad_trace { (fault : FaultValue) → result ≡ Status.BadTrace fault → (fault ≢ TraceFault.NoMemory) × IsRefused (S.left source.old) fault }
     ensures disk_fault { result ≡ Status.DiskFault → HasRisenBy MOST_FAULTS (R.faults rack.old) (R.faults rack.new) }
     ensures write_fault { result ≡ Status.WriteFault → HasRisen (K.faults sink.old) (K.faults sink.new) }
-    ensures each_bad_trace { ¬ HasRisen (S.faults source.old) (S.faults source.new) → IfFaulty (S.left source.old) (λ fault. (result ≡ Status.BadTrace fault) ⊎ (result ≡ Status.NoMemory)) }
     ensures each_run { ¬ HasRisen (S.faults source.old) (S.faults source.new) → ¬ HasRisen (K.faults sink.old) (K.faults sink.new) → IfTold (S.left source.old) (λ _trace. IsServed result) }
 {
     // The input tells nothing else.

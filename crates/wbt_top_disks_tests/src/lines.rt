@@ -1,7 +1,7 @@
 //! Lines of a journal's text, word by word.
 
+use plain_in_use::number;
 use std::alloc::{AllocError, Global};
-use top_in_use::number;
 
 // A batch that a flusher gave to its disk, from a moment to another, in ticks.
 #[derive(Clone, Copy, Debug, PartialEq, Eq)]

@@ -1,7 +1,7 @@
 //! What a journal's text tells of each page, and whether it adds up.
 
+use plain_in_use::number;
 use std::alloc::{AllocError, Global};
-use top_in_use::number;
 
 // The most pages of a trace whose pages are added up.
 const PAGES: usize = 64;

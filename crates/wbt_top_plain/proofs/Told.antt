@@ -146,10 +146,18 @@ pub shows : (s : Status) (Failed : Type 0) (v : Verdict) → (s ≡ status.NoMem
 shows s Failed v (inl none) other = absurd (other none)
 shows s Failed v (inr answers) other = shown_of s Failed v answers
 
--- a verdict's status is no refusal
+-- a verdict's status is no refusal, and tells of no input that wasn't read
 pub no_refusal : (s : Status) (Failed : Type 0) (v : Verdict) (fault : TraceFault) → (s ≡ status.NoMemory) ⊎ AnswersVerdict s Failed v → s ≡ status.BadTrace fault → ⊥
 no_refusal s Failed v fault (inl none) is = cc (none, is)
 no_refusal s Failed v fault (inr answers) is = subst (λ (x : Status). Shows x v) is (shown_of s Failed v answers)
+
+pub no_read_fault : (s : Status) (Failed : Type 0) (v : Verdict) → (s ≡ status.NoMemory) ⊎ AnswersVerdict s Failed v → s ≡ status.ReadFault → ⊥
+no_read_fault s Failed v (inl none) is = cc (none, is)
+no_read_fault s Failed v (inr answers) is = subst (λ (x : Status). Shows x v) is (shown_of s Failed v answers)
+
+pub not_too_long : (s : Status) (Failed : Type 0) (v : Verdict) → (s ≡ status.NoMemory) ⊎ AnswersVerdict s Failed v → s ≡ status.TooLong → ⊥
+not_too_long s Failed v (inl none) is = cc (none, is)
+not_too_long s Failed v (inr answers) is = subst (λ (x : Status). Shows x v) is (shown_of s Failed v answers)
 
 pub other_way : (s : Status) (Failed : Type 0) (v : Verdict) → (s ≡ status.NoMemory) ⊎ AnswersVerdict s Failed v → AnswersVerdict s Failed v ⊎ (s ≡ status.NoMemory)
 other_way s Failed v (inl none) = inr none

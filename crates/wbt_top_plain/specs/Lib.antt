@@ -1,5 +1,9 @@
 pub mod Audit
+pub mod Number
+pub mod Forecast
+pub mod Foretold
 pub mod StatusText
 pub mod Top
 pub mod Bulk
+pub mod Claims
 pub mod Written

@@ -9,7 +9,7 @@ use Rattle.wbt_top_plain.specs.declared.status.Status.TheVariants.{Good, BadWord
 -- the sentence of a status
 abbrev pub status_text : (status : Status) → List ℕ
 status_text Good = codes "wbsim: ok"
-status_text BadWords = codes "wbsim: usage: wbsim replay, check, law, run, audit or bulk N"
+status_text BadWords = codes "wbsim: usage: wbsim replay, check, law, run, audit, bulk N or forecast EVERY"
 status_text (BadTrace (fault.BadLine line)) = codes "wbsim: line " ++ decimal line ++ codes ": bad line"
 status_text (BadTrace (fault.UnknownName line)) = codes "wbsim: line " ++ decimal line ++ codes ": unknown name"
 status_text (BadTrace (fault.Twice line)) = codes "wbsim: line " ++ decimal line ++ codes ": given twice"

@@ -31,6 +31,7 @@ use Rattle.wbt_law.specs.declared.input.LawInput.{LawInput}
 use Rattle.wbt_top_plain.specs.declared.status.Status.{Status}
 use Rattle.wbt_top_plain.specs.declared.status.Status.TheVariants.{Good, BadTrace, BadJournal, Unsettled, Unlawful, WriteFault, DiskFault, Spent}
 use Rattle.wbt_top_plain.specs.declared.status.Words.{Words}
+use Rattle.wbt_top_plain.specs.Forecast.{Foretells}
 
 -- ---- the words
 
@@ -52,7 +53,7 @@ IsLaw words = IsWord (codes "law") words
 
 -- the words of a command that reads a trace
 abbrev pub ReadsTrace : (words : Words) → Type 0
-ReadsTrace words = IsReplay words ⊎ IsCheck words
+ReadsTrace words = IsReplay words ⊎ (IsCheck words ⊎ Foretells words)
 
 -- ---- the input
 

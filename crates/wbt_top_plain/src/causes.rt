@@ -6,6 +6,7 @@ ghost use Rattle.wbt_top_plain.specs.Audit.{AnswersVerdict};
 
 use crate::status::Status;
 use wbt_audit::Verdict;
+use wbt_forecast::ForecastFault;
 use wbt_io::ReadEnd;
 use wbt_journal::{Ending, PrintEnd};
 use wbt_journal_reader::JournalFault;
@@ -36,9 +37,9 @@ pub enum CaseEnd {
 pub enum OutputEnd {
     /// The sink failed. It holds a part of the text.
     WriteFault,
-    /// The run is spent. The text was written, or a part of it where the sink failed too.
+    /// The run is spent. The text was written, or a part of it where the sink failed too; that of a forecast was written.
     Spent,
-    /// There was no memory. Nothing was written.
+    /// There was no memory. Nothing was written, or a part of a forecast.
     NoMemory,
 }
 
@@ -142,6 +143,21 @@ pub fn of_print(printed: Result<(), PrintEnd>, ending: Ending) -> Result<(), Out
         (_, Ending::Spent) => Err(OutputEnd::Spent),
         (Err(PrintEnd::WriteFault), _) => Err(OutputEnd::WriteFault),
         (Ok(()), _) => Ok(()),
+    }
+}
+
+/// How a forecast was written. That its run is spent is known of one that was written whole.
+pub fn of_forecast(told: Result<Ending, ForecastFault>) -> Result<(), OutputEnd>
+    ensures good { IsOk result ↔ (IsOk told × (told ≢ Ok Ending.Spent)) }
+    ensures write_fault { (result ≡ Err OutputEnd.WriteFault) ↔ (told ≡ Err ForecastFault.WriteFault) }
+    ensures spent { (result ≡ Err OutputEnd.Spent) ↔ (told ≡ Ok Ending.Spent) }
+    ensures memory { (result ≡ Err OutputEnd.NoMemory) ↔ (told ≡ Err ForecastFault.NoMemory) }
+{
+    match told {
+        Ok(Ending::Spent) => Err(OutputEnd::Spent),
+        Ok(_) => Ok(()),
+        Err(ForecastFault::WriteFault) => Err(OutputEnd::WriteFault),
+        Err(ForecastFault::NoMemory) => Err(OutputEnd::NoMemory),
     }
 }
 

@@ -1,11 +1,12 @@
 //! The program's calls that start no thread: words go in, with a source and a sink, and a status comes out.
 //!
-//! The layer above finds by `route` which call serves the words, has `plain_top` serve `replay`, `check`, `law` and `audit`, and takes a
-//! status for its exit code by `code`. The calls that run over threads stand on `command_of`, `read_input`, `of_input_end` and
+//! The layer above finds by `route` which call serves the words, has `plain_top` serve `replay`, `forecast`, `check`, `law` and `audit`, and
+//! takes a status for its exit code by `code`. The calls that run over threads stand on `command_of`, `read_input`, `of_input_end` and
 //! `write_bulk`.
 //!
 //! ```text
 //! status, words   the words, the command that they are, and the status of a call
+//! number          a number among the words
 //! input, cut      what is read, whole, and where a text with a journal is cut
 //! output, law     what is written for a trace and for a law text
 //! case            a trace with a journal, judged
@@ -39,6 +40,7 @@ mod causes;
 mod cut;
 mod input;
 mod law;
+mod number;
 mod output;
 mod status;
 mod top;
@@ -49,4 +51,4 @@ pub use causes::{InputEnd, of_input_end};
 pub use input::read_input;
 pub use status::{Command, Route, Status, Words};
 pub use top::{code, plain_top, route};
-pub use words::command_of;
+pub use words::{MOST_EVERY, command_of};

@@ -6,10 +6,15 @@ ghost use Rattle.wbt_io.specs.Faults.{HasRisen};
 ghost use Rattle.wbt_io.specs.Told.{GainsPart};
 ghost use Rattle.wbt_trace.specs.Lawful.{IsLawful};
 ghost use Rattle.wbt_trace_text.specs.Writing.{trace_text};
+ghost use Rattle.wbt_forecast_run.specs.Run.{foretold};
+ghost use Rattle.wbt_top_plain.specs.Forecast.{IsEvery};
+ghost use Rattle.wbt_top_plain.specs.Foretold.{IsForecastRight, IsForecastSpent};
 ghost use Rattle.wbt_top_plain.specs.Top.{IsControlled, IsSpent, replay_text};
 
-use crate::causes::{OutputEnd, of_print};
+use crate::causes::{OutputEnd, of_forecast, of_print};
 use std::alloc::Global;
+use wbt_forecast::forecast;
+use wbt_forecast_run::laws::{as_replayed, rows_are_bounded, runs_end};
 use wbt_io::{Sink, write_all};
 use wbt_journal::print;
 use wbt_replay::replay;
@@ -33,6 +38,30 @@ pub fn write_replay<K: Sink>(alloc: Global, trace: &Trace, sink: &mut K) -> Resu
         return Err(OutputEnd::NoMemory);
     };
     of_print(print(alloc, &journal, sink), journal.ending)
+}
+
+/// Writes the forecast of the trace by intervals of so many ticks, while it is made. A fault of the sink, and want of memory, are told at
+/// once; that the run is spent is told after the whole text was written.
+pub fn write_forecast<K: Sink>(
+    alloc: Global,
+    trace: &Trace,
+    every: u64,
+    sink: &mut K,
+) -> Result<(), OutputEnd>
+    requires lawful { IsLawful trace.now }
+    requires ticks { IsEvery every }
+    ensures good { OnOk result (K.held sink.new ≡ append_known (K.held sink.old) (foretold trace.now every)) }
+    ensures controlled { IsForecastRight trace.now every }
+    ensures unspent { OnOk result (¬ IsForecastSpent trace.now every) }
+    ensures write_fault { IsErrOf result OutputEnd.WriteFault → HasRisen (K.faults sink.old) (K.faults sink.new) }
+    ensures part { IsErrOf result OutputEnd.WriteFault ⊎ IsErrOf result OutputEnd.NoMemory → GainsPart (K.held sink.old) (K.held sink.new) (foretold trace.now every) }
+    ensures spent { IsErrOf result OutputEnd.Spent → IsForecastSpent trace.now every }
+    ensures spent_whole { IsErrOf result OutputEnd.Spent → K.held sink.new ≡ append_known (K.held sink.old) (foretold trace.now every) }
+{
+    runs_end();
+    rows_are_bounded();
+    as_replayed();
+    of_forecast(forecast(alloc, trace, every, sink))
 }
 
 /// Writes the trace in its normal form.

@@ -27,6 +27,11 @@ pub enum Command {
     Run,
     /// Whether a journal is lawful for a trace.
     Audit,
+    /// The forecast of a trace's own order, by intervals of so many ticks.
+    Forecast {
+        /// The ticks of an interval.
+        every: u64,
+    },
     /// What became of the pages of a bulk run of so many.
     Bulk {
         /// The pages.
@@ -46,7 +51,7 @@ pub enum Route {
 }
 
 /// How a call ended. The words are looked at first, then the input is read whole, then its text, and last the output is
-/// written. Want of memory may come at any point.
+/// written; a forecast is written while it is made. Want of memory may come at any point.
 #[derive(Clone, Copy, Debug, PartialEq, Eq)]
 pub enum Status {
     /// All was written.
@@ -72,10 +77,12 @@ pub enum Status {
     WriteFault,
     /// A disk failed eight writes of its flusher in a run over threads. The text was written, or a part of it where the sink failed too.
     DiskFault,
-    /// There was no memory. Nothing was written.
+    /// There was no memory. Nothing was written, but by a forecast: what it had written before stays, which is a part of the text, from the
+    /// first byte on.
     NoMemory,
     /// The replay has a further step to make after 2^22 steps; or a CPU of a run over threads made 2^33 page steps. The text was
-    /// written, or a part of it where the sink failed too.
+    /// written, or a part of it where the sink failed too. Or the run of a forecast has a further step to make after all that it may make,
+    /// and the text was written.
     Spent,
     /// The source gave more than 2^26 bytes. Nothing was written.
     TooLong,
@@ -89,7 +96,7 @@ impl fmt::Display for Status {
             Status::Good => write!(f, "wbsim: ok"),
             Status::BadWords => write!(
                 f,
-                "wbsim: usage: wbsim replay, check, law, run, audit or bulk N"
+                "wbsim: usage: wbsim replay, check, law, run, audit, bulk N or forecast EVERY"
             ),
             Status::BadTrace(TraceFault::BadLine { line }) => {
                 write!(f, "wbsim: line {line}: bad line")

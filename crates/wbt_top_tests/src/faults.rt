@@ -9,7 +9,7 @@ use wbt_top_plain::Status;
 use wbt_trace_text::{Missing, TraceFault};
 
 // The empty trace, and a task that writes two pages.
-const TWO_PAGES: &str =
+pub(super) const TWO_PAGES: &str =
     "cpus 1\navail 0 100000\ndevice 0 25600 0 100\ncontext 0 0 0\ninode 0 0 2\ntask 0 0\nflusher 0 0 0\nwrite 0 0 0 2\n";
 
 const TWO_PAGES_TEXT: &str =

@@ -9,7 +9,7 @@ use wbt_top_plain::{Status, code};
 use wbt_trace_text::{Missing, TraceFault};
 
 // A trace that writes nothing, up to its flusher, and the flusher.
-const MACHINE: &str =
+pub(super) const MACHINE: &str =
     "cpus 1\navail 0 100000\ndevice 0 25600 0 100\ncontext 0 0 0\ninode 0 0 2\ntask 0 0\n";
 
 pub(super) const EMPTY: &str =

@@ -1,4 +1,4 @@
-use Rattle.std.proofs.Common.{◌≡◌, ◌∙◌, Result, Ok, Err, IsOk, OnOk, refl, ap}
+use Rattle.std.proofs.Common.{◌∙◌, Result, Ok, Err, IsOk, OnOk, refl, ap}
 use Rattle.wbt_top_plain.proofs.output.write_replay.Goals as goal
 
 on_ok : {T E P : Type 0} (r : Result T E) → (IsOk r → P) → OnOk r P

@@ -1,26 +1,29 @@
-use Rattle.std.proofs.Common.{Err, inr, ap}
+use Rattle.std.proofs.Common.{rules, Err, inr, ap}
 use Rattle.wbt_io.specs.Faults.{HasRisen}
 use Rattle.wbt_law.specs.Reading.{IsAnswer}
 use Rattle.wbt_top_plain.proofs.Each.{end_told, end_failed, is_told, no_fault, done}
 use Rattle.wbt_top_plain.proofs.top.law_top.Goals as goal
 
-pub returns-in-Err-clause-bad_law : goal.returns-in-Err-clause-bad_law
-returns-in-Err-clause-bad_law g c = λ fault is. let both = (c.of_input_end.ensures.bad_trace fault).0 is in (both.0, c.in-Err.ensures.refused fault (ap Err both.1) both.0)
+pub returns-in-Err-clause-law : goal.returns-in-Err-clause-law
+returns-in-Err-clause-law g c = record {
+  good = λ is. absurd (c.of_input_end.ensures.no_other.0 is);
+  part = λ is. absurd (c.of_input_end.ensures.no_other.2 is);
+  first = λ fault is. let both = (c.of_input_end.ensures.bad_trace fault).0 is in (both.0, c.in-Err.ensures.refused fault (ap Err both.1) both.0);
+  each_refused = λ calm. end_failed IsAnswer c.law_has_one_answer.ensures.one (g.S.Source.left c.args.source.now) c.in-Err.end c.of_input_end.result (HasRisen (g.S.Source.faults c.args.source.now) (g.S.Source.faults c.read_law_input.new.source))
+      (λ e. c.in-Err.ensures.read_fault (ap Err e)) (λ e. c.in-Err.ensures.too_long (ap Err e)) (λ fault e other. c.in-Err.ensures.refused fault (ap Err e) other)
+      c.of_input_end.ensures.memory c.of_input_end.ensures.bad_trace calm;
+  each = λ calm sunk. end_told IsAnswer c.law_has_one_answer.ensures.one (g.S.Source.left c.args.source.now) c.in-Err.end c.of_input_end.result (HasRisen (g.S.Source.faults c.args.source.now) (g.S.Source.faults c.read_law_input.new.source))
+      (λ e. c.in-Err.ensures.read_fault (ap Err e)) (λ e. c.in-Err.ensures.too_long (ap Err e)) (λ fault e other. c.in-Err.ensures.refused fault (ap Err e) other)
+      c.of_input_end.ensures.memory c.of_input_end.ensures.bad_trace calm _ (λ value none. inr none);
+}
 
-pub returns-in-Err-clause-each_bad_law : goal.returns-in-Err-clause-each_bad_law
-returns-in-Err-clause-each_bad_law g c = λ calm. end_failed IsAnswer c.law_has_one_answer.ensures.one (g.S.Source.left c.args.source.now) c.in-Err.end c.of_input_end.result (HasRisen (g.S.Source.faults c.args.source.now) (g.S.Source.faults c.read_law_input.new.source))
-    (λ e. c.in-Err.ensures.read_fault (ap Err e)) (λ e. c.in-Err.ensures.too_long (ap Err e)) (λ fault e other. c.in-Err.ensures.refused fault (ap Err e) other)
-    c.of_input_end.ensures.memory c.of_input_end.ensures.bad_trace calm
-
-pub returns-in-Ok-clause-each_bad_law : goal.returns-in-Ok-clause-each_bad_law
-returns-in-Ok-clause-each_bad_law g c = λ calm. no_fault IsAnswer c.law_has_one_answer.ensures.one (g.S.Source.left c.args.source.now) c.in-Ok.law _ c.in-Ok.ensures.found.told
-
-pub returns-in-Err-clause-each_decided : goal.returns-in-Err-clause-each_decided
-returns-in-Err-clause-each_decided g c = λ calm sunk. end_told IsAnswer c.law_has_one_answer.ensures.one (g.S.Source.left c.args.source.now) c.in-Err.end c.of_input_end.result (HasRisen (g.S.Source.faults c.args.source.now) (g.S.Source.faults c.read_law_input.new.source))
-    (λ e. c.in-Err.ensures.read_fault (ap Err e)) (λ e. c.in-Err.ensures.too_long (ap Err e)) (λ fault e other. c.in-Err.ensures.refused fault (ap Err e) other)
-    c.of_input_end.ensures.memory c.of_input_end.ensures.bad_trace calm _ (λ value none. inr none)
-
-pub returns-in-Ok-clause-each_decided : goal.returns-in-Ok-clause-each_decided
-returns-in-Ok-clause-each_decided g c = λ calm sunk. is_told IsAnswer c.law_has_one_answer.ensures.one (g.S.Source.left c.args.source.now) c.in-Ok.law _ c.in-Ok.ensures.found.told
-    (done c.write_law.result c.of_output.result c.of_output.ensures.memory c.of_output.ensures.good
-    (λ e. sunk (c.write_law.ensures.write_fault e)) (λ e. c.write_law.ensures.ends e))
+pub returns-in-Ok-clause-law : goal.returns-in-Ok-clause-law
+returns-in-Ok-clause-law g c = record {
+  good = search rules;
+  part = search rules;
+  first = λ fault is. absurd (c.of_output.ensures.not_trace fault is);
+  each_refused = λ calm. no_fault IsAnswer c.law_has_one_answer.ensures.one (g.S.Source.left c.args.source.now) c.in-Ok.law _ c.in-Ok.ensures.found.told;
+  each = λ calm sunk. is_told IsAnswer c.law_has_one_answer.ensures.one (g.S.Source.left c.args.source.now) c.in-Ok.law _ c.in-Ok.ensures.found.told
+      (done c.write_law.result c.of_output.result c.of_output.ensures.memory c.of_output.ensures.good
+      (λ e. sunk (c.write_law.ensures.write_fault e)) (λ e. c.write_law.ensures.ends e));
+}

@@ -22,6 +22,21 @@ returns-in-len2-clause-bulk c = λ n.
     (c.number-item.is ∙ ap (λ l. get_or l 1 number) c.as_slice.ensures) in
     let bytes : c.as_bytes-in-len2.result.now ≡ string_bytes word = c.as_bytes-in-len2.ensures.value in
     let text : c.as_str.result.now ≡ string_bytes number = c.as_str.ensures.value in (
-      (λ is. let told = (c.bulk_named.ensures.bulk n).0 is in record { spelled = words ∙ (λ i. (sym bytes ∙ told.0) i ∷ (sym text ∙ told.1) i ∷ []); size = told.2 }),
-      (λ is. let both = same_two (sym words ∙ is.spelled) in (c.bulk_named.ensures.bulk n).1 (bytes ∙ both.0, text ∙ both.1, is.size)),
+      (λ is. let told = (c.command_numbered.ensures.bulk n).0 is in record { spelled = words ∙ (λ i. (sym bytes ∙ told.0) i ∷ (sym text ∙ told.1) i ∷ []); size = told.2 }),
+      (λ is. let both = same_two (sym words ∙ is.spelled) in (c.command_numbered.ensures.bulk n).1 (bytes ∙ both.0, text ∙ both.1, is.size)),
+    )
+
+pub returns-in-len2-clause-forecast : goal.returns-in-len2-clause-forecast
+returns-in-len2-clause-forecast c = λ every.
+    let word = c.word-item-then-this-lt3.result in
+    let number = c.number-item.result in
+    let words : map string_bytes c.args.words.now.list ≡ string_bytes word ∷ string_bytes number ∷ [] =
+    two string_bytes c.args.words.now.list word number
+    (let long = ap length c.as_slice.ensures in omega (arith, long, c.in-len2.len_at_least, c.in-len2.len_below))
+    (c.word-item-then-this-lt3.is ∙ ap (λ l. get_or l 0 word) c.as_slice.ensures)
+    (c.number-item.is ∙ ap (λ l. get_or l 1 number) c.as_slice.ensures) in
+    let bytes : c.as_bytes-in-len2.result.now ≡ string_bytes word = c.as_bytes-in-len2.ensures.value in
+    let text : c.as_str.result.now ≡ string_bytes number = c.as_str.ensures.value in (
+      (λ is. let told = (c.command_numbered.ensures.forecast every).0 is in record { spelled = words ∙ (λ i. (sym bytes ∙ told.0) i ∷ (sym text ∙ told.1) i ∷ []); ticks = told.2 }),
+      (λ is. let both = same_two (sym words ∙ is.spelled) in (c.command_numbered.ensures.forecast every).1 (bytes ∙ both.0, text ∙ both.1, is.ticks)),
     )
