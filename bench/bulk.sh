@@ -10,9 +10,11 @@
 # a page.
 #
 # Then, for each number of pages, the processor time a page on all CPUs, of the least of three times as many runs as write 2000000 pages
-# together; and at last that of 2000000 pages beside that of 100000. The disks are cyclic: a scan goes on where the last one ended, and looks
-# at no page again that this one has cleaned. So the looks for a page don't grow with the inodes. We want a quotient of at most 1.3: the status
-# is 1 where it is above.
+# together; and at last that of 2000000 pages beside that of 100000. The disks are cyclic: a scan goes on where the last one ended. As long as
+# quotas close scans, none looks again at a page that the one before it has cleaned, and a page is looked at once. A scan that finds fewer dirty
+# pages than its quota passes all pages of its inode, clean ones too, which is a look more for each. It comes where a flusher has caught up with
+# the writer, and once after the last page of an inode, which the scan before it has marked again. So the looks for a page grow with the inodes
+# only where flushers wait for writers. We want a quotient of at most 1.3: the status is 1 where it is above.
 # Nothing here is proved, and no claim is made of speed.
 root=$(cd "$(dirname "$0")/.." && pwd) || exit 70
 binary=${1:-$root/crates/wbsim_top/out/wbsim_top}

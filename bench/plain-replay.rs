@@ -1,6 +1,9 @@
 //! A plain program of a replay, which bench/replay.sh compares with `wbsim replay`: it reads a lawful trace on standard input and prints the
 //! same journal. It has no proofs and judges no trace: of one that isn't lawful nothing is said. Nothing rests on it.
 //!
+//! With the words `forecast EVERY` it prints what `wbsim forecast EVERY` does, which bench/forecast.sh compares, and with a third word `steps` on
+//! standard error how many steps were made. It keeps no journal then. It doesn't ask whether moments could come too late.
+//!
 //! Its formulas are those of docs/LAWS.md, and its turns those of docs/FORMATS.md. A turn that has come to a step is kept as that step, and
 //! making the step gives the next one of the turn, if there is one. The lines of steps are kept as the text that is printed.
 
@@ -9,6 +12,7 @@ use std::io::{self, Read, Write};
 use std::process::ExitCode;
 
 const MOST_STEPS: usize = 1 << 22;
+const MOST_FORECAST_STEPS: usize = 1 << 40;
 const TIMER_REST: i64 = 200;
 const PERIOD: i64 = 3000;
 const FLUSHER_REST: i64 = 100;
@@ -446,7 +450,7 @@ struct Load {
 
 #[derive(Default)]
 struct Cpu {
-    log: Vec<u8>,
+    log: Text,
     own_domains: Vec<i64>,
     own_contexts: Vec<i64>,
     held: Vec<(i64, Limits)>,
@@ -541,9 +545,11 @@ struct Machine {
     ratelimit_pages: i64,
     all_least: i64,
     clock: i64,
-    steps: Vec<u8>,
+    steps: Text,
     many_steps: usize,
-    entries: Vec<u8>,
+    most_steps: usize,
+    entries: Text,
+    forecast: Option<Forecast>,
     running: usize,
     open_flushers: usize,
     stopped: usize,
@@ -559,7 +565,35 @@ struct Machine {
 
 // ---- text
 
-fn put_number(out: &mut Vec<u8>, number: i64) {
+/// A part of a journal, which a forecast doesn't keep.
+#[derive(Default)]
+struct Text {
+    bytes: Vec<u8>,
+    is_dropped: bool,
+}
+
+impl Text {
+    fn dropped() -> Text {
+        Text { bytes: Vec::new(), is_dropped: true }
+    }
+
+    fn push(&mut self, byte: u8) {
+        if !self.is_dropped {
+            self.bytes.push(byte);
+        }
+    }
+
+    fn extend_from_slice(&mut self, bytes: &[u8]) {
+        if !self.is_dropped {
+            self.bytes.extend_from_slice(bytes);
+        }
+    }
+}
+
+fn put_number(out: &mut Text, number: i64) {
+    if out.is_dropped {
+        return;
+    }
     let mut digits = [0; 20];
     let mut at = digits.len();
     let mut rest = number.unsigned_abs();
@@ -577,7 +611,7 @@ fn put_number(out: &mut Vec<u8>, number: i64) {
     out.extend_from_slice(&digits[at..]);
 }
 
-fn put(out: &mut Vec<u8>, word: &str, numbers: &[i64]) {
+fn put(out: &mut Text, word: &str, numbers: &[i64]) {
     out.extend_from_slice(word.as_bytes());
     for &number in numbers {
         out.push(b' ');
@@ -585,10 +619,73 @@ fn put(out: &mut Vec<u8>, word: &str, numbers: &[i64]) {
     }
 }
 
-fn put_line(out: &mut Vec<u8>, word: &str, numbers: &[i64]) {
+fn put_line(out: &mut Text, word: &str, numbers: &[i64]) {
     put(out, word, numbers);
     out.push(b'\n');
 }
+
+// ---- a forecast
+
+/// What a task did in an interval.
+#[derive(Clone, Copy, Default)]
+struct Tally {
+    pages: i64,
+    checks: i64,
+    pauses: i64,
+    ticks: i64,
+    longest: i64,
+}
+
+/// What an interval has come to so far.
+struct Forecast {
+    every: i64,
+    has_steps: bool,
+    most: Vec<i64>,
+    dirtied: Vec<i64>,
+    written: Vec<i64>,
+    tasks: Vec<Tally>,
+    out: Text,
+}
+
+impl Forecast {
+    fn of(machine: &Machine, every: i64) -> Forecast {
+        Forecast {
+            every,
+            has_steps: false,
+            most: vec![0; machine.domains.len()],
+            dirtied: vec![0; machine.contexts.len()],
+            written: vec![0; machine.contexts.len()],
+            tasks: vec![Tally::default(); machine.tasks.len()],
+            out: Text::default(),
+        }
+    }
+
+    fn step(&mut self, domains: &[Domain]) {
+        if !self.has_steps {
+            self.has_steps = true;
+            self.most.iter_mut().for_each(|most| *most = 0);
+        }
+        for (most, it) in self.most.iter_mut().zip(domains) {
+            *most = (*most).max(it.exact);
+        }
+    }
+
+    fn write(&mut self, task: usize, context: usize, is_fresh: bool) {
+        self.tasks[task].pages += 1;
+        self.dirtied[context] += i64::from(is_fresh);
+    }
+
+    fn check(&mut self, task: usize, pause: i64) {
+        let it = &mut self.tasks[task];
+        it.checks += 1;
+        it.pauses += i64::from(pause > 0);
+        it.ticks += pause;
+        it.longest = it.longest.max(pause);
+    }
+}
+
+/// The output failed.
+struct Fault;
 
 // ---- reading a trace
 
@@ -718,9 +815,11 @@ fn read(text: &str) -> Option<Machine> {
         ratelimit_pages: 0,
         all_least,
         clock: 1,
-        steps: Vec::new(),
+        steps: Text::default(),
         many_steps: 0,
-        entries: Vec::new(),
+        most_steps: MOST_STEPS,
+        entries: Text::default(),
+        forecast: None,
         running,
         stopped: 0,
         is_spent: false,
@@ -800,6 +899,10 @@ impl Machine {
 
     fn tell(&mut self, who: usize, kind: &str) {
         self.many_steps += 1;
+        if let Some(forecast) = &mut self.forecast {
+            forecast.step(&self.domains);
+            return;
+        }
         put(&mut self.steps, "step", &[self.many_steps as i64]);
         if who == self.cpus.len() {
             self.steps.extend_from_slice(b" timer ");
@@ -992,6 +1095,9 @@ impl Machine {
         let pages = count.count.max(0);
         let it = decide(is_strict, &both[..=usize::from(group != 0)], pages, &estimate, writer.task, self.clock, self.error, self.cap);
         (writer.task, writer.left, writer.exceeded, writer.due) = (it.task, it.left, it.exceeded, it.kind == "wait");
+        if let Some(forecast) = &mut self.forecast {
+            forecast.check(number, it.pause);
+        }
         let log = &mut self.cpus[cpu].log;
         put_line(log, "count", &[context as i64, count.version, count.count]);
         put(log, "check", &[number as i64, context as i64, self.clock, estimate.version]);
@@ -1015,6 +1121,10 @@ impl Machine {
             task.actions.pop_front();
         }
         let is_fresh = self.bits(written) & 1 == 0;
+        let context = self.inodes[inode].context;
+        if let Some(forecast) = &mut self.forecast {
+            forecast.write(number, context, is_fresh);
+        }
         let log = &mut self.cpus[cpu].log;
         put(log, "write", &[number as i64, written as i64]);
         log.extend_from_slice(if is_fresh { b" fresh\n" } else { b" already\n" });
@@ -1022,7 +1132,6 @@ impl Machine {
             self.tell(cpu, "dirty");
             return self.end_turn(cpu, number);
         }
-        let context = self.inodes[inode].context;
         self.flip(written, 1);
         self.fresh += 1;
         self.change(context, 1);
@@ -1332,6 +1441,9 @@ impl Machine {
         self.flip(page, 2);
         put_line(&mut self.cpus[cpu].log, "done", &[flusher as i64, page as i64]);
         self.done += 1;
+        if let Some(forecast) = &mut self.forecast {
+            forecast.written[context] += 1;
+        }
         self.change(context, -1);
         self.tell(cpu, "complete");
         Some(Step::Settle { context, change: -1, place: 0, stage: Change::Add, after: After::Landing { flusher } })
@@ -1492,7 +1604,7 @@ impl Machine {
             self.stopped += 1;
             let open = |it: &Flusher| it.cpu == who && it.phase != Phase::Finished;
             self.open_flushers -= self.flushers.iter().filter(|it| open(it)).count();
-        } else if self.many_steps == MOST_STEPS {
+        } else if self.many_steps == self.most_steps {
             self.is_spent = true;
         } else if is_cpu {
             self.cpus[who].made += 1;
@@ -1538,12 +1650,12 @@ impl Machine {
         tasks.chain(flushers).chain(timer).filter(|&moment| moment > self.clock).min()
     }
 
-    fn run(&mut self) {
+    fn run(&mut self) -> Result<(), Fault> {
         for order in std::mem::take(&mut self.orders) {
             match order {
                 Order::Cpu(cpu, steps) => self.stretch(cpu, steps),
                 Order::Timer(steps) => self.stretch(self.cpus.len(), steps),
-                Order::Tick(ticks) => self.clock += ticks,
+                Order::Tick(ticks) => self.come(self.clock + ticks)?,
             }
         }
         while !self.is_over() {
@@ -1553,23 +1665,72 @@ impl Machine {
             }
             if !has_moved {
                 let Some(moment) = self.next_moment() else {
-                    return;
+                    break;
                 };
-                self.clock = moment;
+                self.come(moment)?;
             }
         }
+        self.tell_interval()
+    }
+
+    /// The clock comes to a later moment, and may leave the interval.
+    fn come(&mut self, moment: i64) -> Result<(), Fault> {
+        if self.forecast.as_ref().is_some_and(|it| moment / it.every > self.clock / it.every) {
+            self.tell_interval()?;
+        }
+        self.clock = moment;
+        Ok(())
+    }
+
+    /// Goes on by intervals of so many ticks, and keeps no journal.
+    fn begin_forecast(&mut self, every: i64) -> Result<(), Fault> {
+        (self.steps, self.entries) = (Text::dropped(), Text::dropped());
+        self.cpus.iter_mut().for_each(|cpu| cpu.log = Text::dropped());
+        self.most_steps = MOST_FORECAST_STEPS;
+        let mut forecast = Forecast::of(self, every);
+        put_line(&mut forecast.out, "forecast", &[every]);
+        send(&mut forecast.out)?;
+        self.forecast = Some(forecast);
+        Ok(())
+    }
+
+    /// Tells the interval that the clock is in, where a step was made in it.
+    fn tell_interval(&mut self) -> Result<(), Fault> {
+        let Some(told) = &mut self.forecast else {
+            return Ok(());
+        };
+        if !told.has_steps {
+            return Ok(());
+        }
+        put_line(&mut told.out, "from", &[self.clock / told.every]);
+        for (number, it) in self.domains.iter().enumerate() {
+            put_line(&mut told.out, "domain", &[number as i64, it.exact, told.most[number], it.limits.hard, it.peak + it.base]);
+        }
+        for (number, it) in self.contexts.iter().enumerate() {
+            let Estimate { bandwidth, average, ratelimit, .. } = it.estimate;
+            put_line(&mut told.out, "context", &[number as i64, told.dirtied[number], told.written[number], bandwidth, average, ratelimit]);
+            (told.dirtied[number], told.written[number]) = (0, 0);
+        }
+        for (number, it) in told.tasks.iter_mut().enumerate() {
+            if it.pages > 0 || it.checks > 0 {
+                put_line(&mut told.out, "task", &[number as i64, it.pages, it.checks, it.pauses, it.ticks, it.longest]);
+                *it = Tally::default();
+            }
+        }
+        told.has_steps = false;
+        send(&mut told.out)
     }
 
     fn print(&self, out: &mut impl Write) -> io::Result<()> {
         out.write_all(b"timer\n")?;
-        out.write_all(&self.entries)?;
+        out.write_all(&self.entries.bytes)?;
         for (number, cpu) in self.cpus.iter().enumerate() {
             writeln!(out, "cpu {number}")?;
-            out.write_all(&cpu.log)?;
+            out.write_all(&cpu.log.bytes)?;
         }
         if self.many_steps > 0 {
             out.write_all(b"steps\n")?;
-            out.write_all(&self.steps)?;
+            out.write_all(&self.steps.bytes)?;
         }
         let (mut dirty, mut writeback) = (0, 0);
         for page in 0..self.words.len() * 32 {
@@ -1589,12 +1750,33 @@ impl Machine {
                 writeln!(out, "strict {number} {} {bound}", it.most)?;
             }
         }
-        let ending = if self.is_spent { "spent" } else if self.stopped > 0 { "halted" } else { "done" };
-        writeln!(out, "end {ending}")
+        writeln!(out, "end {}", self.ending())
+    }
+
+    fn ending(&self) -> &'static str {
+        if self.is_spent { "spent" } else if self.stopped > 0 { "halted" } else { "done" }
+    }
+
+    /// What is told at the end of a forecast.
+    fn print_totals(&self, out: &mut impl Write) -> io::Result<()> {
+        writeln!(out, "totals {} {}\nend {}", self.fresh, self.done, self.ending())
     }
 }
 
+/// Writes a text, which is empty then.
+fn send(text: &mut Text) -> Result<(), Fault> {
+    let done = io::stdout().lock().write_all(&text.bytes).and_then(|()| io::stdout().flush());
+    text.bytes.clear();
+    done.map_err(|_| Fault)
+}
+
 fn main() -> ExitCode {
+    let words: Vec<String> = std::env::args().skip(1).collect();
+    let every: Option<i64> = match words.first().map(String::as_str) {
+        None => None,
+        Some("forecast") => words.get(1).and_then(|every| every.parse().ok()),
+        Some(_) => return ExitCode::from(1),
+    };
     let mut text = String::new();
     if io::stdin().read_to_string(&mut text).is_err() {
         return ExitCode::from(3);
@@ -1602,9 +1784,17 @@ fn main() -> ExitCode {
     let Some(mut machine) = read(&text) else {
         return ExitCode::from(2);
     };
-    machine.run();
-    if machine.print(&mut io::stdout().lock()).is_err() {
+    let begun = every.map_or(Ok(()), |every| machine.begin_forecast(every));
+    if begun.and_then(|()| machine.run()).is_err() {
         return ExitCode::from(4);
+    }
+    let out = &mut io::stdout().lock();
+    let printed = if every.is_some() { machine.print_totals(out) } else { machine.print(out) };
+    if printed.is_err() {
+        return ExitCode::from(4);
+    }
+    if words.get(2).is_some() {
+        eprintln!("{}", machine.many_steps);
     }
     ExitCode::from(if machine.is_spent { 7 } else { 0 })
 }

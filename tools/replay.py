@@ -15,6 +15,7 @@ from bisect import insort
 sys.dont_write_bytecode = True
 sys.path.insert(0, os.path.dirname(os.path.realpath(__file__)))
 
+from journals.ranges import EVERY  # noqa: E402
 from journals.trace import RestAction, Tick  # noqa: E402
 from journals.trace_reader import trace_of  # noqa: E402
 from journals.whole_text import WholeText, read_whole  # noqa: E402
@@ -34,9 +35,6 @@ from program.statuses import Status, sentence  # noqa: E402
 
 MOST_STEPS = 1 << 22
 LAST_MOMENT = 1 << 63
-MOST_EVERY = 10**9
-"""Ticks of the longest interval of a forecast."""
-
 TIMER_REST, PERIOD, FLUSHER_REST = 200, 3000, 100
 
 
@@ -628,14 +626,14 @@ def words():
     given = parser.parse_args()
     if not given.words:
         return given.as_wbsim, None
-    if len(given.words) != 2 or given.words[0] != "forecast" or not is_number(given.words[1], 1, MOST_EVERY):
+    if len(given.words) != 2 or given.words[0] != "forecast" or not is_number(given.words[1], EVERY):
         parser.error(f"other words: {' '.join(given.words)}")
     return given.as_wbsim, int(given.words[1])
 
 
-def is_number(text, least, most):
+def is_number(text, within):
     """Whether a text is a number in a range, spelled as in a trace."""
-    return re.fullmatch("0|[1-9][0-9]{0,17}", text) is not None and least <= int(text) <= most
+    return re.fullmatch("0|[1-9][0-9]{0,17}", text) is not None and within.least <= int(text) <= within.greatest
 
 
 def machine_of(text, every):
@@ -668,7 +666,8 @@ def main():
         # What is left in the buffer can't be written either. Python would complain when it closes standard output.
         os.dup2(os.open(os.devnull, os.O_WRONLY), sys.stdout.fileno())
         if as_wbsim:
-            return ended_as_wbsim(WriteFault(str(error)), machine)
+            # A forecast ends where its output fails.
+            return ended_as_wbsim(WriteFault(str(error)), machine if every is None else None)
         return Status.WRITE_FAULT if isinstance(error, BrokenPipeError) else say(f"replay.py: write fault: {error}", Status.WRITE_FAULT)
     except MemoryError:
         if as_wbsim:
@@ -678,7 +677,7 @@ def main():
 
 
 def ended_as_wbsim(error, machine=None):
-    """Says what wbsim says, and answers its status, which of a spent run is its own even where the output failed."""
+    """Says what wbsim says, and answers its status, which of a spent replay is its own even where the output failed."""
     if machine and machine.spent:
         return say("wbsim: spent", SPENT)
     if isinstance(error, Fault) and error.cause is Cause.TOO_LONG:

@@ -3,10 +3,10 @@
 _wbsim() {
     local word=${COMP_WORDS[COMP_CWORD]} before=${COMP_WORDS[COMP_CWORD - 1]} answers=
     if [ "$COMP_CWORD" -eq 1 ]; then
-        answers="replay check law run audit bulk --version --help"
+        answers="replay forecast check law run audit bulk --version --help"
     elif [ "$before" != -o ] && [ "${word:0:1}" = - ]; then
         answers="-o"
-    elif [ "$before" != -o ] && [ "$before" != bulk ]; then
+    elif [ "$before" != -o ] && [ "$before" != bulk ] && [ "$before" != forecast ]; then
         # The texts of a command and folders on the way there; any file where there is none of them.
         local ending=trace
         [ "${COMP_WORDS[1]}" != law ] || ending=law

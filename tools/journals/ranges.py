@@ -1,4 +1,4 @@
-"""The ranges of numbers in a trace and a law text, and what is said of a number outside."""
+"""The ranges of numbers in a trace and a law text, and of the intervals of a forecast, and what is said of a number outside."""
 from __future__ import annotations
 
 from dataclasses import dataclass
@@ -23,3 +23,4 @@ class Range:
 
 CPUS = Range("number of CPUs", 1, 64)
 CAP = Range("cap", 1, 1024)
+EVERY = Range("length of an interval of a forecast", 1, 10**9)

@@ -64,10 +64,30 @@ class Span:
             sums.append(sum(max(after[0] - before[0], 0) * before[1] for before, after in zip(ended, ended[1:])) / length)
         return sum(sums) / max(len(sums), 1)
 
-    def fallen(self) -> tuple[int, int]:
+    def fallen(self) -> tuple[int, int] | None:
         """How many rate limits are below the one before, and how many there are that have one before."""
         pairs = [pair for points in self.rate_limits.values() for pair in zip(points, points[1:])]
         return sum(after[1] < before[1] for before, after in pairs), len(pairs)
+
+    def many(self) -> int:
+        """Pauses of all writers."""
+        return len(self.pauses)
+
+    def pause(self) -> float:
+        """The mean pause, in seconds."""
+        return sum(length for *_, length in self.pauses) / max(len(self.pauses), 1)
+
+    def longest(self) -> float:
+        """The longest pause, in seconds."""
+        return max((length for *_, length in self.pauses), default=0.0)
+
+    def at_rate_of_0(self) -> float | None:
+        """Which part of the pauses is at a rate of 0, in percent."""
+        return 100 * self.waits / max(len(self.pauses), 1)
+
+    def bars(self) -> list[tuple[str, float, float, float]]:
+        """What is drawn of the pauses: task, begin, width, and how long one is."""
+        return [(task, begin, length, length) for task, begin, length in self.pauses]
 
 
 def of_kernel(story: Story, longest: float | None = None) -> Span:
@@ -159,17 +179,20 @@ class Row(NamedTuple):
 
 def rows(spans: Sequence[Span]) -> list[Row]:
     """The table."""
-    fell = Row("  estimates that fell, of all", ["{} of {}".format(*it.fallen()) for it in spans], "")
+    fell = Row("  estimates that fell, of all", ["{} of {}".format(*found) if (found := it.fallen()) else UNTOLD for it in spans], "")
     return [*(row_of(name, [of(it) for it in spans], digits) for name, digits, of in NUMBERS), fell]
 
 
-def row_of(name: str, values: list[float], digits: int) -> Row:
+UNTOLD = "not told"
+
+
+def row_of(name: str, values: list[float | None], digits: int) -> Row:
     """The row of some values with so many digits behind the point."""
-    quotient = f"{values[1] / values[0]:.2f}" if len(values) == 2 and values[0] else ""
-    return Row(name, [f"{value:.{digits}f}" for value in values], quotient)
+    quotient = f"{values[1] / values[0]:.2f}" if len(values) == 2 and values[0] and values[1] is not None else ""
+    return Row(name, [UNTOLD if value is None else f"{value:.{digits}f}" for value in values], quotient)
 
 
-NUMBERS: list[tuple[str, int, Callable[[Span], float]]] = [
+NUMBERS: list[tuple[str, int, Callable[[Span], float | None]]] = [
     ("seconds", 1, lambda it: it.seconds),
     ("checks that aren't free", 0, lambda it: it.checks),
     ("pages of the domain, mean", 0, lambda it: it.level()),
@@ -179,10 +202,10 @@ NUMBERS: list[tuple[str, int, Callable[[Span], float]]] = [
     ("  hard limit", 0, lambda it: it.limits[3]),
     ("pages written a second", 0, lambda it: it.written),
     ("time paused of a writer, %", 1, lambda it: it.paused()),
-    ("pauses a second of a writer", 1, lambda it: len(it.pauses) / it.seconds / max(len(it.writers), 1)),
-    ("a pause, mean, ms", 1, lambda it: 1000 * sum(length for *_, length in it.pauses) / max(len(it.pauses), 1)),
-    ("  longest, ms", 0, lambda it: 1000 * max((length for *_, length in it.pauses), default=0)),
-    ("  at a rate of 0, %", 1, lambda it: 100 * it.waits / max(len(it.pauses), 1)),
+    ("pauses a second of a writer", 1, lambda it: it.many() / it.seconds / max(len(it.writers), 1)),
+    ("a pause, mean, ms", 1, lambda it: 1000 * it.pause()),
+    ("  longest, ms", 0, lambda it: 1000 * it.longest()),
+    ("  at a rate of 0, %", 1, lambda it: it.at_rate_of_0()),
     ("rate limit, mean, pages/s", 0, lambda it: it.rate_limit()),
 ]
 """What each row but the last says: its name, how many digits stand behind the point, and its value."""

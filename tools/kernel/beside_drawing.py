@@ -58,17 +58,18 @@ def draw_rates(spans: Sequence[Span], axes: Any) -> None:
 
 
 def draw_pauses(tasks: Sequence[tuple[Span, str]], spans: Sequence[Span], axes: Any) -> None:
-    """A row for each writer, and in it each pause: as wide as it is long, and as high as the root of that."""
+    """A row for each writer, and in it each pause: as wide as it is long, and as high as the root of that. Of a forecast it is a bar for each
+    interval, as wide as its pauses are long together, for their mean."""
     from matplotlib.collections import PolyCollection
 
     rows = {(span.name, writer): row for row, (span, writer) in enumerate(tasks)}
-    longest = max((length for span in spans for *_, length in span.pauses), default=1.0)
+    longest = max((length for span in spans for *_, length in span.bars()), default=1.0)
     for span, color in zip(spans, COLORS):
         bars = []
-        for task, begin, length in span.pauses:
+        for task, begin, width, length in span.bars():
             foot = rows[span.name, task] + ROW / 2
             top = foot - ROW * (length / longest) ** 0.5
-            bars.append([(begin, foot), (begin, top), (begin + length, top), (begin + length, foot)])
+            bars.append([(begin, foot), (begin, top), (begin + width, top), (begin + width, foot)])
         axes.add_collection(PolyCollection(bars, facecolors=color, edgecolors=color, linewidths=0.2, label=f"pause, {span.name}"))
     axes.set_ylim(len(tasks) - 0.45, -0.55)
     axes.set_yticks(range(len(tasks)), [f"{span.name}, {writer}" for span, writer in tasks], fontsize=8)

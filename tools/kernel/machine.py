@@ -91,8 +91,8 @@ class Machine:
     notes: list[str] = field(default_factory=list)
 
 
-def machine_of(story: Story, seconds: float | None = None, chunk: int = CHUNK) -> Machine:
-    """The machine of a text, or of its first so many seconds."""
+def machine_of(story: Story, seconds: float | None = None, chunk: int = CHUNK, is_forecast: bool = False) -> Machine:
+    """The machine of a text, or of its first so many seconds. For a forecast it has as many pages as a trace may have, else as a replay."""
     begin = story.checks[0].check.time
     end = begin + seconds if seconds else story.checks[-1].check.time
     states = [it for it in story.text.states if begin <= it.time <= end]
@@ -111,7 +111,8 @@ def machine_of(story: Story, seconds: float | None = None, chunk: int = CHUNK) -
     scale = dirtied / own if is_own and dirtied else 1.0
     contexts = list(contexts_of(story, checks))
     others = others_of(checks, contexts, states, 0 if is_own else dirtied - own)
-    writers = with_more(list(writers_of(checks, span, scale)), sum(it.pages for it in contexts), others, notes)
+    most = MOST_PAGES_OF_TRACE if is_forecast else min(MOST_PAGES, MOST_PAGES_OF_TRACE)
+    writers = with_more(list(writers_of(checks, span, scale)), most - sum(it.pages for it in contexts), others, notes)
     devices = devices_of(checks, states, scale, others)
     cpus = min(1 + max(line.cpu for line in story.text.lines), MOST_CPUS)
     machine = Machine(cpus, limits, devices, cgroups_of(checks), contexts, writers, others, chunk, notes)
@@ -224,14 +225,15 @@ def pace_of(rate: float) -> tuple[int, int]:
     return max(round(rate * rest / 1000), 1), rest
 
 
-def with_more(writers: list[WriterOf], opening: int, others: OthersOf | None, notes: list[str]) -> list[WriterOf]:
-    """Each with pages to the end, but no more than a replay has steps for."""
+def with_more(writers: list[WriterOf], most: int, others: OthersOf | None, notes: list[str]) -> list[WriterOf]:
+    """Each with pages to the end, but together no more than there is room for."""
     wanted = sum(it.pages for it in writers)
-    room = min(MOST_PAGES, MOST_PAGES_OF_TRACE) - opening - (others.opening + others.pages if others else 0)
+    room = most - (others.opening + others.pages if others else 0)
     if room < wanted // 2:
-        raise OtherWords(f"the text has {wanted} pages of its writers, and a replay has steps for {max(room, 0)}: --seconds takes fewer")
+        raise OtherWords(f"the text has {wanted} pages of its writers, and there is room for {max(room, 0)}: --seconds takes fewer, and a trace for a "
+                         "--forecast has more")
     if room < wanted:
-        notes.append(f"cut to {room} of {wanted} pages, which a replay has steps for")
+        notes.append(f"cut to {room} of {wanted} pages, for which there is room")
     more = [round(MARGIN * it.pages) + SPARE for it in writers]
     whole = max(sum(more), room)
     return [replace(it, pages=max(pages * room // whole, 1)) for it, pages in zip(writers, more)]

@@ -22,6 +22,9 @@ MOST_SCALE = 1 << 20
 PAGES_OF_A_REPLAY = 400_000
 """As many pages as a replay has steps for."""
 
+FILE = 4096
+"""Pages of a file in a trace for a forecast, at most. A scan looks at each page of a file, and there may be millions."""
+
 REST = 10
 """Ticks of a job's rest, at least, where it has a rate."""
 
@@ -34,16 +37,21 @@ class Made:
     about: list[str] = field(default_factory=list)
 
 
-def make(seen: Seen, disk: Disk, jobs: Jobs | None, scale: int | None) -> Made:
-    """The trace of a machine. Without a scale the least power of two is taken by which all fits."""
+def make(seen: Seen, disk: Disk, jobs: Jobs | None, scale: int | None, is_forecast: bool = False) -> Made:
+    """The trace of a machine. Without a scale the least power of two is taken by which all fits: into a replay, or into a trace, of which a forecast
+    is made."""
+    pages = most.MOST_PAGES if is_forecast else PAGES_OF_A_REPLAY
     if scale is None:
         scale = 1
-        while scale < MOST_SCALE and (fault := too_large(seen, disk, jobs, scale)):
+        while scale < MOST_SCALE and too_large(seen, disk, jobs, scale, pages):
             scale *= 2
-    if fault := too_large(seen, disk, jobs, scale):
+    if fault := too_large(seen, disk, jobs, scale, pages):
         raise OtherWords(f"out of range: {fault} (--scale divides pages and rates)")
-    made = Made(list(lines(seen, disk, jobs, scale)))
+    file = FILE if is_forecast else None
+    made = Made(list(lines(seen, disk, jobs, scale, file)))
     made.about = list(about(seen, disk, jobs, scale))
+    if file:
+        made.about.append(f"files have at most {file} pages: a scan looks at each page of a file")
     return made
 
 
@@ -57,8 +65,8 @@ def settings(seen: Seen, scale: int) -> dict[str, int]:
     return {name: value // scale if name.endswith("bytes") else value for name, value in seen.sysctls.items()}
 
 
-def too_large(seen: Seen, disk: Disk, jobs: Jobs | None, scale: int) -> str:
-    """What a trace of this scale can't have, or nothing."""
+def too_large(seen: Seen, disk: Disk, jobs: Jobs | None, scale: int, most_pages: int) -> str:
+    """What a trace of this scale can't have, or more pages than these; or nothing."""
     for name in ("dirty", "dirty_background"):
         thresh = threshold_of(seen, name, scale)
         if thresh > GREATEST_LIMIT:
@@ -67,8 +75,8 @@ def too_large(seen: Seen, disk: Disk, jobs: Jobs | None, scale: int) -> str:
     if rate > most.RATE.greatest:
         return f"a disk of {rate} pages a second; a trace has at most {most.RATE.greatest}"
     pages = sum(down(ceil_pages(job.size), scale) * job.many for job in jobs.jobs) if jobs else 0
-    if pages > PAGES_OF_A_REPLAY:
-        return f"{pages} pages of files; a replay has steps for some {PAGES_OF_A_REPLAY}"
+    if pages > most_pages:
+        return f"{pages} pages of files; {'a replay has steps for some' if most_pages == PAGES_OF_A_REPLAY else 'a trace has at most'} {most_pages}"
     return ""
 
 
@@ -84,8 +92,8 @@ def ceil_pages(size: int) -> int:
     return -(-size // PAGE)
 
 
-def lines(seen: Seen, disk: Disk, jobs: Jobs | None, scale: int) -> Iterator[str]:
-    """The trace."""
+def lines(seen: Seen, disk: Disk, jobs: Jobs | None, scale: int, file: int | None = None) -> Iterator[str]:
+    """The trace, in which each task has one file, or as many as it needs of so many pages."""
     cpus = min(max(seen.cpus, CPUS.least), CPUS.greatest)
     yield f"cpus {cpus}"
     for name, value in settings(seen, scale).items():
@@ -96,12 +104,17 @@ def lines(seen: Seen, disk: Disk, jobs: Jobs | None, scale: int) -> Iterator[str
     if is_told(seen):
         yield f"expire 0 {seen.expire}"
     tasks = [job for job in jobs.jobs for _ in range(job.many)] if jobs else []
+    files, inode = [], 0
     for number, job in enumerate(tasks):
-        yield f"inode {number} 0 {down(ceil_pages(job.size), scale)}"
+        pages = down(ceil_pages(job.size), scale)
+        files.append(Files(inode, file or pages))
+        for first in range(0, pages, file or pages):
+            yield f"inode {inode} 0 {min(file or pages, pages - first)}"
+            inode += 1
         yield f"task {number} {number % cpus}"
     yield f"flusher 0 0 {cpus - 1}"
     for number, job in enumerate(tasks):
-        yield from actions(number, job, scale, len(tasks))
+        yield from actions(number, job, scale, len(tasks), files[number])
 
 
 def is_told(seen: Seen) -> bool:
@@ -109,18 +122,34 @@ def is_told(seen: Seen) -> bool:
     return most.EXPIRE.least <= seen.expire <= most.EXPIRE.greatest
 
 
-def actions(task: int, job: Job, scale: int, tasks: int) -> Iterator[str]:
+@dataclass(frozen=True)
+class Files:
+    """The files of a task: the first inode, and the pages of each but the last."""
+
+    first: int
+    pages: int
+
+    def writes(self, task: int, page: int, many: int) -> Iterator[str]:
+        """The lines that write so many pages from one on, as if all files were one."""
+        while many:
+            file, place = divmod(page, self.pages)
+            some = min(many, self.pages - place)
+            yield f"write {task} {self.first + file} {place} {some}"
+            page, many = page + some, many - some
+
+
+def actions(task: int, job: Job, scale: int, tasks: int, files: Files) -> Iterator[str]:
     """A task's writes, with rests where its job has a rate."""
     pages = down(ceil_pages(job.size), scale)
     if job.rate is None:
-        yield f"write {task} {task} 0 {pages}"
+        yield from files.writes(task, 0, pages)
         return
     rate = job.rate / PAGE / scale
     fewest = -(-pages * 2 * tasks // most.MOST_ACTIONS)
     at_once = max(ceil_pages(job.call) // scale, round(rate * REST / 1000), fewest, 1)
     rest = max(round(1000 * at_once / rate), 1)
     for first in range(0, pages, at_once):
-        yield f"write {task} {task} {first} {min(at_once, pages - first)}"
+        yield from files.writes(task, first, min(at_once, pages - first))
         yield f"rest {task} {rest}"
 
 

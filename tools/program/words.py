@@ -21,6 +21,7 @@ WORDS = (
     Word("annotate", "journals.words.annotate", "each line with a sentence of what it says"),
     Word("why", "journals.words.why", "why a trace or a law text is refused: line, column and fault"),
     Word("explain", "laws.words.explain", "the decision of a law text, with every number behind it, one line each"),
+    Word("forecast", "forecasting.words.forecast", "a run of any length by intervals: tables by task, domain and context, and a picture"),
     Word("sweep", "search.words.sweep", "one parameter of a trace over values: a replay for each, a table and a picture"),
     Word("study", "study.words.study", "a study, which is a file: traces, parameters over values, repeats; a table with a line a run"),
     Word("plot-study", "study.words.plot_study", "pictures of such a table: lines over one variable, a map over two"),

@@ -18,6 +18,13 @@ example_sum() {
     judge "$1 $(basename "$2")" 0 "$status" "" "$3"
 }
 
+# INPUT OUTPUT: likewise a forecast, whose output begins with how long its intervals are.
+example_forecast() {
+    [ -f "$2" ] || return
+    read -r _ every < "$2"
+    expect "forecast $every $(basename "$1")" 0 "" "$2" forecast "$every" < "$1"
+}
+
 for input in "$root"/examples/*.trace; do
     [ -f "${input%.trace}.journal" ] || [ -f "${input%.trace}.sum" ] || [ -f "${input%.trace}.out" ] || {
         echo "differs: $(basename "$input"): no output beside it"
@@ -26,6 +33,7 @@ for input in "$root"/examples/*.trace; do
     example replay "$input" "${input%.trace}.journal"
     example_sum replay "$input" "${input%.trace}.sum"
     example check "$input" "${input%.trace}.out"
+    example_forecast "$input" "${input%.trace}.forecast"
 done
 for input in "$root"/examples/*.law; do
     example law "$input" "${input%.law}.out"

@@ -1,13 +1,19 @@
 # Words that are no command.
 
-usage="wbsim: usage: wbsim replay, check, law, run, audit or bulk N"
+usage="wbsim: usage: wbsim replay, check, law, run, audit, bulk N or forecast EVERY"
 
 # The script refuses them before it compiles anything. A word after a command may be a file there, and --help is its own.
-for words in '' Replay --help bulk 'bulk 3' 'bulk 07' 'bulk +7' 'bulk 2097153' 'bulk 7 7' 'run x' 'audit x' 'replay check'; do
+# A sign stands for a space in these.
+forecasts='forecast forecast=0 forecast=01 forecast=1000000001 forecast=+1'
+for words in '' Replay --help bulk 'bulk 3' 'bulk 07' 'bulk +7' 'bulk 2097153' 'bulk 7 7' 'run x' 'audit x' 'replay check' \
+    'forecast 1 2' $forecasts; do
+    words=$(echo "$words" | tr = ' ')
     # Each list of words is split at its spaces.
     expect "words '$words'" 1 "$usage" /dev/null $words < "$root/examples/empty.trace"
 done
-for words in '' Replay bulk 'bulk 3' 'bulk 07' 'bulk +7' 'bulk 2097153' 'bulk 7 7' 'run x y' 'run -x' 'audit x y z' '--version x'; do
+for words in '' Replay bulk 'bulk 3' 'bulk 07' 'bulk +7' 'bulk 2097153' 'bulk 7 7' 'run x y' 'run -x' 'audit x y z' '--version x' \
+    'forecast 1 x y' $forecasts; do
+    words=$(echo "$words" | tr = ' ')
     WBSIM_QUIET=1 "$root/wbsim" $words > "$work/out" 2> "$work/err" < "$root/examples/empty.trace"
     judge "./wbsim: words '$words'" 1 $? "$usage" /dev/null
 done

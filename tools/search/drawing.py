@@ -13,8 +13,8 @@ WIDE = 20
 """Where the greatest value is more than so many times the least, the parameter is drawn by its logarithm."""
 
 
-def compose(title: str, of: Parameter, values: Sequence[int], runs: Sequence[Measured]) -> Any:
-    """The figure."""
+def compose(title: str, of: Parameter, values: Sequence[int], runs: Sequence[Measured], forecasts: int = 0) -> Any:
+    """The figure, some of whose runs are told by forecasts."""
     from matplotlib.figure import Figure
 
     figure = Figure(figsize=(WIDTH, HEIGHT), layout="constrained")
@@ -27,7 +27,8 @@ def compose(title: str, of: Parameter, values: Sequence[int], runs: Sequence[Mea
     counts.set_ylim(0, 1.05 * max(it.bound for it in runs))
     counts.legend(loc="center left", bbox_to_anchor=(1.0, 0.5), fontsize=8, frameon=False)
     line(distance, values, [it.distance for it in runs], DISTANCE, "least distance\nto the bound, pages")
-    figure.suptitle(f"{title}: {of.name} over {len(values)} values")
+    told = f", {forecasts} of them by a forecast" if forecasts else ""
+    figure.suptitle(f"{title}: {of.name} over {len(values)} values{told}")
     distance.set_xlabel(f"{of.name}, {of.unit}")
     if min(values) > 0 and max(values) > WIDE * min(values):
         distance.set_xscale("log")

@@ -19,10 +19,14 @@ LONG = 1 << 20
 SPENT = 7
 """The status of a run that had made the most steps: its journal is whole."""
 
+EVERY = 100
+"""Ticks of the intervals of a forecast that goes on where a replay is spent."""
+
 
 class Measured(namedtuple("Measured", "pauses paused longest waits pages ticks greatest bound distance ending")):
     """What a run came to. Pages, ticks; the pages a second are those of the whole run. Of a run over threads, whose journal has no steps,
-    the greatest count is one that a check read, and the distance is to that."""
+    the greatest count is one that a check read, and the distance is to that. A forecast doesn't tell waits, and its last tick is the end of its
+    last interval."""
 
     __slots__ = ()
 
@@ -38,8 +42,8 @@ COLUMNS = ("pauses", "paused_ticks", "longest_pause_ticks", "waits", "pages", "t
 
 def row(it: Measured) -> list[str]:
     """Its values, in the order of the columns."""
-    return [str(value) for value in (it.pauses, it.paused, it.longest, it.waits, it.pages, it.ticks, f"{it.throughput:.1f}",
-                                     it.greatest, it.bound, it.distance, it.ending)]
+    return ["" if value is None else str(value) for value in (it.pauses, it.paused, it.longest, it.waits, it.pages, it.ticks,
+                                                              f"{it.throughput:.1f}", it.greatest, it.bound, it.distance, it.ending)]
 
 
 def of_row(values: dict[str, Any]) -> Measured:
@@ -128,6 +132,21 @@ def measured(name: str, text: str, journal: bytes) -> Measured:
         greatest, bound = it.read, it.hard + fixed_bound_of(read(name, text))
         distance = bound - greatest
     return Measured(it.pauses, it.paused, it.longest, it.waits, it.pages, it.latest - it.begin + 1, greatest, bound, distance, it.ending)
+
+
+def forecast(words: list[str], name: str, text: str) -> Measured:
+    """What the forecast of a trace by a program says of the global domain and of all tasks."""
+    from forecasting.figures import Figures
+    from forecasting.running import forecast_by
+
+    trace = read(name, text)
+    figures = Figures(trace)
+    with forecast_by(words, name, text.encode("latin-1"), trace, EVERY) as reader:
+        for rows in reader.intervals():
+            figures.take(rows)
+    tasks, domain = figures.tasks, figures.domains[0]
+    return Measured(sum(it.pauses for it in tasks), sum(it.ticks for it in tasks), max((it.longest for it in tasks), default=0), None,
+                    reader.totals.done if reader.totals else 0, figures.intervals * EVERY, domain.most, domain.bound, domain.distance, reader.ending)
 
 
 def fixed_bound_of(trace: Trace) -> int:

@@ -3,7 +3,7 @@ from __future__ import annotations
 
 import os
 
-from search.running import Runner
+from search.running import Runner, forecast
 
 from .grid import changed, name_of, point_of
 
@@ -14,6 +14,8 @@ if TYPE_CHECKING:
     from jobs.kinds import Maker, Row
 
 JOURNALS, TRACES = "journals", "traces"
+GOES_ON, TOLD_BY, FORECAST = "goes on", "told by", "forecast"
+"""Whether a forecast goes on where a replay is spent, and which of both has told a row."""
 
 
 def maker(spec: dict[str, Any], folder: str, words: list[str]) -> Maker:
@@ -31,8 +33,12 @@ def maker(spec: dict[str, Any], folder: str, words: list[str]) -> Maker:
         if setting not in made:
             made.clear()
             made[setting] = changed(spec, texts[point.trace], point.values)
-        it, journal = runner.run(name_of(spec, point), made[setting])
-        row: Row = it._asdict()
+        name = name_of(spec, point)
+        it, journal = runner.run(name, made[setting])
+        told_by = spec["command"]
+        if it.ending == "spent" and spec.get(GOES_ON):
+            it, told_by = forecast(words, name, made[setting]), FORECAST
+        row: Row = {**it._asdict(), TOLD_BY: told_by}
         if JOURNALS in spec["keep"]:
             row["kept journal"] = packed(journal)
         if TRACES in spec["keep"]:

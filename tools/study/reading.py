@@ -21,6 +21,8 @@ from program.errors import Error, NotThere, ReadFault
 from search.editing import parameter
 from search.values import values_of
 
+from .making import GOES_ON
+
 COMMANDS, KEEPS = ("replay", "run"), ("journals", "traces")
 MOST_RUNS = 1_000_000
 
@@ -46,13 +48,15 @@ class Study:
     command: str = "replay"
     repeats: int = 1
     keep: list[str] = field(default_factory=list)
+    goes_on: bool = False
+    """Whether a forecast goes on where a replay is spent."""
 
     def spec(self) -> dict[str, Any]:
         """What the plan of its jobs tells."""
         traces = [{"name": it.name, "file": path, "sum": hashlib.sha256(it.data).hexdigest()}
                   for it, path in zip(self.traces, self.inputs())]
         return {"traces": traces, "over": [[name, values] for name, values in self.over.items()], "command": self.command,
-                "repeats": self.repeats, "keep": self.keep}
+                "repeats": self.repeats, "keep": self.keep, **({GOES_ON: True} if self.goes_on else {})}
 
     def inputs(self) -> dict[str, bytes]:
         """The traces by the names that they have beside the plan."""

@@ -42,8 +42,9 @@ class Completion(unittest.TestCase):
 
     def test_commands(self) -> None:
         self.assertEqual(self.answers(("./wbsim", ""), ("./wbsim", "re"), ("./wbsim", "law", "examples/d"), ("./wbsim", "run", "-"),
-                                      ("./wbsim", "run", "-o", "")), [
-            sorted("replay check law run audit bulk --version --help".split()), ["replay"], ["examples/decision.law"], ["-o"], []])
+                                      ("./wbsim", "run", "-o", ""), ("./wbsim", "forecast", ""), ("./wbsim", "forecast", "9", "examples/two-p")), [
+            sorted("replay forecast check law run audit bulk --version --help".split()), ["replay"], ["examples/decision.law"], ["-o"], [], [],
+            ["examples/two-pages.trace"]])
 
 
 if __name__ == "__main__":

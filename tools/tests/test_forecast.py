@@ -14,6 +14,7 @@ from unittest import mock
 
 from forecasting import machine as forecasting
 from forecasting.events import Rows
+from forecasting.interval import Interval, Places
 from forecasting.machine import Forecast
 from forecasting.reader import ForecastReader
 from journals.events import Check, Dirtying, Done, End, Totals, Write
@@ -143,6 +144,14 @@ class OfMachine(unittest.TestCase):
         self.assertEqual(forecast_of(content(TWO_PAGES), 1000), [
             "forecast 1000", "from 0", "domain 0 0 2 19995 21067", "context 0 2 2 25600 25600 25600", "task 0 2 0 0 0 0", "totals 2 2", "end done"])
 
+    def test_each_example_has_its_forecast(self) -> None:
+        forecasts = sorted(glob.glob(os.path.join(EXAMPLES, "*.forecast")))
+        self.assertGreater(len(forecasts), 5)
+        for path in forecasts:
+            with self.subTest(os.path.basename(path)):
+                wanted = content(path).splitlines()
+                self.assertEqual(forecast_of(content(path.removesuffix("forecast") + "trace"), int(wanted[0].removeprefix("forecast "))), wanted)
+
     def test_each_row_of_examples_is_that_of_a_run_that_keeps_all(self) -> None:
         for trace, journal in examples():
             if os.path.getsize(journal) > 20000:
@@ -188,6 +197,23 @@ class OfMachine(unittest.TestCase):
 
         Seen(RESTING, 1000, lines.extend).run()
         self.assertEqual(sorted(seen), [(0, ""), *((number, f"from {number - 1}") for number in range(1, 41))])
+
+
+class OfIntervals(unittest.TestCase):
+    def test_entries_of_two_tasks_and_two_contexts(self) -> None:
+        interval = Interval(Places([0, 4, 5], [1, 0, 1]), 2)
+        for line in ("write 1 0 fresh", "write 1 4 fresh", "write 0 5 fresh", "write 0 5 already", "done 0 3", "done 1 4", "claim 0 9", "fold c0 1 8",
+                     "check 1 0 7 0 go 9 1 0 32 16", "check 0 1 8 0 wait 5 0 0 32 13", "check 0 1 13 0 free 0 1 0 32 13", "check 0 1 14 0 go 3 1 0 32 17"):
+            interval.entry(line)
+        self.assertEqual((interval.dirtied, interval.written, interval.most), ([1, 2], [1, 1], []))
+        self.assertEqual({task: list(it.__dict__.values()) for task, it in interval.tasks.items()},
+                         {1: [2, 1, 1, 9, 9], 0: [2, 3, 2, 8, 5]})
+
+    def test_steps(self) -> None:
+        interval = Interval(Places([], []), 0)
+        for counts in ([5, 1], [4, 3], [2, 2]):
+            interval.step(counts)
+        self.assertEqual(interval.most, [5, 3])
 
 
 class Windows(unittest.TestCase):
@@ -312,6 +338,17 @@ class Program(unittest.TestCase):
             given.return_value.data = RESTING.encode("ascii")
             status = replay.main()
         self.assertEqual((status, out.getvalue().splitlines()[-1], err.getvalue()), (7, "end spent", "wbsim: spent\n"))
+
+    def test_a_spent_forecast_whose_end_cannot_be_written(self) -> None:
+        few = ("import sys, replay; from forecasting import machine\n"
+               "replay.MOST_STEPS = machine.MOST_STEPS = machine.MOST_FORECAST_STEPS = 100\nmachine.Forecast.tell = lambda _: None\n"
+               "def write(lines):\n    lines = list(lines)\n    if 'end spent' in lines:\n        written(lines)\n"
+               "written, replay.write = replay.write, write\nsys.exit(replay.main())")
+        with open("/dev/full", "w", encoding="ascii") as full:
+            for words, ended in ((["forecast", "1000"], (4, "wbsim: write fault\n")), ([], (7, "wbsim: spent\n"))):
+                done = subprocess.run([sys.executable, "-c", few, "--as-wbsim", *words], input=RESTING, stdout=full, stderr=subprocess.PIPE, text=True,
+                                      check=False, cwd=TOOLS)
+                self.assertEqual((done.returncode, done.stderr), ended, words)
 
 
 class Memory(WithDirectory):

@@ -6,19 +6,25 @@ import os
 import unittest
 from unittest import mock
 
+from forecasting.reader import ForecastReader
 from journals import picture
+from journals.reader import Reader
+from journals.source import Source
 from journals.trace import FirstEstimate, Pace, Trace
 from journals.trace_reader import read_trace
 from kernel import recording
 from kernel.beside import Span, farthest, of_kernel, of_replay, rows
+from kernel.beside_forecast import of_forecast
 from kernel.machine import Machine, machine_of, pace_of
 from kernel.machine_lines import trace_lines
 from kernel.recording import Step, Wish, record
 from program.errors import OtherWords
 
 from .given import EXAMPLES, WithDirectory, events_of, trace_of
+from .test_forecast import forecast_of
 from .test_kernel import STRICT, THREE, TWO, numbers_of, printed, story_of
 from .test_kernel_explain import CGROUP
+from .test_replay import content
 
 
 class Pictures(WithDirectory):
@@ -88,7 +94,10 @@ class Machines(WithDirectory):
 
     def test_more_pages_than_a_replay_has_steps_for(self) -> None:
         with mock.patch("kernel.machine.MOST_PAGES", 200_000):
-            self.assertIn("cut to 156036 of 226183 pages, which a replay has steps for", machine_of(story_of(THREE)).notes)
+            self.assertIn("cut to 156036 of 226183 pages, for which there is room", machine_of(story_of(THREE)).notes)
+            whole = machine_of(story_of(THREE), is_forecast=True)
+            self.assertFalse([note for note in whole.notes if note.startswith("cut")])
+            self.assertGreater(sum(it.pages for it in whole.writers), 226183)
         with mock.patch("kernel.machine.MOST_PAGES", 50_000), self.assertRaises(OtherWords):
             machine_of(story_of(THREE))
 
@@ -159,6 +168,30 @@ class Beside(WithDirectory):
         self.assertRegex(out, r"\nthe counts are farthest apart at \d+\.\d s: \d+ pages\n$")
         status, out, err = printed("kernel", "beside", THREE, *settled, "--seconds", "0.1")
         self.assertEqual(status, 0)
+
+    def test_a_forecast_of_the_same_trace(self) -> None:
+        trace = read_trace(os.path.join(EXAMPLES, "settled.trace"))
+        lines = forecast_of(content(os.path.join(EXAMPLES, "settled.trace")), 100)
+        path = self.file("forecast", "".join(f"{line}\n" for line in lines))
+        replay = of_replay(trace, Reader(os.path.join(EXAMPLES, "settled.journal"), trace).events())
+        it = of_forecast(trace, ForecastReader(Source(path), trace))
+        self.assertEqual((it.many(), it.longest(), it.writers), (replay.many(), replay.longest(), replay.writers))
+        self.assertAlmostEqual(it.pause(), replay.pause())
+        self.assertEqual(it.limits, replay.limits)
+        for of in (Span.level, Span.paused, Span.rate_limit, lambda span: span.written, lambda span: span.seconds):
+            mine, wanted = (of(span) if of is not Span.paused else span.paused() for span in (it, replay))
+            self.assertLess(abs(mine - wanted), 0.1 * wanted)
+        status, out, err = printed("kernel", "beside", "--forecast", THREE, os.path.join(EXAMPLES, "settled.trace"), path)
+        self.assertEqual((status, err), (0, ""))
+        self.assertRegex(out, r"^ +kernel +forecast +quotient\n")
+        self.assertRegex(out, r"\n  at a rate of 0, % +\d+\.\d +not told\n")
+        short = of_forecast(trace, ForecastReader(Source(path), trace), 3.0)
+        self.assertEqual((short.seconds, short.parts), (3.0, [part for part in it.parts if part[1] < 3.0]))
+
+    def test_a_forecast_without_a_pause(self) -> None:
+        trace = os.path.join(EXAMPLES, "two-pages.trace")
+        path = self.file("forecast", "".join(f"{line}\n" for line in forecast_of(content(trace), 100)))
+        self.assertEqual(printed("kernel", "beside", "--forecast", THREE, trace, path), (1, "", "wb: the forecast has no pause\n"))
 
     def test_a_replay_that_is_short(self) -> None:
         short = [os.path.join(EXAMPLES, f"exceeded.{kind}") for kind in ("trace", "journal")]

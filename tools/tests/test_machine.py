@@ -5,6 +5,7 @@ import os
 import unittest
 
 from journals.trace_reader import read_trace
+from machine.making import Files
 
 from .given import WithDirectory
 from .test_kernel import printed
@@ -139,6 +140,21 @@ class FromMachine(WithDirectory):
         self.assertEqual(self.made("--force")[0], 0)
         self.assertTrue(self.lines(".about")[0].startswith("scale: 8; "))
         self.assertIn("device 0 3200 0 100", self.lines())
+
+    def test_a_trace_for_a_forecast_has_more_pages(self) -> None:
+        jobs = self.put("jobs", "[a]\nrw=write\nsize=3g\n")
+        self.made("--fio", jobs)
+        self.assertEqual((read_trace(self.trace).pages, self.lines(".about")[0].partition(";")[0]), (393216, "scale: 2"))
+        self.assertEqual(self.made("--fio", jobs, "--scale", "1", "--force")[:2], (1, ""))
+        self.assertEqual(self.made("--fio", jobs, "--forecast", "--force")[0], 0)
+        trace = read_trace(self.trace)
+        self.assertEqual((trace.pages, self.lines(".about")[0], len(trace.inodes), trace.inodes[0].pages), (786432, "scale: 1", 192, 4096))
+        self.assertEqual(sum(it.pages for it in trace.actions[0]), 786432)
+        self.put("jobs", "[a]\nrw=write\nsize=9g\n")
+        self.assertIn("2359296 pages of files; a trace has at most 2097152", self.made("--fio", jobs, "--forecast", "--force", "--scale", "1")[2])
+
+    def test_writes_over_files(self) -> None:
+        self.assertEqual(list(Files(7, 10).writes(1, 8, 23)), ["write 1 7 8 2", "write 1 8 0 10", "write 1 9 0 10", "write 1 10 0 1"])
 
     def test_faults_of_a_job_file(self) -> None:
         for text, found in (("rw=write\n", "line 1: out of place"), ("[a]\nrw=write\n", r"line 1: missing: \[a\] has no size"),

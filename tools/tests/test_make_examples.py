@@ -31,9 +31,9 @@ class MakeExamples(WithDirectory):
         os.symlink(TOOLS, os.path.join(self.directory, "tools"))
         self.file("examples/throttled.trace", text("throttled.trace"))
 
-    def make(self, wbsim: str, *names: str) -> int:
+    def make(self, wbsim: str, *names: str, forecast: str = "cat") -> int:
         """Makes the examples of this directory with a program in the place of wbsim, and answers the status."""
-        program = self.file("program", f"#!/bin/sh\n[ \"$1\" = replay ] || exit 1\n{wbsim}\n")
+        program = self.file("program", f"#!/bin/sh\n[ \"$1\" != forecast ] || exec {forecast}\n[ \"$1\" = replay ] || exit 1\n{wbsim}\n")
         os.chmod(program, 0o755)
         environment = {**os.environ, "WBSIM": program, "PYTHON": sys.executable}
         script = os.path.join(self.directory, "tools", "make-examples")
@@ -62,6 +62,11 @@ class MakeExamples(WithDirectory):
         self.assertEqual(self.make("cat"), 0)
         self.assertEqual(self.made("throttled.sum"), hashlib.sha256(text("throttled.trace").encode()).hexdigest() + "\n")
         self.assertEqual(sorted(os.listdir(self.examples)), ["throttled.sum", "throttled.trace"])
+
+    def test_a_forecast_that_lies_there(self) -> None:
+        self.file("examples/throttled.forecast", "forecast 7\nold\n")
+        self.assertEqual(self.make("cat", "throttled"), 0)
+        self.assertEqual(self.made("throttled.forecast"), text("throttled.trace"))
 
     def test_the_seven_machines(self) -> None:
         for name in SEVEN:
@@ -97,6 +102,19 @@ class MakeExamples(WithDirectory):
         self.assertEqual(sorted(os.listdir(self.examples)), [
             "throttled-domain-0.png", "throttled-domain-1.png", "throttled.journal", "throttled.trace"])
         self.assertEqual(self.make(f"cat {text_path('threads.journal')}", "throttled:steps"), 1, "no journal of the trace")
+
+    def test_the_picture_of_a_forecast_that_lies_there(self) -> None:
+        if not picture.is_there():
+            self.skipTest("matplotlib isn't there: the pictures are left out")
+        for path in ("two-pages.trace", "two-pages.forecast"):
+            with open(os.path.join(EXAMPLES, path), encoding="ascii") as file:
+                self.file(f"examples/{path}", file.read())
+        self.file("examples/two-pages-forecast.png", "old\n")
+        wbsim, forecast = (f"cat {os.path.join(EXAMPLES, f'two-pages.{kind}')}" for kind in ("journal", "forecast"))
+        self.assertEqual(self.make(wbsim, "two-pages:steps", forecast=forecast), 0)
+        with open(os.path.join(self.examples, "two-pages-forecast.png"), "rb") as made:
+            self.assertEqual(made.read(4), b"\x89PNG")
+        self.assertEqual(self.make(wbsim, "two-pages:steps", forecast="echo forecast 1000"), 1, "no forecast of the trace")
 
     def test_the_picture_of_a_study(self) -> None:
         if not picture.is_there() or not find_spec("tomllib"):

@@ -13,7 +13,7 @@ from .given import EXAMPLES, ROOT
 from .test_kernel import printed
 from .test_manual import content, long_options, parsers
 
-MOST_LINES = 160
+MOST_LINES = 190
 THREE = os.path.join("examples", "kernel", "three-writers.txt")
 
 
@@ -87,6 +87,21 @@ class Readme(unittest.TestCase):
         self.assertEqual([line for line in lines if line in shown], shown)
         self.assertIn(f"four of the {len(lines)} lines", self.text)
         self.assertEqual(len(shown), 4)
+
+    def test_its_forecast_is_that_of_the_example(self) -> None:
+        [block] = [it for it in blocks(self.text) if "forecast 1000 examples/settled.trace\n" in it]
+        with open(os.path.join(EXAMPLES, "settled.forecast"), encoding="ascii") as file:
+            lines = file.read().splitlines()
+        shown = [line.partition("  ")[0] for line in block.splitlines()[1:]]
+        self.assertEqual((lines[0], shown[0], len(shown)), ("forecast 1000", "from 20", 4))
+        place = lines.index(shown[0])
+        self.assertEqual(lines[place:place + len(shown)], shown)
+
+    def test_its_table_of_limits_is_that_of_the_studies(self) -> None:
+        rows = [[cell for cell in line.split("|")[1:-1]] for line in self.text.splitlines() if re.match(r"\| \d{8,} \|", line)]
+        self.assertEqual(len(rows), 3)
+        for row in rows:
+            self.assertIn("|" + "|".join(row) + "|", content("docs", "STUDIES.md"))
 
     def test_it_has_at_most_ten_claims(self) -> None:
         rows = self.text.partition("| Claim | Call |\n|---|---|\n")[2].partition("\n\n")[0].splitlines()

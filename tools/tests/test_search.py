@@ -115,6 +115,29 @@ class Sweeps(WithDirectory):
             row = next(csv.DictReader(file))
         self.assertEqual((row["version"], row["sum"]), ("tools/replay.py", origin.sum_of_python()))
 
+    def test_a_run_that_is_longer_than_a_replay_may_be(self) -> None:
+        program = self.file("program", f"""#!/bin/sh
+case $1 in
+    replay) sed 's/^end done/end spent/' {FOLD.removesuffix("trace")}journal && exit 7 ;;
+    forecast) exec {sys.executable} {origin.REPLAY} "$@" ;;
+    *) exit 1 ;;
+esac
+""")
+        os.chmod(program, 0o755)
+        words = ("--binary", program, "--over", "cap", "--values", "1,8", "--no-picture")
+        status, out, err = printed("sweep", FOLD, os.path.join(self.directory, "out"), *words)
+        self.assertEqual((status, err.replace(ONE_BY_ONE, "")), (0, "wb: with cap 1, 8 a run has more steps than a replay may make: a forecast by "
+                                                                    "intervals of 100 ticks tells it, which doesn't tell waits\n"))
+        with open(out.strip(), encoding="ascii") as file:
+            rows = list(csv.DictReader(file))
+        self.assertEqual([(row["pages"], row["ending"], row["told_by"], row["waits"]) for row in rows], [("8", "done", "forecast", "")] * 2)
+        _, out, _ = printed("sweep", FOLD, self.directory, "--python", *words[2:])
+        with open(out.strip(), encoding="ascii") as file:
+            replays = list(csv.DictReader(file))
+        for name in ("pauses", "paused_ticks", "longest_pause_ticks", "pages", "greatest_count", "bound", "least_distance"):
+            self.assertEqual([row[name] for row in rows], [row[name] for row in replays], name)
+        self.assertEqual({row["told_by"] for row in replays}, {"replay"})
+
     def test_what_runs_it(self) -> None:
         self.assertEqual(origin.found("/bin/true").words, ["/bin/true"])
         self.assertEqual(origin.found(origin.PYTHON).words[0], sys.executable)

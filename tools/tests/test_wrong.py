@@ -72,7 +72,8 @@ class OfTheRepository(WithDirectory):
         self.assertEqual(len(law_rows(ROOT)), int(rows.group(1)))
         self.assertEqual(len(small_replays(ROOT)), 9)
         kept = [name for name in os.listdir(os.path.join(ROOT, "examples")) if name.endswith((".journal", ".sum"))]
-        self.assertEqual(Counter(it.command for it in examples(ROOT)), {"replay": len(kept), "law": 1})
+        forecasts = [name for name in os.listdir(os.path.join(ROOT, "examples")) if name.endswith(".forecast")]
+        self.assertEqual(Counter(it.command for it in examples(ROOT)), {"replay": len(kept), "forecast": len(forecasts), "law": 1})
 
 
 class OfRules(WithDirectory):

@@ -7,6 +7,7 @@
     lines    the wrong rules of the chunk of a device, and of the first estimate of a context
     scans    the wrong rules of scans that go on where the last one ended
     paces    the wrong rules of paces
+    intervals  the wrong rules of forecasts
     rules    all wrong rules
     outputs  what the program prints of inputs; it runs in the changed copy
     serving  the program there that loads the copy for each change, and answers

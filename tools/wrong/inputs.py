@@ -16,12 +16,13 @@ ROW = re.compile(r'^    \(\n\s+"([^"]*)",\n\s+b("[^"]*"),\n\s+b("[^"]*"),\n    \
 TEXT = re.compile(r'^const (\w+): &\[u8\] =\s+b("[^"]*");$', re.MULTILINE)
 SETTINGS = {"ratio": "dirty_ratio", "bg_ratio": "dirty_background_ratio", "bytes": "dirty_bytes", "bg_bytes": "dirty_background_bytes"}
 
-KEPT = {".trace": {".journal": "replay", ".sum": "replay"}, ".law": {".out": "law"}}
+KEPT = {".trace": {".journal": "replay", ".sum": "replay", ".forecast": "forecast"}, ".law": {".out": "law"}}
 """What lies beside an example, and of which command it is: the whole output, or the sum of one that is too long."""
 
 STRICT_ROW = re.compile(r"pub (\w+) : strict_ratio (\w+) (\d+) ≡ (\d+)")
 
 UNKNOWN = 1 << 30
+LINE = "\n"
 
 FULL = ("last-step-halted.trace",)
 """The examples that make as many steps as a replay may have, which takes Python some tens of seconds: they are longer than all others."""
@@ -31,7 +32,8 @@ FULL = ("last-step-halted.trace",)
 class Input:
     """A text for `replay` or `law`, the sum of what is wanted of it, and how long that is; `steps` says whether it has its steps.
 
-    For `strict` the text has the numbers of a domain's read and the context's pages, and the strict ratio is wanted.
+    For `forecast` the first line of what is wanted stands before the trace. For `strict` the text has the numbers of a domain's read and the
+    context's pages, and the strict ratio is wanted.
     """
 
     name: str
@@ -153,5 +155,13 @@ def examples(root: str) -> list[Input]:
                 name = os.path.relpath(path, folder)
                 unknown = 2 * UNKNOWN if name in FULL else UNKNOWN
                 wanted, length = (kept.strip(), unknown) if beside == ".sum" else (sum_of(kept), len(kept))
-                found.append(Input(name, command, content(path), wanted, length))
+                if command == "forecast":
+                    found.append(forecast_input(name, content(path), kept, len(content(f"{stem}.journal"))))
+                else:
+                    found.append(Input(name, command, content(path), wanted, length))
     return found
+
+
+def forecast_input(name: str, trace: str, wanted: str, length: int) -> Input:
+    """That of a forecast. It takes as long as the replay, so that its length is that of the journal."""
+    return Input(f"the forecast of {name}", "forecast", f"{wanted.partition(LINE)[0]}{LINE}{trace}", sum_of(wanted), length)

@@ -4,6 +4,7 @@ from __future__ import annotations
 import hashlib
 from collections.abc import Callable
 
+from forecasting.machine import Forecast
 from journals.law_reader import law_of
 from journals.whole_text import WholeText
 from laws.counters import error_of
@@ -23,6 +24,15 @@ def replayed(text: str, steps: bool) -> str:
     return "".join(line + "\n" for line in machine.journal())
 
 
+def forecasted(text: str, _: bool) -> str:
+    """The forecast of a trace, before which its first line stands."""
+    first, _, trace = text.partition("\n")
+    lines: list[str] = []
+    machine = Forecast(trace, int(first.removeprefix("forecast ")), lines.extend)
+    machine.run()
+    return "".join(line + "\n" for line in [*lines, *machine.journal()])
+
+
 def decided(text: str, _: bool) -> str:
     """What `law` writes."""
     law = law_of(WholeText("a law text", text.encode("latin-1")))
@@ -40,7 +50,7 @@ def strict_ratio(text: str, _: bool) -> str:
     return f"{strict_position(DomainRead(Limits(*limits), dirty, context_limit), pages).ratio}\n"
 
 
-COMMANDS: dict[str, Callable[[str, bool], str]] = {"replay": replayed, "law": decided, "strict": strict_ratio}
+COMMANDS: dict[str, Callable[[str, bool], str]] = {"replay": replayed, "forecast": forecasted, "law": decided, "strict": strict_ratio}
 
 
 def answer(command: str, steps: bool, text: str) -> str:

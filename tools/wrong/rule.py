@@ -17,3 +17,4 @@ REPLAY, LIMITS, POSITION, PAUSES = "replay.py", "laws/limits.py", "laws/position
 DECISION, ESTIMATE, PROPORTIONS = "laws/decision.py", "laws/estimate.py", "laws/proportions.py"
 COUNTERS, ALLOWANCE, STRICT, AGE = "laws/counters.py", "laws/allowance.py", "laws/strict.py", "laws/age.py"
 WORKS = "journals/trace.py"
+FORECAST, INTERVAL = "forecasting/machine.py", "forecasting/interval.py"

@@ -1,6 +1,7 @@
 """The wrong rules. Those of the order of a replay stand in `order`."""
 from __future__ import annotations
 
+from .intervals import OF_INTERVALS
 from .lines import OF_LINES
 from .order import OF_ORDER
 from .paces import OF_PACES
@@ -378,4 +379,4 @@ OF_AGES = (
 )
 
 RULES = (*OF_LIMITS, *OF_LOADS, *OF_FLUSHERS, *OF_ESTIMATES, *OF_PROPORTIONS, *OF_POSITIONS, *OF_PAUSES, *OF_DECISIONS, *OF_WRITERS,
-         *OF_COUNTERS, *OF_TURNS, *OF_ORDER, *OF_STRICT_DEVICES, *OF_AGES, *OF_LINES, *OF_SCANS, *OF_PACES)
+         *OF_COUNTERS, *OF_TURNS, *OF_ORDER, *OF_STRICT_DEVICES, *OF_AGES, *OF_LINES, *OF_SCANS, *OF_PACES, *OF_INTERVALS)

@@ -18,7 +18,8 @@ from itertools import chain
 FOLDER = os.path.dirname(os.path.dirname(os.path.realpath(__file__)))
 READY, BEGIN, END, ENDED = "ready", "begin", "end", "ended"
 
-STAGES = ("journals.trace_reader", "journals.law_reader", "laws.numbers", "laws.limits", "laws.decision", "laws.strict", "replay", "wrong.outputs")
+STAGES = ("journals.trace_reader", "journals.law_reader", "laws.numbers", "laws.limits", "laws.decision", "laws.strict", "replay", "forecasting.machine",
+          "wrong.outputs")
 """Modules that are loaded one after another, each with what it imports that isn't there yet. So no module needs one of a later stage."""
 
 

@@ -13,7 +13,7 @@ from .inputs import UNKNOWN, Input
 from .rules import Rule
 from .serving import BEGIN, END, ENDED, READY
 
-COPIED = ("journals", "laws", "program", "wrong")
+COPIED = ("journals", "laws", "program", "forecasting", "wrong")
 LENGTHS = (20000, 60000, UNKNOWN)
 """Bytes of an output: an input with more is run only where none with fewer notices the rule."""
 

@@ -4,14 +4,18 @@ from __future__ import annotations
 import argparse
 import sys
 
+from forecasting.reader import ForecastReader
 from journals import picture
 from journals.reader import Reader
+from journals.source import Source
+from journals.trace import Trace
 from journals.trace_reader import read_trace
 from program.errors import OtherWords
 from program.output import Staging, held_text, publish
 from program.statuses import Status
 
-from ..beside import farthest, of_kernel, of_replay, rows
+from ..beside import Span, farthest, of_kernel, of_replay, rows
+from ..beside_forecast import of_forecast
 from .texts import add_text, joined
 
 FIT = 0.5
@@ -25,6 +29,7 @@ def add(command: argparse.ArgumentParser) -> None:
     add_text(command)
     command.add_argument("trace", metavar="TRACE", help="of a machine like that of the text ('wb kernel trace')")
     command.add_argument("journal", metavar="JOURNAL", help="its journal: wbsim replay < TRACE")
+    command.add_argument("--forecast", action="store_true", help="the JOURNAL is a forecast, wbsim forecast EVERY < TRACE: of minutes, too")
     command.add_argument("--seconds", type=float, metavar="S", help="only the first so many seconds of both")
     command.add_argument("--picture", metavar="DIRECTORY", help="draws both, too")
     command.add_argument("--name", default="beside", help="of the picture (beside)")
@@ -39,14 +44,14 @@ def run(given: argparse.Namespace) -> Status:
     story = joined(given)
     trace = read_trace(given.trace)
     kernel = of_kernel(story, given.seconds)
-    replay = of_replay(trace, Reader(given.journal, trace).events(), kernel.seconds)
+    replay = span_of(given, trace, kernel.seconds)
     spans = [kernel, replay]
     if not replay.levels:
-        raise OtherWords("the journal has no check that isn't free")
+        raise OtherWords("the forecast has no pause" if given.forecast else "the journal has no check that isn't free")
     if replay.seconds < FIT * kernel.seconds:
-        print(f"wb: the replay spans less than half of the text: {replay.seconds:.1f} of {kernel.seconds:.1f} s", file=sys.stderr)
+        print(f"wb: the {replay.name} spans less than half of the text: {replay.seconds:.1f} of {kernel.seconds:.1f} s", file=sys.stderr)
     with held_text() as text:
-        print(f"{'':<32}{'kernel':>12}{'replay':>12}{'quotient':>10}", file=text)
+        print(f"{'':<32}{'kernel':>12}{replay.name:>12}{'quotient':>10}", file=text)
         for name, values, quotient in rows(spans):
             print(f"{name:<32}{''.join(f'{value:>12}' for value in values)}{quotient:>10}".rstrip(), file=text)
         pages, time = farthest(kernel.levels, replay.levels)
@@ -59,3 +64,11 @@ def run(given: argparse.Namespace) -> Status:
             beside_drawing.compose(spans, given.name).savefig(path, dpi=beside_drawing.DOTS_AN_INCH, metadata=picture.undated(path))
             publish(staging)
     return Status.GOOD
+
+
+def span_of(given: argparse.Namespace, trace: Trace, seconds: float) -> Span:
+    """What the replay did, or the forecast, in at most so many seconds."""
+    if not given.forecast:
+        return of_replay(trace, Reader(given.journal, trace).events(), seconds)
+    reader = ForecastReader(Source(given.journal), trace)
+    return of_forecast(trace, reader, seconds)

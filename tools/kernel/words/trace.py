@@ -18,6 +18,7 @@ def add(command: argparse.ArgumentParser) -> None:
     """A text, and how much of it."""
     add_text(command)
     command.add_argument("--seconds", type=float, metavar="S", help="only its first so many seconds")
+    command.add_argument("--forecast", action="store_true", help="with as many pages as a trace may have, not only as a replay has steps for")
     command.add_argument("--chunk", type=int, default=CHUNK, metavar="N", help=f"the pages with which a scan ends ({CHUNK})")
 
 
@@ -25,7 +26,7 @@ def run(given: argparse.Namespace) -> Status:
     """Prints the trace, and on standard error what it stands for."""
     if not trace_limits.CHUNK.least <= given.chunk <= trace_limits.CHUNK.greatest:
         raise OtherWords(f"--chunk {given.chunk}: {trace_limits.CHUNK.fault(given.chunk)}")
-    machine = machine_of(joined(given), given.seconds, given.chunk)
+    machine = machine_of(joined(given), given.seconds, given.chunk, given.forecast)
     with held_text() as text:
         for line in trace_lines(machine):
             print(line, file=text)

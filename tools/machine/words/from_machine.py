@@ -23,6 +23,7 @@ def add(command: argparse.ArgumentParser) -> None:
     command.add_argument("--fio", metavar="JOBS", help="a job file of fio: rw, size, bs, rate, numjobs of the jobs that write")
     command.add_argument("--disk", metavar="N:M", help="the disk, as /sys/class/bdi names it (that of /, else the first; no zram, loop or "
                          "empty one)")
+    command.add_argument("--forecast", action="store_true", help="with as many pages as a trace may have, not only as a replay has steps for")
     command.add_argument("--scale", type=int, help="divides pages and rates (the least power of two by which all fits)")
     command.add_argument("--root", default="/", metavar="DIRECTORY", help="where proc and sys are (/)")
     command.add_argument("--force", action="store_true", help="write over files that lie there")
@@ -39,7 +40,7 @@ def run(given: argparse.Namespace) -> Status:
     disk = disk_of(seen, given.disk)
     if given.disk is None:
         print(f"wb: {named(disk, seen)}", file=sys.stderr)
-    made = make(seen, disk, read_jobs(given.fio) if given.fio else None, given.scale)
+    made = make(seen, disk, read_jobs(given.fio) if given.fio else None, given.scale, given.forecast)
     with Staging(directory or ".", given.force) as staging:
         for path, lines in ((name, made.lines), (name + ABOUT, made.about)):
             with open(staging.path(path), "w", encoding="latin-1", newline="\n") as file:
