@@ -10,7 +10,7 @@ is_setting cpus batches cap is = let few = is.few_pages in let some = is.some_cp
   some_cpu = is.some_cpu;
   few_cpus = is.few_cpus;
   some_cap = is.some_cap;
-  few_page_steps = omega arith;
+  last_even = omega arith;
   few_pages = is.few_pages;
   homes = λ p l. omega arith;
   seats = λ w l. l;

@@ -1,6 +1,7 @@
 -- A machine with one context and a writer on each CPU.
 use Rattle.std.specs.Prelude.{ℕ, ◌+◌, ◌*◌, ◌≤◌}
 use Rattle.wbt_num.specs.declared.limits.Limits.{Limits}
+use Rattle.wbt_num.specs.declared.limits.TheConstants.{LAST_SEQUENCE}
 use Rattle.wbt_num.specs.declared.most.TheConstants.{MOST_CPUS, MOST_PAGES}
 use Rattle.wbt_counter.specs.Batch.{domain_batch, stat_error}
 use Rattle.wbt_grant.specs.Setting.{Setting}
@@ -24,6 +25,7 @@ alone cpus batches cap = record {
   cpus = cpus;
   cap = cap;
   page_steps = all_pages cpus batches cap;
+  last_sequence = LAST_SEQUENCE;
   firsts = λ d. limits_of cpus batches;
   contexts = 1;
   group = λ k. 0;

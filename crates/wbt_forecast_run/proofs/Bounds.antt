@@ -1,4 +1,4 @@
 -- The counts of a forecast are within their bounds.
 pub mod Peaks
-pub mod Steps
+pub mod Setting
 pub mod Rows

@@ -15,7 +15,6 @@ use Rattle.wbt_replay_order.specs.Definition.Run as replayed
 use Rattle.wbt_replay_order.specs.Definition.Run.{state_at, last_state, journal_of}
 use Rattle.wbt_replay_order.specs.Kept.Facts.{Facts}
 use Rattle.wbt_replay_order.specs.Kept.InRange.{IsInRange}
-use Rattle.wbt_replay_order.specs.Kept.Ranges.{most_followed}
 use Rattle.wbt_forecast_rows.specs.Between.{IsAfter}
 use Rattle.wbt_forecast_rows.specs.Counts.{is_dirtied_in, is_written_in, is_write_by, is_check_of, is_pause_of, pause_after}
 use Rattle.wbt_forecast_rows.specs.Forecast.{Span, spans}
@@ -137,8 +136,6 @@ IsBounded row = (row.count ≤ row.bound) × (row.most ≤ row.bound)
 abbrev pub AreBounded : (row : IntervalRow) → Type 0
 AreBounded row = Each IsBounded row.domains
 
--- Each count of a forecast is within its bound, where the run makes fewer than 2^31 steps. Past that the step relation, by which it is shown, has no room
--- for its sequences and its page steps.
+-- Each count of a forecast and each greatest count is within its bound, for every run: one of up to 2^40 steps.
 abbrev pub RowsAreBounded : Type 0
-RowsAreBounded = (trace : Trace) → IsLawful trace → length (state_after trace most_moves).steps < most_followed → (every : ℕ)
-    → Each AreBounded (forecast trace every).rows
+RowsAreBounded = (trace : Trace) → IsLawful trace → (every : ℕ) → Each AreBounded (forecast trace every).rows

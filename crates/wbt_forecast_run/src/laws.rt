@@ -47,7 +47,7 @@ pub fn as_replayed()
     wbt_forecast_rows::laws::runs_sum_up();
 }
 
-/// Each count of a domain that a row tells is at most the bound beside it, where the run makes fewer than 2^31 steps.
+/// Each count of a domain that a row tells is at most the bound beside it, for every run: one of up to 2^40 steps.
 pub fn rows_are_bounded()
     ensures { RowsAreBounded }
 {}

@@ -1,7 +1,6 @@
 -- What is known of each kind of step: one row a kind, from which the laws over all kinds follow.
 use Rattle.std.proofs.Common.{◌≡◌, ℕ, suc, ◌+◌, Bool, true, false, cond, eqb, not, ◌&&◌, ◌||◌, length, ℤ, ◌+ℤ◌, sym, refl, ap, ◌∙◌, arith, true≢false}
 use Rattle.std.proofs.lemmas.Bool.{cond_both}
-use Rattle.wbt_num.specs.declared.limits.TheConstants.{LAST_SEQUENCE}
 use Rattle.wbt_counter.specs.declared.counter.Counter.{Counter}
 use Rattle.wbt_counter.specs.Sums.{put}
 use Rattle.wbt_counter.specs.Word.{version_in, count_in}
@@ -52,7 +51,7 @@ pub record CpuStep (set : Setting) (step : Step) (s : State) : Type 0 where
 pub record TimerStep (set : Setting) (step : Step) (s : State) : Type 0 where
   pub cpus : ◌≡◌ {A = ℕ → CpuRecord} (after set step s).cpu s.cpu
   pub becomes : IsSetting set → Rule set s → (after set step s).timer ≡ timer_after step (found_by set step s) s.timer
-  pub allowed : (TimerAllows step s.timer → Allowed set step s) × (Allowed set step s → TimerAllows step s.timer)
+  pub allowed : (TimerAllows set step s.timer → Allowed set step s) × (Allowed set step s → TimerAllows set step s.timer)
 
 pub data Made (set : Setting) (step : Step) : Type 0 where
   by_cpu : is_by_timer step ≡ false → ((s : State) → CpuStep set step s) → Made set step
@@ -339,7 +338,7 @@ known set (peak d hard) = record {
 known set (unseal d) = record {
   made = by_timer refl (λ s. record { cpus = refl; becomes = λ ok rule. refl; allowed = (λ h. h, λ h. h) });
   decided = λ s. said (λ h. record { sealed = h.0; room = h.1 }) (λ h. (h.sealed, h.room))
-      (both (itself (is_sealed (stage_of d s.timer.drafts))) (less (sequence_of s.timer d) LAST_SEQUENCE));
+      (both (itself (is_sealed (stage_of d s.timer.drafts))) (less (sequence_of s.timer d) set.last_sequence));
   untold = λ found r t. refl;
   keeps = of_limits.unseal_keeps set d;
 }

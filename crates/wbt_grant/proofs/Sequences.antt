@@ -6,7 +6,6 @@ use Rattle.std.proofs.lemmas.List.Elements.{All-weaker}
 use mathlib.Core.Logic.{dite}
 use native.Mathlib.Decide.{ℕ_discrete}
 use Rattle.wbt_num.specs.declared.limits.Limits.{Limits}
-use Rattle.wbt_num.specs.declared.limits.TheConstants.{LAST_SEQUENCE}
 use Rattle.wbt_num.specs.Limits.{IsLawful}
 use Rattle.wbt_counter.specs.Sums.{put, one_if}
 use Rattle.wbt_counter.proofs.Sums.{put_each}
@@ -222,9 +221,9 @@ module _ (set : Setting) (sequence : ℕ → ℕ) (stands : ℕ → Limits) (pea
       (moved i d (suc (sequence d)) (set.coding.thresh_word (stands d)) (omega arith) (λ n below is even. omega (arith, below, is)))
       (λ e n. old.as_found i e)
 
-  pub unseal_keeps : (d : ℕ) → sequence d < LAST_SEQUENCE → AreSequences set (put sequence d (suc (sequence d))) stands peak published cpu
+  pub unseal_keeps : (d : ℕ) → sequence d < set.last_sequence → AreSequences set (put sequence d (suc (sequence d))) stands peak published cpu
   unseal_keeps d room = record {
-    few = put_each sequence d (suc (sequence d)) (λ e q. q ≤ LAST_SEQUENCE) (omega (arith, room)) (λ e n. old.few e);
+    few = put_each sequence d (suc (sequence d)) (λ e q. q ≤ set.last_sequence) (omega (arith, room)) (λ e n. old.few e);
     numbered = old.numbered;
     standing_lawful = old.standing_lawful;
     standing_under_peak = old.standing_under_peak;
@@ -249,11 +248,11 @@ module _ (set : Setting) (sequence : ℕ → ℕ) (stands : ℕ → Limits) (pea
   }
 
   -- the limits in hand are published, was the next version
-  pub publish_keeps : (d : ℕ) (triple : Limits) → suc (sequence d) ≤ LAST_SEQUENCE
+  pub publish_keeps : (d : ℕ) (triple : Limits) → suc (sequence d) ≤ set.last_sequence
       → AreSequences set (put sequence d (suc (sequence d))) stands peak
       (record { domain = d; version = suc (version_of d published); limits = triple } ∷ published) cpu
   publish_keeps d triple room = let new : DomainLimits = record { domain = d; version = suc (version_of d published); limits = triple } in record {
-    few = put_each sequence d (suc (sequence d)) (λ e q. q ≤ LAST_SEQUENCE) room (λ e n. old.few e);
+    few = put_each sequence d (suc (sequence d)) (λ e q. q ≤ set.last_sequence) room (λ e n. old.few e);
     numbered = (refl, old.numbered);
     standing_lawful = old.standing_lawful;
     standing_under_peak = old.standing_under_peak;

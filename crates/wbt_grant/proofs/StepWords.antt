@@ -75,14 +75,14 @@ clear_is_subtraction set i x s ok rule may =
     }
 
 pub fold_is_addition : FoldIsAddition
-fold_is_addition set i x s ok rule may =
+fold_is_addition set i x s ok fit rule may =
     let new : State = after set (fold i x) s in
     let delta : ℤ = s.own x i in
     let longer : History = (i, delta) ∷ s.folds x in
     let word_of = λ (h : History). packed (length h) (sum_of h) in
     let at : new.folds x ≡ longer = at_itself s.folds x longer in
-    let before = words_have_room set s ok rule x in
-    let room = words_have_room set new ok (fold_keeps set i x s ok rule may) x in
+    let before = words_have_room set s ok fit rule x in
+    let room = words_have_room set new ok fit (fold_keeps set i x s ok rule may) x in
     let few : length longer < 2 ^ 40 = subst (λ (h : History). length h < 2 ^ 40) at room.0 in
     let fits : IsPackable (sum_of longer) = subst (λ (h : History). IsPackable (sum_of h)) at room.1 in
     let told = (own_is_told set s rule i x).told in

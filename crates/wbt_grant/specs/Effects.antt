@@ -1,7 +1,6 @@
 -- What each kind of step does, told once: who makes it and on which word, what becomes of its maker's record, and where that
 -- record allows it.
 use Rattle.std.specs.Prelude.{◌≡◌, ℕ, ◌+◌, Bool, true, false, cond, not, ◌==◌, nat_lt, nat_le, ◌&&◌, Option, Some, None, ℤ, ◌+ℤ◌}
-use Rattle.wbt_num.specs.declared.limits.TheConstants.{LAST_SEQUENCE}
 use Rattle.wbt_counter.specs.declared.counter.Counter.{Counter}
 use Rattle.wbt_counter.specs.Word.{version_in, count_in}
 use Rattle.wbt_counter.specs.Addends.{local_in}
@@ -118,7 +117,7 @@ pub record StepEffect : Type 1 where
   pub timer_after : (found : ℕ) (r : TimerRecord) → TimerRecord
   -- where the record of a CPU allows it, where the timer's does, and the test of both, which computes
   pub RecordAllows : (set : Setting) (r : CpuRecord) → Type 0
-  pub TimerAllows : (r : TimerRecord) → Type 0
+  pub TimerAllows : (set : Setting) (r : TimerRecord) → Type 0
   pub may : (set : Setting) (s : State) → Bool
   -- whether the CPU's record tells no more after it: no fold, event, page step, page found dirty, reading or limits
   pub is_untold : (found : ℕ) (r : CpuRecord) → Bool
@@ -131,7 +130,7 @@ no_effect = record {
   record_after = λ set found r. r;
   timer_after = λ found r. r;
   RecordAllows = λ set r. ⊥;
-  TimerAllows = λ r. ⊥;
+  TimerAllows = λ set r. ⊥;
   may = λ set s. false;
   is_untold = λ found r. true;
 }
@@ -171,7 +170,7 @@ effect (count who x) = record no_effect {
   timer_after = λ found r. Record.timer_stepped kind.Count (word.Shared x) found
       (Record.timer_counted x (version_in found) (count_in found) r);
   RecordAllows = λ set r. IsWho set who;
-  TimerAllows = λ r. is_timer who ≡ true;
+  TimerAllows = λ set r. is_timer who ≡ true;
   may = λ set s. is_who set who;
   is_untold = λ found r. false;
 }
@@ -221,28 +220,28 @@ effect (peak d hard) = record no_effect {
   maker = Timer;
   access = on kind.Peak (word.Peak d);
   timer_after = λ found r. Record.timer_stepped kind.Peak (word.Peak d) found (Record.raising d hard r);
-  TimerAllows = λ r. Unit {0};
+  TimerAllows = λ set r. Unit {0};
   may = λ set s. true;
 }
 effect (unseal d) = record no_effect {
   maker = Timer;
   access = on kind.Unseal (word.Sequence d);
   timer_after = λ found r. Record.timer_stepped kind.Unseal (word.Sequence d) found (Record.unsealing d r);
-  TimerAllows = λ r. MayUnseal d r;
-  may = λ set s. is_sealed (stage_of d s.timer.drafts) && nat_lt (sequence_of s.timer d) LAST_SEQUENCE;
+  TimerAllows = λ set r. MayUnseal set d r;
+  may = λ set s. is_sealed (stage_of d s.timer.drafts) && nat_lt (sequence_of s.timer d) set.last_sequence;
 }
 effect (thresh d triple) = record no_effect {
   maker = Timer;
   access = on kind.Thresh (word.Thresh d);
   timer_after = λ found r. Record.timer_stepped kind.Thresh (word.Thresh d) found (Record.drafting d triple r);
-  TimerAllows = λ r. MayThresh d triple r;
+  TimerAllows = λ set r. MayThresh d triple r;
   may = λ set s. not (is_sealed (stage_of d s.timer.drafts)) && (is_lawful triple && at_most triple.hard (last_raised d s.timer.raised));
 }
 effect (publish d triple) = record no_effect {
   maker = Timer;
   access = on kind.Publish (word.Sequence d);
   timer_after = λ found r. Record.timer_stepped kind.Publish (word.Sequence d) found (Record.publishing d triple r);
-  TimerAllows = λ r. MayPublish d triple r;
+  TimerAllows = λ set r. MayPublish d triple r;
   may = λ set s. is_drafted triple (stage_of d s.timer.drafts);
 }
 effect (first i d) = record no_effect {

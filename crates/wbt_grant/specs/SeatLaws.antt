@@ -29,7 +29,7 @@ MayIsKnown = (set : Setting) (step : Step) (s : State) → is_by_timer step ≡ 
 -- the same for the timer: its record alone decides whether it may make a step
 abbrev pub TimerMayIsKnown : Type 0
 TimerMayIsKnown = (set : Setting) (step : Step) (s : State) → is_by_timer step ≡ true
-    → (TimerAllows step s.timer → Allowed set step s) × (Allowed set step s → TimerAllows step s.timer)
+    → (TimerAllows set step s.timer → Allowed set step s) × (Allowed set step s → TimerAllows set step s.timer)
 
 -- the record of the CPU becomes what its own record and the found number say; no other changes
 pub record BecomesKnown (set : Setting) (step : Step) (s : State) : Type 0 where

@@ -58,8 +58,8 @@ abbrev pub RecordAllows : (set : Setting) (step : Step) (r : CpuRecord) → Type
 RecordAllows set step r = (effect step).RecordAllows set r
 
 -- where the record of the timer allows it
-abbrev pub TimerAllows : (step : Step) (r : TimerRecord) → Type 0
-TimerAllows step r = (effect step).TimerAllows r
+abbrev pub TimerAllows : (set : Setting) (step : Step) (r : TimerRecord) → Type 0
+TimerAllows set step r = (effect step).TimerAllows set r
 
 -- what a CPU's record tells of what the CPU did and loaded
 pub record Told : Type 0 where

@@ -6,7 +6,7 @@ use Rattle.wbt_counter.specs.declared.counter.Counter.{Counter}
 use Rattle.wbt_counter.specs.Account.{amount, to_clear}
 use Rattle.wbt_counter.specs.Addends.{addend_of, fold_addend, word_plus, word_minus}
 use Rattle.wbt_counter.specs.Counters.{is_same, debt_to}
-use Rattle.wbt_grant.specs.Setting.{Setting, IsSetting}
+use Rattle.wbt_grant.specs.Setting.{Setting, IsSetting, FitsWords}
 use Rattle.wbt_grant.specs.State.{State, sequence_of}
 use Rattle.wbt_grant.specs.Kinds.{add, fold, clear, unseal, thresh, publish, own_now, shared_now, sequence_now, thresh_now, Allowed, after}
 use Rattle.wbt_grant.specs.Rule.{Rule}
@@ -27,9 +27,9 @@ abbrev pub AddIsAddition : Type 0
 AddIsAddition = (set : Setting) (i : ℕ) (x : Counter) (s : State) → IsSetting set → Rule set s → Allowed set (add i x) s
     → OwnBecomes x i (word_plus (own_now x i s) (addend_of (amount (debt_to x (s.cpu i).debts)))) s (after set (add i x) s)
 
--- one version and the own number are added to the shared word, at once
+-- one version and the own number are added to the shared word, at once, where so few steps are made that the word counts them
 abbrev pub FoldIsAddition : Type 0
-FoldIsAddition = (set : Setting) (i : ℕ) (x : Counter) (s : State) → IsSetting set → Rule set s → Allowed set (fold i x) s
+FoldIsAddition = (set : Setting) (i : ℕ) (x : Counter) (s : State) → IsSetting set → FitsWords set → Rule set s → Allowed set (fold i x) s
     → SharedBecomes x (word_plus (shared_now x s) (fold_addend (own_told set x (s.cpu i)))) s (after set (fold i x) s)
 
 -- just the number that was folded is taken from the own word

@@ -128,7 +128,7 @@ module _ (cpus cap size on : ℕ) (some_cpus : 1 ≤ cpus) (few_cpus : cpus ≤ 
     some_cpu = some_cpus;
     few_cpus = few_cpus;
     some_cap = some_cap;
-    few_page_steps = omega arith;
+    last_even = omega arith;
     few_pages = let e = pages_are in omega arith;
     homes = λ p less. omega arith;
     seats = λ w less. omega arith;

@@ -4,6 +4,7 @@ use Rattle.wbt_grant.specs.Example.{plain}
 use Rattle.wbt_grant.specs.Setting.{Setting}
 use Rattle.wbt_grant.specs.State.{opening}
 use Rattle.wbt_num.specs.declared.limits.Limits.{Limits}
+use Rattle.wbt_num.specs.declared.limits.TheConstants.{LAST_SEQUENCE}
 use Rattle.wbt_pause.specs.declared.decision.Kind.TheVariants as kind
 use Rattle.wbt_published.specs.declared.known.Known.{Known}
 use Rattle.wbt_counter.specs.declared.counter.Count.{Count}
@@ -47,6 +48,7 @@ small_setting trace = record {
   cpus = trace.cpus;
   cap = trace.cap;
   page_steps = 100;
+  last_sequence = LAST_SEQUENCE;
   firsts = λ d. first_limits;
   contexts = contexts trace;
   group = λ k. context_domain trace k;

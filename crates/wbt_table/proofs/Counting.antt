@@ -53,7 +53,7 @@ of_record l c r P has h = subst P (one_record l c h.0 r h.1 has) h.2
 module _ (key : Layout) where
   pub add_moves : (i : ℕ) (x : Counter) (a : ℤ) (r : CpuRecord) → HasCounter key x → amount (debt_to x r.debts) ≡ a
       → Moves key (add i x) r (own_at key x i) (λ n. (n + addend_of a) % 2 ^ 64)
-  add_moves i x a r there is words s ok rule shows long may at =
+  add_moves i x a r there is words s ok fit rule shows long may at =
       let set' : Setting = setting key in
       let n : ℕ = get_or words (own_at key x i) 0 in
       let z : ℤ = local_after i x s in
@@ -71,7 +71,7 @@ module _ (key : Layout) where
 
   pub clear_moves : (i : ℕ) (x : Counter) (d : ℤ) (r : CpuRecord) → HasCounter key x → to_clear (debt_to x r.debts) ≡ d
       → Moves key (clear i x) r (own_at key x i) (λ n. (n + (2 ^ 64 - addend_of d)) % 2 ^ 64)
-  clear_moves i x d r there is words s ok rule shows long may at =
+  clear_moves i x d r there is words s ok fit rule shows long may at =
       let set' : Setting = setting key in
       let n : ℕ = get_or words (own_at key x i) 0 in
       let z : ℤ = local_left i x s in
@@ -89,13 +89,13 @@ module _ (key : Layout) where
 
   pub fold_moves : (i : ℕ) (x : Counter) (delta : ℤ) (r : CpuRecord) → HasCounter key x → own_told (setting key) x r ≡ delta
       → Moves key (fold i x) r (shared_at key x) (λ n. (n + fold_addend delta) % 2 ^ 64)
-  fold_moves i x delta r there is words s ok rule shows long may at =
+  fold_moves i x delta r there is words s ok fit rule shows long may at =
       let set' : Setting = setting key in
       let n : ℕ = get_or words (shared_at key x) 0 in
       let h : History = (i, s.own x i) ∷ s.folds x in
       let shown : n ≡ shared_now x s = shows.shared.each x there in
       let now : own_told set' x (s.cpu i) ≡ delta = ap (own_told set' x) at ∙ is in
-      let law = fold_is_addition set' i x s ok rule may in
+      let law = fold_is_addition set' i x s ok fit rule may in
       let word : word_plus n (fold_addend delta) ≡ packed (length h) (sum_of h) =
       (λ j. word_plus (shown j) (fold_addend (sym now j))) ∙ sym law.here ∙ ap (λ (g : History). packed (length g) (sum_of g)) (shared_here s.folds x h) in
       let mid : State = record s { folds = put_counter s.folds x h } in (
@@ -107,15 +107,15 @@ module _ (key : Layout) where
 
   -- a load, by a writer, a CPU or the timer
   pub count_moves : (who : Who) (x : Counter) (r : CpuRecord) → HasCounter key x → Moves key (count who x) r (shared_at key x) (λ n. n)
-  count_moves (Writer w) x r there words s ok rule shows long may at = (
+  count_moves (Writer w) x r there words s ok fit rule shows long may at = (
     sym (shows.shared.each x there),
     load_shown key words s (after (setting key) (count (Writer w) x) s) (shared_at key x) shows refl refl refl refl refl refl,
   )
-  count_moves (Cpu i) x r there words s ok rule shows long may at = (
+  count_moves (Cpu i) x r there words s ok fit rule shows long may at = (
     sym (shows.shared.each x there),
     load_shown key words s (after (setting key) (count (Cpu i) x) s) (shared_at key x) shows refl refl refl refl refl refl,
   )
-  count_moves Timer x r there words s ok rule shows long may at = (
+  count_moves Timer x r there words s ok fit rule shows long may at = (
     sym (shows.shared.each x there),
     load_shown key words s (after (setting key) (count Timer x) s) (shared_at key x) shows refl refl refl refl refl refl,
   )

@@ -28,7 +28,7 @@ use Rattle.wbt_table.proofs.Calling.{layout_here, record_here, lefts_here}
 
 -- a load of the first word, in which nothing stands
 pub grant_moves : (key : Layout) (w pages : ℕ) (r : CpuRecord) → Moves key (grant w pages) r 0 (λ n. n)
-grant_moves key w pages r words s ok rule shows long may at = (
+grant_moves key w pages r words s ok fit rule shows long may at = (
   sym shows.first,
   load_shown key words s (after (setting key) (grant w pages) s) 0 shows refl refl refl refl refl refl,
 )

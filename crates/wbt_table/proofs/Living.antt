@@ -16,7 +16,7 @@ use Rattle.wbt_table.specs.Rule.{Has, HasLog, Kept, first_view, without, alone, 
 use Rattle.wbt_table.specs.History.{log_of, timer_log_of}
 use Rattle.wbt_table.proofs.Seating.{some_is}
 use Rattle.wbt_table.proofs.Holding.{AreHeld, IsHeldOnce, held_apart, held_alone, held_together, timer_stays, timer_goes, timer_together}
-use Rattle.wbt_table.proofs.Opening.{lawful_setting, long_opening, opening_shown}
+use Rattle.wbt_table.proofs.Opening.{lawful_setting, words_fit, long_opening, opening_shown}
 
 module _ (key : Layout) (s : State (Unit {0}) View) (k : Kept key s) where
   abbrev cpu_at : (c : ℕ) → CpuRecord
@@ -32,6 +32,7 @@ module _ (key : Layout) (s : State (Unit {0}) View) (k : Kept key s) where
   in_views views owner timer_owner seated told timed timer_told = record {
     state = k.state;
     lawful = k.lawful;
+    fits = k.fits;
     past = k.past;
     are_made = k.are_made;
     state_is = k.state_is;
@@ -90,6 +91,7 @@ pub opened : (key : Layout) → IsLayout key → Kept key (table.opening (openin
 opened key ok = record {
   state = opening (setting key);
   lawful = lawful_setting key ok;
+  fits = words_fit key ok;
   past = [];
   are_made = tt;
   state_is = refl;

@@ -22,7 +22,7 @@ taken_out false = refl
 
 module _ (key : Layout) where
   pub mark_moves : (i n : ℕ) (r : CpuRecord) → n < length key.inodes → Moves key (mark i n) r (mark_at key n) (λ m. bit_or m 1)
-  mark_moves i n r there words s ok rule shows long may at =
+  mark_moves i n r there words s ok fit rule shows long may at =
       let set' : Setting = setting key in
       let m : ℕ = get_or words (mark_at key n) 0 in
       let shown : m ≡ one_if (s.marked n) = shows.marks.each n there in
@@ -34,7 +34,7 @@ module _ (key : Layout) where
       )
 
   pub unmark_moves : (i n : ℕ) (r : CpuRecord) → n < length key.inodes → Moves key (unmark i n) r (mark_at key n) (λ m. bit_and m (all_but 1))
-  unmark_moves i n r there words s ok rule shows long may at =
+  unmark_moves i n r there words s ok fit rule shows long may at =
       let set' : Setting = setting key in
       let m : ℕ = get_or words (mark_at key n) 0 in
       let shown : m ≡ one_if (s.marked n) = shows.marks.each n there in

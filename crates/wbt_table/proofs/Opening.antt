@@ -10,7 +10,7 @@ use Rattle.wbt_counter.specs.Word.{packed, own_word}
 use Rattle.wbt_book.specs.Book.{clean}
 use Rattle.wbt_book.specs.PageWords.{packed_pages}
 use Rattle.wbt_book.proofs.PageWords.{word_holds_page}
-use Rattle.wbt_grant.specs.Setting.{IsSetting}
+use Rattle.wbt_grant.specs.Setting.{IsSetting, FitsWords}
 use Rattle.wbt_grant.specs.State.{opening}
 use Rattle.wbt_table.specs.declared.layout.Layout.{Layout}
 use Rattle.wbt_table.specs.declared.layout.Place.{Place}
@@ -42,7 +42,7 @@ lawful_setting key ok = record {
   some_cpu = ok.some_cpu;
   few_cpus = ok.few_cpus;
   some_cap = ok.some_cap;
-  few_page_steps = ok.few_page_steps;
+  last_even = omega arith;
   few_pages = ok.few_pages;
   homes = λ p l. home_inside key.inodes 0 p (length key.contexts) ok.inodes_in_order ok.inodes_in_contexts (omega arith) (omega arith);
   seats = λ w l. ok.writers_on_cpus w no_writer l;
@@ -52,6 +52,10 @@ lawful_setting key ok = record {
   limits_hold = limits_in-words;
   unseal_adds = λ sequence hard. omega arith;
 }
+
+-- the words count all steps that are made
+pub words_fit : (key : Layout) → IsLayout key → FitsWords (setting key)
+words_fit key ok = record { few_page_steps = ok.few_page_steps; few_sequences = omega arith }
 
 clean_word : (n : ℕ) → packed_pages n (λ j. clean) ≡ 0
 unfolding packed_pages

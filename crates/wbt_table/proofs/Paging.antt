@@ -35,13 +35,13 @@ last_given (Some g) r n is = is
 
 module _ (key : Layout) where
   pub look_moves : (i p : ℕ) (r : CpuRecord) → Moves key (look i p) r (page_at p) (λ n. n)
-  look_moves i p r words s ok rule shows long may at = (
+  look_moves i p r words s ok fit rule shows long may at = (
     sym (shows.pages.each p may.page_is),
     load_shown key words s (after (setting key) (look i p) s) (page_at p) shows refl refl refl refl refl refl,
   )
 
   pub dirty_moves : (w p : ℕ) (r : CpuRecord) → Moves key (dirty w p) r (page_at p) (λ n. bit_or n (dirty_mask p))
-  dirty_moves w p r words s ok rule shows long may at =
+  dirty_moves w p r words s ok fit rule shows long may at =
       let set' : Setting = setting key in
       let c : ℕ = set'.seat w in
       let n : ℕ = get_or words (page_at p) 0 in
@@ -61,7 +61,7 @@ module _ (key : Layout) where
       )
 
   pub complete_moves : (i p : ℕ) (r : CpuRecord) → Moves key (complete i p) r (page_at p) (λ n. bit_and n (all_but (writeback_mask p)))
-  complete_moves i p r words s ok rule shows long may at =
+  complete_moves i p r words s ok fit rule shows long may at =
       let set' : Setting = setting key in
       let n : ℕ = get_or words (page_at p) 0 in
       let v : ℕ = bit_and n (all_but (writeback_mask p)) in
@@ -77,7 +77,7 @@ module _ (key : Layout) where
   -- a hit is the claim, and a miss leaves the word
   pub claim_moves : (i p found : ℕ) (r : CpuRecord) → last_found r.last ≡ found
       → Moves key (claim i p) r (page_at p) (λ n. either (eqb n found) (word_after (event.Claim p) found) n)
-  claim_moves i p found r is words s ok rule shows long may at =
+  claim_moves i p found r is words s ok fit rule shows long may at =
       let set' : Setting = setting key in
       let n : ℕ = get_or words (page_at p) 0 in
       let shown : n ≡ shared_word s.book p = shows.pages.each p may.page_is in
@@ -103,7 +103,7 @@ module _ (key : Layout) where
   -- a hit gives the page back, and a miss leaves the word
   pub back_moves : (i p found : ℕ) (r : CpuRecord) → last_found r.last ≡ found
       → Moves key (back i p) r (page_at p) (λ n. either (eqb n found) (back_in found p) n)
-  back_moves i p found r is words s ok rule shows long may at =
+  back_moves i p found r is words s ok fit rule shows long may at =
       let set' : Setting = setting key in
       let n : ℕ = get_or words (page_at p) 0 in
       let shown : n ≡ shared_word s.book p = shows.pages.each p may.page_is in

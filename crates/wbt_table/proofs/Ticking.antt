@@ -4,7 +4,7 @@ use Rattle.atomic_table.specs.Table.{keeps, Allows}
 use Rattle.atomic_table.proofs.Lists.{at_set}
 use Rattle.wbt_grant.specs.declared.record.CpuRecord.{CpuRecord}
 use Rattle.wbt_grant.specs.declared.record.TimerRecord.{TimerRecord}
-use Rattle.wbt_grant.specs.Setting.{Setting, IsSetting}
+use Rattle.wbt_grant.specs.Setting.{Setting, IsSetting, FitsWords}
 use Rattle.wbt_grant.specs.State.{State}
 use Rattle.wbt_grant.specs.Kinds.{Step, Allowed, after}
 use Rattle.wbt_grant.specs.Rule.{Rule}
@@ -25,13 +25,13 @@ use Rattle.wbt_table.proofs.Seating.{some_is}
 -- what a kind of step of the timer owes: its word holds what the step finds, and becomes what shows the state after it
 -- r is the timer's record
 abbrev pub TimerMoves : (key : Layout) (t : Step) (r : TimerRecord) (k : ℕ) (f : ℕ → ℕ) → Type 0
-TimerMoves key t r k f = (words : List ℕ) (s : State) → IsSetting (setting key) → Rule (setting key) s → Shows key words s
+TimerMoves key t r k f = (words : List ℕ) (s : State) → IsSetting (setting key) → FitsWords (setting key) → Rule (setting key) s → Shows key words s
     → length words ≡ width key → Allowed (setting key) t s → s.timer ≡ r
     → (found_by (setting key) t s ≡ get_or words k 0) × Shows key (set words k (f (get_or words k 0))) (after (setting key) t s)
 
 -- a kind that owes the same whatever the record is
 pub whatever_record : (key : Layout) (t : Step) (q : TimerRecord) (k : ℕ) (f : ℕ → ℕ) → ((r : CpuRecord) → Moves key t r k f) → TimerMoves key t q k f
-whatever_record key t q k f moves words s ok rule shows long may at = moves (s.cpu (maker_of (setting key) t)) words s ok rule shows long may refl
+whatever_record key t q k f moves words s ok fit rule shows long may at = moves (s.cpu (maker_of (setting key) t)) words s ok fit rule shows long may refl
 
 -- a log that is there becomes another
 abbrev log_instead : (log : List Logged) (old : Option (List Logged)) → Option (List Logged)
@@ -43,15 +43,15 @@ instead_is log now None e = absurd (cc e)
 instead_is log now (Some old) e = some_is log now e
 
 module _ (key : Layout) (slots id : ℕ) (me : Sat) (t : Step) (r : TimerRecord) where
-  pub ticks : is_by_timer t ≡ true → me.0.timer ≡ Some r → TimerAllows t r → (k : ℕ) (f : ℕ → ℕ) → TimerMoves key t r k f
+  pub ticks : is_by_timer t ≡ true → me.0.timer ≡ Some r → TimerAllows (setting key) t r → (k : ℕ) (f : ℕ → ℕ) → TimerMoves key t r k f
       → Allows (Kept key) slots id me k f (λ n m'. Ticked (turn key t None) n me m')
   ticks by has can k f moves s kept slots_are at small =
       let set' : Setting = setting key in
       let n : ℕ = get_or s.words k 0 in
       let here = kept.timed id me.0 r at has in
       let old : State = kept.state in
-      let allowed : Allowed set' t old = (timer_may_is_known set' t old by).0 (subst (TimerAllows t) (sym here.1) can) in
-      let moved = moves s.words old kept.lawful kept.rule kept.shows kept.long allowed here.1 in
+      let allowed : Allowed set' t old = (timer_may_is_known set' t old by).0 (subst (TimerAllows set' t) (sym here.1) can) in
+      let moved = moves s.words old kept.lawful kept.fits kept.rule kept.shows kept.long allowed here.1 in
       let known = timer_is_known set' t old kept.lawful kept.rule by in
       let new : TimerRecord = timer_after t n r in
       let one : Made = record { step = t; found = n } in
@@ -74,6 +74,7 @@ module _ (key : Layout) (slots id : ℕ) (me : Sat) (t : Step) (r : TimerRecord)
         record {
           state = after set' t old;
           lawful = kept.lawful;
+          fits = kept.fits;
           past = one ∷ kept.past;
           are_made = (then_allowed, then_found, kept.are_made);
           state_is = ap (after set' t) kept.state_is;

@@ -8,7 +8,7 @@ use Rattle.atomic_table.proofs.Lists.{at_set}
 use Rattle.wbt_counter.specs.Sums.{put}
 use Rattle.wbt_counter.proofs.Sums.{put_same, put_other}
 use Rattle.wbt_grant.specs.declared.record.CpuRecord.{CpuRecord}
-use Rattle.wbt_grant.specs.Setting.{Setting, IsSetting}
+use Rattle.wbt_grant.specs.Setting.{Setting, IsSetting, FitsWords}
 use Rattle.wbt_grant.specs.State.{State}
 use Rattle.wbt_grant.specs.Record.{granted}
 use Rattle.wbt_grant.specs.Kinds as kinds
@@ -31,7 +31,7 @@ use Rattle.wbt_table.proofs.Showing.{put_again, shows_parts}
 -- What a kind of step owes: its word holds what the step finds, and becomes what shows the state after it. r is the record of the
 -- CPU that makes it
 abbrev pub Moves : (key : Layout) (t : Step) (r : CpuRecord) (k : ℕ) (f : ℕ → ℕ) → Type 0
-Moves key t r k f = (words : List ℕ) (s : State) → IsSetting (setting key) → Rule (setting key) s → Shows key words s
+Moves key t r k f = (words : List ℕ) (s : State) → IsSetting (setting key) → FitsWords (setting key) → Rule (setting key) s → Shows key words s
     → length words ≡ width key → Allowed (setting key) t s → s.cpu (maker_of (setting key) t) ≡ r
     → (found_by (setting key) t s ≡ get_or words k 0) × Shows key (set words k (f (get_or words k 0))) (after (setting key) t s)
 
@@ -143,7 +143,7 @@ module _ (key : Layout) (slots id : ℕ) (me : Sat) (t : Step) (grants : Option 
       let at1 : old.cpu c ≡ given grants r = (λ i. gave.cpus i c) ∙ put_same kept.state.cpu c (given grants r) in
       let others1 : (d : ℕ) → d ≢ c → old.cpu d ≡ kept.state.cpu d = λ d ne. (λ i. gave.cpus i d) ∙ put_other kept.state.cpu c (given grants r) d ne in
       let allowed : Allowed set' t old = (may_is_known set' t old by).0 (subst (RecordAllows set' t) (sym at1) can) in
-      let moved = moves s.words old kept.lawful gave.rule gave.shows kept.long allowed at1 in
+      let moved = moves s.words old kept.lawful kept.fits gave.rule gave.shows kept.long allowed at1 in
       let known = record_is_known set' t old kept.lawful gave.rule allowed by in
       let new : CpuRecord = record_after set' t n (given grants r) in
       let is : (after set' t old).cpu c ≡ new = (λ i. known.cpus i c) ∙ put_same old.cpu c (record_after set' t (found_by set' t old) (old.cpu c))
@@ -171,6 +171,7 @@ module _ (key : Layout) (slots id : ℕ) (me : Sat) (t : Step) (grants : Option 
         record {
           state = after set' t old;
           lawful = kept.lawful;
+          fits = kept.fits;
           past = one ∷ gave.until;
           are_made = (then_allowed, then_found, gave.are_made);
           state_is = ap (after set' t) gave.state_is;

@@ -1,6 +1,7 @@
 -- What of a throttle never changes: its numbers, where its words stand, and what they are at the start.
 use Rattle.std.specs.Prelude.{◌≡◌, ℕ, suc, ◌+◌, ◌*◌, ◌<◌, ◌≤◌, cond, nat_lt, List, [], ◌∷◌, ◌++◌, All, length, map, replicate, get_or, pos}
 use Rattle.wbt_num.specs.declared.limits.Limits.{Limits}
+use Rattle.wbt_num.specs.declared.limits.TheConstants.{LAST_SEQUENCE}
 use Rattle.wbt_num.specs.declared.most.TheConstants.{MOST_CPUS, MOST_CAP, MOST_CGROUPS, MOST_CONTEXTS, MOST_INODES, MOST_PAGES, MOST_WRITERS, MOST_PAGE_STEPS}
 use Rattle.wbt_num.specs.Limits.{IsLawful}
 use Rattle.wbt_limits.specs.Words.{sequence_word_of, thresh_word_of, sequence_in, limits_in}
@@ -45,6 +46,7 @@ setting key = record {
   cpus = key.cpus;
   cap = key.cap;
   page_steps = key.page_steps;
+  last_sequence = LAST_SEQUENCE;
   firsts = λ d. get_or key.firsts d no_limits;
   contexts = length key.contexts;
   group = λ k. get_or key.contexts k 0;

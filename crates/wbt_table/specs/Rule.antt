@@ -12,7 +12,7 @@ use Rattle.wbt_book.specs.Book.{Book}
 use Rattle.wbt_book.specs.PageWords.{shared_word}
 use Rattle.wbt_grant.specs.declared.record.CpuRecord.{CpuRecord}
 use Rattle.wbt_grant.specs.declared.record.TimerRecord.{TimerRecord}
-use Rattle.wbt_grant.specs.Setting.{Setting, IsSetting}
+use Rattle.wbt_grant.specs.Setting.{Setting, IsSetting, FitsWords}
 use Rattle.wbt_grant.specs.State.{State, opening, no_record}
 use Rattle.wbt_grant.specs.Kinds.{Step, MayGrant, sequence_now, thresh_now, Allowed}
 use Rattle.wbt_grant.specs.Record.{granted}
@@ -117,6 +117,7 @@ first_view key = record {
 pub record Kept (key : Layout) (s : table.State (Unit {0}) View) : Type 0 where
   pub state : State
   pub lawful : IsSetting (setting key)
+  pub fits : FitsWords (setting key)
   pub past : Past
   pub are_made : AreMade (setting key) past
   pub state_is : state ≡ state_after (setting key) past

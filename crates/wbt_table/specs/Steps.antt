@@ -24,5 +24,5 @@ IsReady key step grants cpus = Holds cpus (maker_of (setting key) step)
     (λ r. MayGive (setting key) (maker_of (setting key) step) grants r × RecordAllows (setting key) step (given grants r))
 
 -- the timer is held, and its record allows the step
-abbrev pub IsTimerReady : (step : Step) (timer : Option TimerRecord) → Type 0
-IsTimerReady step timer = (r : TimerRecord) × (timer ≡ Some r) × TimerAllows step r
+abbrev pub IsTimerReady : (key : Layout) (step : Step) (timer : Option TimerRecord) → Type 0
+IsTimerReady key step timer = (r : TimerRecord) × (timer ≡ Some r) × TimerAllows (setting key) step r

@@ -181,7 +181,7 @@ impl Throttle {
     fn unseal(&self, seat: &mut CpuSeat, domain: u32)
         requires seat { IsAt self.now seat.old }
         requires there { domain < domains self.now.layout }
-        requires may { (r : _) × (seat.old.timer ≡ Some r) × MayUnseal domain r }
+        requires may { (r : _) × (seat.old.timer ≡ Some r) × MayUnseal (setting self.now.layout) domain r }
         ensures { (n : _) × Times (setting self.now.layout) (unseal domain) n seat.old seat.new }
     {
         self.words.unseal::<Brand>(&mut seat.place, domain);

@@ -6,7 +6,6 @@ use Rattle.wbt_trace.specs.declared.trace.Trace.{Trace}
 use Rattle.wbt_journal.specs.Each.{Each}
 use Rattle.wbt_journal.specs.declared.journal.Ending.TheVariants as ending
 use Rattle.wbt_replay_order.specs.Definition.Order.{is_ended}
-use Rattle.wbt_replay_order.specs.Kept.Ranges.{most_followed}
 use Rattle.wbt_forecast_run.specs.Claims.{AreBounded, IsAsReplayed}
 use Rattle.wbt_forecast_run.specs.Run.{forecast, foretold, most_moves, state_after}
 use Rattle.wbt_top_plain.specs.Top.{IsRead, IsSpent}
@@ -19,8 +18,8 @@ IsForecastSpent trace every = (forecast trace every).ending ≡ ending.Spent
 pub record IsForecastRight (trace : Trace) (every : ℕ) : Type 0 where
   -- It tells the whole run, which has ended.
   pub ended : is_ended (state_after trace most_moves) ≡ true
-  -- Each count of a domain and each greatest count is at most the bound beside it, where the run makes fewer than 2^31 steps.
-  pub bounded : length (state_after trace most_moves).steps < most_followed → Each AreBounded (forecast trace every).rows
+  -- Each count of a domain and each greatest count is at most the bound beside it.
+  pub bounded : Each AreBounded (forecast trace every).rows
   -- Where a replay of the trace isn't spent, the run is the one that the replay tells: its totals and its ending are those of that journal, and
   -- the pages, checks, pauses and ticks of all intervals add up to those that the journal tells of each task, as do pages of each context.
   pub replayed : ¬ IsSpent trace → IsAsReplayed trace

@@ -11,7 +11,6 @@ use Rattle.wbt_replay_order.specs.Definition.Order.{advance, is_ended, is_full}
 use Rattle.wbt_replay_order.specs.Kept.Further.{fits_further}
 use Rattle.wbt_replay_order.proofs.Facts.Lists.{either}
 use Rattle.wbt_replay_order.proofs.Growth.Grown.{advance_grows}
-use Rattle.wbt_replay_order.proofs.Growth.Most.{most_kept}
 use Rattle.wbt_replay_changes.specs.Apply.{apply}
 use Rattle.wbt_replay_changes.specs.Change.{Change}
 use Rattle.wbt_replay_changes.specs.Change as change
@@ -85,9 +84,6 @@ let_domains s = either (λ (u : State). u.domains ≡ s.domains) (is_full s && f
 let_steps : (s : State) → (let_on s).steps ≡ s.steps
 let_steps s = either (λ (u : State). u.steps ≡ s.steps) (is_full s && fits_further s) (extended s) s (λ is. refl) (λ no. refl)
 
-let_most : (s : State) → s.most ≤ (let_on s).most
-let_most s = either (λ (u : State). s.most ≤ u.most) (is_full s && fits_further s) (extended s) s (λ is. omega arith) (λ no. omega arith)
-
 pub moved_peaks : (trace : Trace) (s : State) → PeaksGrow s (moved trace s)
 moved_peaks trace s = either (PeaksGrow s) (is_ended s) s (advance trace (let_on s)) (λ over d. omega arith)
     (λ going d. (let x = advance_peaks trace (let_on s) d in let y =
@@ -106,9 +102,3 @@ moved_grows trace s = either (λ (u : State). (u.steps ≡ s.steps) ⊎ ((e : St
     ⊎_elim (λ same. inl (same ∙ let_steps s))
     (λ one. inr (one.entry, one.is ∙ ap (λ (l : List StepEntry). l ++ one.entry ∷ []) (let_steps s)))
     (advance_grows trace (let_on s)).1)
-
--- ---- how many steps may be made
-
-pub moved_most : (trace : Trace) (s : State) → s.most ≤ (moved trace s).most
-moved_most trace s = either (λ (u : State). s.most ≤ u.most) (is_ended s) s (advance trace (let_on s)) (λ over. omega arith)
-    (λ going. (let x = let_most s in let y = most_kept trace (let_on s) in omega (arith, x, y)))

@@ -36,7 +36,7 @@ module _ (trace : Trace) (lawful : IsLawful trace) where
         some_cpu = f.some_cpu;
         few_cpus = f.few_cpus;
         some_cap = f.some_cap;
-        few_page_steps = omega arith;
+        last_even = omega arith;
         few_pages = f.few_pages;
         homes = λ p less. f.inode_context (inode_with trace p) (omega (arith, found_there 0 0 p trace.inodes lawful.within.inodes.firsts (omega arith) (omega (arith, less))));
         seats = λ w less. lawful.within.tasks (writer_at trace w).task no_task (pair_of w less).0;

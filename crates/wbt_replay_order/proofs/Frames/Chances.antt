@@ -193,7 +193,7 @@ module _ (trace : Trace) (setting : Setting) (suits : Suits trace setting) (i : 
   }
 
   module _ (s : State) where
-    pub turned_state : (t : throttle.State) → i < trace.cpus → Ranges trace s → Follows trace setting s t
+    pub turned_state : (t : throttle.State) → i < trace.cpus → Ranges trace setting s → Follows trace setting s t
         → Follows trace setting (with_cpu i (turned next next_task stopped (cpu_of i s)) s) t
     turned_state t less ranges h =
         let s2 : State = with_cpu i (turned next next_task stopped (cpu_of i s)) s in

@@ -1,6 +1,7 @@
 -- What of a trace's throttle never changes, for the step relation.
 use Rattle.std.specs.Prelude.{ℕ, ◌+◌, if◌then◌else◌, nat_lt, List, [], ◌∷◌, length, get_or}
 use Rattle.wbt_limits.specs.Words.{sequence_word_of, thresh_word_of, sequence_in, limits_in}
+use Rattle.wbt_num.specs.declared.limits.TheConstants.{LAST_SEQUENCE}
 use Rattle.wbt_num.specs.declared.most.TheConstants.{MOST_PAGE_STEPS}
 use Rattle.wbt_trace.specs.Lawful.{writers_of}
 use Rattle.wbt_trace.specs.Sofar.{pages_in}
@@ -36,6 +37,7 @@ setting_of trace = record {
   cpus = trace.cpus;
   cap = trace.cap;
   page_steps = MOST_PAGE_STEPS;
+  last_sequence = LAST_SEQUENCE;
   firsts = λ d. first_limits trace d;
   contexts = length trace.contexts;
   group = λ k. group_of trace k;

@@ -4,7 +4,6 @@ use Rattle.std.specs.List.{list_any}
 use Rattle.wbt_trace.specs.Sofar.{pages_in}
 use Rattle.wbt_trace.specs.WriterList.{is_writer}
 use Rattle.wbt_trace.specs.declared.trace.Trace.{Trace}
-use Rattle.wbt_num.specs.declared.most.TheConstants.{MOST_PAGE_STEPS}
 use Rattle.wbt_counter.specs.Counters.{without_debt}
 use Rattle.wbt_counter.specs.History.{sum_of}
 use Rattle.wbt_counter.specs.Sums.{total}
@@ -73,7 +72,6 @@ use Rattle.wbt_replay_order.specs.Kept.Facts.{IsPageOf, IsTaskOn, IsFlusherOn}
 pub record Suits (trace : Trace) (set : Setting) : Type 0 where
   pub cpus : set.cpus ≡ trace.cpus
   pub cap : set.cap ≡ trace.cap
-  pub page_steps : set.page_steps ≡ MOST_PAGE_STEPS
   pub contexts : set.contexts ≡ length trace.contexts
   pub group : (k : ℕ) → set.group k ≡ group_of trace k
   pub pages : set.pages ≡ pages_in trace.inodes

@@ -1,8 +1,9 @@
 -- What of a state's ranges is needed to follow the step relation.
-use Rattle.std.specs.Prelude.{◌≡◌, ℕ, ◌^◌, ◌<◌, ◌≤◌, true, List, [], ◌∷◌, length, get_or, All}
+use Rattle.std.specs.Prelude.{◌≡◌, ℕ, ◌<◌, ◌≤◌, true, List, [], ◌∷◌, length, get_or, All}
 use Rattle.wbt_num.specs.Limits.{IsLawful}
 use Rattle.wbt_trace.specs.WriterList.{is_writer}
 use Rattle.wbt_trace.specs.declared.trace.Trace.{Trace}
+use Rattle.wbt_grant.specs.Setting.{Setting}
 use Rattle.wbt_journal.specs.Machine.{domains}
 use Rattle.wbt_task.specs.declared.allowance.Due.TheVariants as due
 use Rattle.wbt_replay_moves.specs.Definition.Check.{writer_in, writer_of}
@@ -56,12 +57,9 @@ pub record HasLimits (turn : ReplayTurn) : Type 0 where
   pub global : IsLawful turn.global.limits
   pub cgroup : IsLawful turn.cgroup.limits
 
--- A run of no more steps is followed: its sequences and its page steps find room in the relation.
-abbrev pub most_followed : ℕ
-most_followed = 2 ^ 31
-
--- each list of the state has one item for each thing of the trace, and what its items name is there
-pub record Ranges (trace : Trace) (s : State) : Type 0 where
+-- Each list of the state has one item for each thing of the trace, and what its items name is there. By the setting there is room for the page
+-- steps and the sequences of as many steps as the run may make.
+pub record Ranges (trace : Trace) (set : Setting) (s : State) : Type 0 where
   pub domains_are : length s.domains ≡ domains trace
   pub contexts : length s.contexts ≡ length trace.contexts
   pub marks : length s.marks ≡ length trace.inodes
@@ -83,4 +81,5 @@ pub record Ranges (trace : Trace) (s : State) : Type 0 where
   pub limits : (d : ℕ) → d < domains trace → IsLawful (domain_of d s).limits
   pub sequences : (d : ℕ) → d < domains trace → (domain_of d s).sequence ≤ s.most
   pub timer_limits : IsLawful s.timer.limits
-  pub followed : s.most ≤ most_followed
+  pub page_steps : s.most ≤ set.page_steps
+  pub last_sequence : s.most < set.last_sequence

@@ -149,7 +149,7 @@ check_plain k (suc g) =
 -- ---- a turn
 
 module _ (trace : Trace) (setting : Setting) (suits : Suits trace setting) (i : ℕ) (less : i < trace.cpus) (s : State) (t : throttle.State)
-    (ranges : Ranges trace s) (h : Follows trace setting s t) (is : (cpu_of i s).todo ≡ []) (next next_task : ℕ) where
+    (ranges : Ranges trace setting s) (h : Follows trace setting s t) (is : (cpu_of i s).todo ≡ []) (next next_task : ℕ) where
   there : i < length s.cpus
   there = omega (arith, less, ranges.cpus)
 

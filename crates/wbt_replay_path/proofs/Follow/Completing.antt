@@ -46,7 +46,7 @@ use Rattle.wbt_replay_path.proofs.Follow.Tells.{events_more, folds_more, founds_
 use Rattle.wbt_replay_path.proofs.Follow.Pages.{flushers_elsewhere, scans_on}
 
 module _ (trace : Trace) (setting : Setting) (suits : Suits trace setting) (i : ℕ) (less : i < trace.cpus) (s : State) (t : throttle.State)
-    (ranges : Ranges trace s) (h : Follows trace setting s t) where
+    (ranges : Ranges trace setting s) (h : Follows trace setting s t) where
   next : AtNext trace setting i s t
   next = at_next trace setting suits i less s t ranges h
 
@@ -98,7 +98,7 @@ module _ (trace : Trace) (setting : Setting) (suits : Suits trace setting) (i : 
             holds_it = holds;
             ready = record {
               owes_none = none_owed _ (d0.debts ∙ d0.tidy.0.debts);
-              step_left = omega (arith, d0.paced, ranges.made i less, room, ranges.followed, suits.page_steps);
+              step_left = omega (arith, d0.paced, ranges.made i less, room, ranges.page_steps);
             };
           })
           (ap (λ (n : ℕ). s.steps ++ change_entry i kind.Complete n (negsuc 0) ∷ []) (sym home))

@@ -121,7 +121,7 @@ owned_triples trace setting x n c o triples to h =
     (subst (λ (l : List CheckEntry). HasTriples trace setting l c.held triples) (sym to.checks) h)
 
 module _ (trace : Trace) (setting : Setting) (suits : Suits trace setting) (i : ℕ) (less : i < trace.cpus) (s : State) (t : throttle.State)
-    (ranges : Ranges trace s) (h : Follows trace setting s t) where
+    (ranges : Ranges trace setting s) (h : Follows trace setting s t) where
   there : i < length s.cpus
   there = omega (arith, less, ranges.cpus)
 

@@ -117,7 +117,7 @@ waits_or_not decided.Exempt = inr ((λ e. cc e), refl)
 waits_or_not decided.Wait = inl refl
 
 module _ (trace : Trace) (setting : Setting) (suits : Suits trace setting) (i : ℕ) (less : i < trace.cpus) (s : State) (t : throttle.State)
-    (facts : Facts trace) (ranges : Ranges trace s) (h : Follows trace setting s t) (ts : List Todo) (is : (cpu_of i s).todo ≡ todo.Silent silent.Decide ∷ ts) where
+    (facts : Facts trace) (ranges : Ranges trace setting s) (h : Follows trace setting s t) (ts : List Todo) (is : (cpu_of i s).todo ≡ todo.Silent silent.Decide ∷ ts) where
   there : i < length s.cpus
   there = omega (arith, less, ranges.cpus)
 

@@ -58,7 +58,7 @@ use Rattle.wbt_replay_path.proofs.Follow.Tells.{events_more, folds_more, founds_
 use Rattle.wbt_replay_path.proofs.Follow.Writers.{due_cases, writer_with, tasks_elsewhere, left_changed, checked_changed}
 
 module _ (trace : Trace) (setting : Setting) (suits : Suits trace setting) (i : ℕ) (less : i < trace.cpus) (s : State) (t : throttle.State)
-    (facts : Facts trace) (ranges : Ranges trace s) (h : Follows trace setting s t) where
+    (facts : Facts trace) (ranges : Ranges trace setting s) (h : Follows trace setting s t) where
   there : i < length s.cpus
   there = omega (arith, less, ranges.cpus)
 
@@ -137,7 +137,7 @@ module _ (trace : Trace) (setting : Setting) (suits : Suits trace setting) (i : 
             some_left = omega (arith, least_is, one_left);
             ready = record {
               owes_none = none_owed _ (f.debts ∙ f.tidy.0.debts);
-              step_left = omega (arith, f.paced, ranges.made i less, room, ranges.followed, suits.page_steps);
+              step_left = omega (arith, f.paced, ranges.made i less, room, ranges.page_steps);
             };
           }
 

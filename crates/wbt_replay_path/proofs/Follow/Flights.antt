@@ -73,7 +73,7 @@ group_keeps trace i zero k n s = refl
 group_keeps trace i (suc g) k n s = share_keeps trace i (suc g) k n s
 
 module _ (trace : Trace) (setting : Setting) (suits : Suits trace setting) (i : ℕ) (less : i < trace.cpus) (s : State) (t : throttle.State)
-    (ranges : Ranges trace s) (h : Follows trace setting s t) where
+    (ranges : Ranges trace setting s) (h : Follows trace setting s t) where
   there : i < length s.cpus
   there = omega (arith, less, ranges.cpus)
 

@@ -98,7 +98,7 @@ count_whose (ofDomain (suc d)) count turn = refl
 count_whose (ofContext k) count turn = refl
 
 module _ (trace : Trace) (setting : Setting) (suits : Suits trace setting) (i : ℕ) (less : i < trace.cpus) (s : State) (t : throttle.State)
-    (ranges : Ranges trace s) (h : Follows trace setting s t) where
+    (ranges : Ranges trace setting s) (h : Follows trace setting s t) where
   there : i < length s.cpus
   there = omega (arith, less, ranges.cpus)
 

@@ -39,7 +39,7 @@ use Rattle.wbt_replay_path.proofs.Follow.Next.{AtNext, at_next}
 use Rattle.wbt_replay_order.proofs.Frames.Quiet.{same_shared, plainly, all_same, no_check, calm}
 
 module _ (trace : Trace) (setting : Setting) (suits : Suits trace setting) (i : ℕ) (less : i < trace.cpus) (s : State) (t : throttle.State)
-    (facts : Facts trace) (ranges : Ranges trace s) (h : Follows trace setting s t) where
+    (facts : Facts trace) (ranges : Ranges trace setting s) (h : Follows trace setting s t) where
   next : AtNext trace setting i s t
   next = at_next trace setting suits i less s t ranges h
 

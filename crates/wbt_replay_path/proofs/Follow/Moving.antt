@@ -68,14 +68,14 @@ pub record IsPlaced (trace : Trace) (i : ℕ) (c : Cpu) : Type 0 where
   pub next_task : 1 ≤ length c.tasks → c.next_task < length c.tasks
   pub items : All (ItemFits trace) c.todo
 
-pub record Fits (trace : Trace) (s : State) : Type 0 where
-  pub ranges : Ranges trace s
+pub record Fits (trace : Trace) (setting : Setting) (s : State) : Type 0 where
+  pub ranges : Ranges trace setting s
   pub placed : (i : ℕ) → i < trace.cpus → IsPlaced trace i (cpu_of i s)
   pub timer : All (TimerItemFits trace) s.timer.todo
 
 -- ---- items
 
-module _ (trace : Trace) (setting : Setting) (suits : Suits trace setting) (facts : Facts trace) (s : State) (t : throttle.State) (fits : Fits trace s) (rule : Rule setting t)
+module _ (trace : Trace) (setting : Setting) (suits : Suits trace setting) (facts : Facts trace) (s : State) (t : throttle.State) (fits : Fits trace setting s) (rule : Rule setting t)
     (h : Follows trace setting s t) where
   module _ (i : ℕ) (less : i < trace.cpus) (ts : List Todo) where
     step_moves : (x : Step) → (cpu_of i s).todo ≡ todo.Step x ∷ ts → length s.steps < s.most → StepFits trace x
@@ -182,8 +182,9 @@ module _ (trace : Trace) (setting : Setting) (suits : Suits trace setting) (fact
 abbrev moved : (now : ℕ) (orders : List Stretch) (turn : Option Actor) (s : State) → State
 moved now orders turn s = record s { now = now; orders = orders; rotation = turn }
 
-moved_fits : (trace : Trace) (now : ℕ) (orders : List Stretch) (turn : Option Actor) (s : State) → Fits trace s → Fits trace (moved now orders turn s)
-moved_fits trace now orders turn s fits =
+moved_fits : (trace : Trace) (setting : Setting) (now : ℕ) (orders : List Stretch) (turn : Option Actor) (s : State) → Fits trace setting s
+    → Fits trace setting (moved now orders turn s)
+moved_fits trace setting now orders turn s fits =
     let ranges = fits.ranges in
     record {
       ranges = record {
@@ -206,7 +207,8 @@ moved_fits trace now orders turn s fits =
         limits = ranges.limits;
         sequences = ranges.sequences;
         timer_limits = ranges.timer_limits;
-        followed = ranges.followed;
+        page_steps = ranges.page_steps;
+        last_sequence = ranges.last_sequence;
       };
       placed = fits.placed;
       timer = fits.timer;
@@ -215,16 +217,16 @@ moved_fits trace now orders turn s fits =
 -- ---- the order
 
 module _ (trace : Trace) (setting : Setting) (suits : Suits trace setting) (facts : Facts trace) (t : throttle.State) (rule : Rule setting t) where
-  actor_moves : (s : State) → Fits trace s → Follows trace setting s t → (actor : Actor) → Moves trace setting s.steps (go_on trace actor s) t
+  actor_moves : (s : State) → Fits trace setting s → Follows trace setting s t → (actor : Actor) → Moves trace setting s.steps (go_on trace actor s) t
   actor_moves s fits h actor = go_on_moves trace setting suits facts s t fits rule h actor
 
-  take_moves : (s : State) → Fits trace s → Follows trace setting s t → (actor : Actor) (found : Chance) → MayBegin actor found s → Moves trace setting s.steps (take trace actor found s) t
+  take_moves : (s : State) → Fits trace setting s → Follows trace setting s t → (actor : Actor) (found : Chance) → MayBegin actor found s → Moves trace setting s.steps (take trace actor found s) t
   take_moves s fits h actor chance.Nothing may = silently refl h
   take_moves s fits h actor chance.GoesOn may = actor_moves s fits h actor
   take_moves s fits h actor (chance.Begins which place) may = begin_moves trace setting suits facts s t fits rule h actor which place may
   take_moves s fits h actor chance.TimerBegins may = begin_timer_moves trace setting suits s t fits.ranges h may
 
-  module _ (s : State) (fits : Fits trace s) (h : Follows trace setting s t) where
+  module _ (s : State) (fits : Fits trace setting s) (h : Follows trace setting s t) where
     seeks : (i : ℕ) → i < length s.cpus → IsSeeker (cpu_of i s)
     seeks i below =
         let placed = fits.placed i (omega (arith, below, fits.ranges.cpus)) in
@@ -236,7 +238,7 @@ module _ (trace : Trace) (setting : Setting) (suits : Suits trace setting) (fact
 
     turn_moves : (actor : Actor) → Moves trace setting s.steps (take_turn trace actor s) t
     turn_moves actor =
-        take_moves (moved s.now s.orders (Some actor) s) (moved_fits trace s.now s.orders (Some actor) s fits) h actor (chance_of actor s)
+        take_moves (moved s.now s.orders (Some actor) s) (moved_fits trace setting s.now s.orders (Some actor) s fits) h actor (chance_of actor s)
         (may_moved s.now s.orders (Some actor) s actor (chance_of actor s) (chance_begins s seeks actor))
 
     seek_moves : (tries place : ℕ) → Moves trace setting s.steps (seek_turn trace tries place s) t
@@ -274,7 +276,7 @@ module _ (trace : Trace) (setting : Setting) (suits : Suits trace setting) (fact
     follow_moves actor steps ahead.Silent is more = actor_moves s fits h actor
     follow_moves actor zero ahead.Step is more = silently refl h
     follow_moves actor (suc steps) ahead.Step is more =
-        actor_moves (moved s.now (stretch.Steps actor steps ∷ more) s.rotation s) (moved_fits trace s.now (stretch.Steps actor steps ∷ more) s.rotation s fits) h actor
+        actor_moves (moved s.now (stretch.Steps actor steps ∷ more) s.rotation s) (moved_fits trace setting s.now (stretch.Steps actor steps ∷ more) s.rotation s fits) h actor
     follow_moves actor zero ahead.Nothing is more = silently refl h
     follow_moves actor (suc steps) ahead.Nothing is more = drop_moves actor (turn_at actor s) (turn_begins s seeks actor is) more
 

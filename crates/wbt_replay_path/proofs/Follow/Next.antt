@@ -26,7 +26,7 @@ pub record AtNext (trace : Trace) (setting : Setting) (i : ℕ) (s : State) (t :
   pub skipped : (x : Todo) (ts : List Todo) → (cpu_of i s).todo ≡ x ∷ ts → ((k g : ℕ) → AreLoads k g (x ∷ ts) → ⊥) → debts_in (x ∷ ts) ≡ debts_in ts
       → resumes ts ≡ false → Tidy ts → list_any is_closing ts ≡ list_any is_closing (x ∷ ts) → Moves trace setting s.steps (stepping i ts s) t
 
-pub at_next : (trace : Trace) (setting : Setting) → Suits trace setting → (i : ℕ) → i < trace.cpus → (s : State) (t : throttle.State) → Ranges trace s
+pub at_next : (trace : Trace) (setting : Setting) → Suits trace setting → (i : ℕ) → i < trace.cpus → (s : State) (t : throttle.State) → Ranges trace setting s
     → Follows trace setting s t → AtNext trace setting i s t
 at_next trace setting suits i less s t ranges h =
     let there : i < length s.cpus = omega (arith, less, ranges.cpus) in

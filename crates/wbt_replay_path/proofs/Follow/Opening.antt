@@ -9,7 +9,7 @@ use Rattle.wbt_counter.specs.declared.counter.Counter.TheVariants.{Domain as ofD
 use Rattle.wbt_counter.proofs.Sums.{total_nothing}
 use Rattle.wbt_book.specs.Ledger.{times_in}
 use Rattle.wbt_num.specs.declared.limits.Limits.{Limits}
-use Rattle.wbt_grant.specs.Setting.{Setting, IsSetting}
+use Rattle.wbt_grant.specs.Setting.{Setting}
 use Rattle.wbt_grant.specs.State as throttle
 use Rattle.wbt_grant.specs.State.{no_record, held_of, writer_in as record_of}
 use Rattle.wbt_grant.proofs.Bounding.{if_nothing}
@@ -31,9 +31,7 @@ use Rattle.wbt_replay_order.specs.Claims.Path.{held_as}
 use Rattle.wbt_replay_order.specs.Claims.Setting.{writers_in, writer_at, setting_of}
 use Rattle.wbt_rules.specs.Pace.{pace_of}
 use Rattle.wbt_replay_order.specs.Definition.Opening.{opening, first_limits, first_domain, first_domains, first_context, first_contexts, works_of, first_task, first_tasks, first_flusher, first_flushers, first_cpu, first_cpus, first_held, first_entries}
-use Rattle.wbt_replay_order.specs.Kept.Facts.{Facts}
 use Rattle.wbt_replay_order.specs.Kept.Following.{Suits, heights_of, ScansInside, batch_on, batched, own_in, count_in, FollowsCpu, Follows}
-use Rattle.wbt_replay_path.proofs.Follow.Setting.{suits_of}
 
 -- ---- things in order of their numbers
 
@@ -146,20 +144,26 @@ module _ (trace : Trace) where
     cpu_is : (i : ℕ) → i < trace.cpus → get_or (first_cpus trace trace.cpus) i no_cpu ≡ first_cpu trace i
     cpu_is i less = numbered (first_cpu trace) (first_cpus trace) refl (λ n. refl) trace.cpus i no_cpu less
 
-pub opening_follows : (trace : Trace) → Facts trace → IsSetting (setting_of trace) → ((w : ℕ) → w < length (writers_in trace) → ((writer_at trace w).task < length trace.tasks) × ((writer_at trace w).context < length trace.contexts))
-    → Follows trace (setting_of trace) (opening trace) (throttle.opening (setting_of trace))
-unfolding opening setting_of
-opening_follows trace facts is pairs =
-    let suits = suits_of trace facts (λ w less. (pairs w less).1) is in
+-- the first limits in the trace's own setting
+pub setting_firsts : (trace : Trace) (d : ℕ) → (setting_of trace).firsts d ≡ first_limits trace d
+unfolding setting_of
+setting_firsts trace d = refl
+
+-- at the opening the relation's state follows the run's, by each setting that suits
+pub opening_follows : (trace : Trace) (setting : Setting) → Suits trace setting → ((d : ℕ) → setting.firsts d ≡ first_limits trace d)
+    → ((w : ℕ) → w < length (writers_in trace) → ((writer_at trace w).task < length trace.tasks) × ((writer_at trace w).context < length trace.contexts))
+    → Follows trace setting (opening trace) (throttle.opening setting)
+unfolding opening
+opening_follows trace setting suits firsts pairs =
     record {
       book = refl;
       marks = λ n inside. repeated (λ (b : Bool). false ≡ b) (length trace.inodes) n false false refl refl;
       versions = λ x. ap (λ (q : Count). q.version) (sym (none_counted trace x));
       values = λ x. ap (λ (q : Count). q.value) (sym (none_counted trace x));
-      published = λ d less. ap (λ (q : Domain). q.limits) (sym (domain_is trace d less));
-      peak = λ d less. ap (λ (q : Domain). heights_of q) (sym (domain_is trace d less));
-      cpu = λ i less. subst (λ (c : Cpu). FollowsCpu trace (setting_of trace) i c (first_tasks trace (length trace.tasks)) (first_flushers trace (length trace.flushers)) no_record (λ x. pos 0))
-          (sym (cpu_is trace (setting_of trace) suits (λ d. refl) pairs i less)) (first_follows trace (setting_of trace) suits (λ d. refl) pairs i);
+      published = λ d less. firsts d ∙ ap (λ (q : Domain). q.limits) (sym (domain_is trace d less));
+      peak = λ d less. ap (λ (l : Limits). (l.hard, 0)) (firsts d) ∙ ap (λ (q : Domain). heights_of q) (sym (domain_is trace d less));
+      cpu = λ i less. subst (λ (c : Cpu). FollowsCpu trace setting i c (first_tasks trace (length trace.tasks)) (first_flushers trace (length trace.flushers)) no_record (λ x. pos 0))
+          (sym (cpu_is trace setting suits firsts pairs i less)) (first_follows trace setting suits firsts pairs i);
       raises = tt;
       raised = tt;
       stages = λ d. refl;

@@ -72,7 +72,7 @@ scans_on trace setting i c c2 tasks flushers r own f v h turn less here g on clo
     (h.scanning g on (λ q. absurd (n (same_flusher g f (sym q ∙ turn))))))
 
 module _ (trace : Trace) (setting : Setting) (suits : Suits trace setting) (i : ℕ) (less : i < trace.cpus) (s : State) (t : throttle.State)
-    (ranges : Ranges trace s) (h : Follows trace setting s t) where
+    (ranges : Ranges trace setting s) (h : Follows trace setting s t) where
   next : AtNext trace setting i s t
   next = at_next trace setting suits i less s t ranges h
 

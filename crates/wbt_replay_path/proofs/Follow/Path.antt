@@ -132,7 +132,7 @@ module _ (trace : Trace) (setting : Setting) (suits : Suits trace setting) (is :
         granted_small s2.cpus w pages here small,
       )
 
-  module _ (s : State) (t : throttle.State) (ranges : Ranges trace s) (h : Follows trace setting s t) where
+  module _ (s : State) (t : throttle.State) (ranges : Ranges trace setting s) (h : Follows trace setting s t) where
     checked_here : (i w : ℕ) → i < trace.cpus → IsChecked trace s i w → setting.seat w ≡ i
     checked_here i w less c =
         let on : IsTurnOf trace i (cpu_of i s).turn.whose = ranges.turn_is i less (some_item (cpu_of i s).todo c.decides) in
@@ -140,7 +140,7 @@ module _ (trace : Trace) (setting : Setting) (suits : Suits trace setting) (is :
         suits.seat w ∙ its.cpu_is
 
 module _ (trace : Trace) (suits : Suits trace (setting_of trace)) (is : IsSetting (setting_of trace)) where
-  pub shown : (s : State) (t : throttle.State) → Ranges trace s → Follows trace (setting_of trace) s t → Shows trace s t
+  pub shown : (s : State) (t : throttle.State) → Ranges trace (setting_of trace) s → Follows trace (setting_of trace) s t → Shows trace s t
   shown s t ranges h = record {
     book = h.book;
     marks = h.marks;
@@ -182,7 +182,7 @@ module _ (trace : Trace) (suits : Suits trace (setting_of trace)) (is : IsSettin
   }
 
   -- An invariant of the run that gives the ranges, and by which each move follows.
-  module _ (Q : State → Type 0) (ranges : (s : State) → Q s → Ranges trace s) (first : Q (opening trace))
+  module _ (Q : State → Type 0) (ranges : (s : State) → Q s → Ranges trace (setting_of trace) s) (first : Q (opening trace))
       (keeps : (s : State) → is_ended s ≡ false → Q s → Q (advance trace s))
       (advances : (s : State) (t : throttle.State) → Q s → Rule (setting_of trace) t → Follows trace (setting_of trace) s t
       → Moves trace (setting_of trace) s.steps (advance trace s) t)

@@ -1,7 +1,8 @@
--- A sound state of a run that may be followed has the ranges that following needs.
+-- A sound state of a run for whose steps a setting has room has the ranges that following needs.
 use Rattle.std.proofs.Common.{◌≡◌, ℕ, ◌<◌, ◌≤◌, List, [], ◌∷◌, length, All, subst, arith}
 use Rattle.std.proofs.lemmas.List.Elements.{All-head}
 use Rattle.wbt_trace.specs.declared.trace.Trace.{Trace}
+use Rattle.wbt_grant.specs.Setting.{Setting}
 use Rattle.wbt_task.specs.History.{new_writer}
 use Rattle.wbt_task.specs.declared.allowance.Due.TheVariants as due
 use Rattle.wbt_replay_moves.specs.Definition.Check.{writer_of}
@@ -16,7 +17,7 @@ use Rattle.wbt_replay_moves.specs.declared.state.ReplayWork.TheVariants as work
 use Rattle.wbt_replay_moves.specs.declared.todo.Step.TheVariants as item
 use Rattle.wbt_replay_moves.specs.declared.todo.Todo.{Todo}
 use Rattle.wbt_replay_moves.specs.declared.todo.Todo.TheVariants as todo
-use Rattle.wbt_replay_order.specs.Kept.Ranges.{Ranges, IsTurnOf, WritesInside, IsWorker, IsInside, most_followed}
+use Rattle.wbt_replay_order.specs.Kept.Ranges.{Ranges, IsTurnOf, WritesInside, IsWorker, IsInside}
 use Rattle.wbt_replay_order.specs.Kept.Sound.{Sound, IsTask, WorkFits, IsAt, IsWhose, IsCpu}
 use Rattle.wbt_replay_order.specs.Kept.Turns.{Agrees}
 
@@ -46,7 +47,7 @@ inside trace batch (phase.Scanning scan) at = (at.there, at.first_is, at.pages_i
 inside trace batch (phase.Flying inode pages until) at = at.ours
 inside trace batch phase.Finished at = tt
 
-module _ (trace : Trace) (s : State) (sound : Sound trace s) where
+module _ (trace : Trace) (setting : Setting) (s : State) (sound : Sound trace s) where
   its : (i : ℕ) → i < trace.cpus → IsCpu trace (length s.steps) s.now i (cpu_of i s)
   its i less = sound.holds.cpus.each i less
 
@@ -58,8 +59,8 @@ module _ (trace : Trace) (s : State) (sound : Sound trace s) where
       (subst (All (Agrees trace s.tasks s.flushers (cpu_of i s).turn.whose)) is (sound.holds.agreed i less).items) in
       (subst (λ (w : Whose). Agrees trace s.tasks s.flushers w (todo.Step item.Dirty)) turn agreed).1
 
-  pub ranges_of : s.most ≤ most_followed → Ranges trace s
-  ranges_of followed = record {
+  pub ranges_of : s.most ≤ setting.page_steps → s.most < setting.last_sequence → Ranges trace setting s
+  ranges_of page_steps last_sequence = record {
     domains_are = sound.holds.domains.many;
     contexts = sound.holds.contexts.many;
     marks = sound.holds.marks;
@@ -79,5 +80,6 @@ module _ (trace : Trace) (s : State) (sound : Sound trace s) where
     limits = λ d less. (sound.holds.domains.each d).limits;
     sequences = λ d less. (let was = (sound.holds.domains.each d).sequence in let few = sound.holds.few in omega (arith, was, few));
     timer_limits = sound.holds.timer.limits;
-    followed = followed;
+    page_steps = page_steps;
+    last_sequence = last_sequence;
   }

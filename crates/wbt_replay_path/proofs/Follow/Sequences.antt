@@ -86,7 +86,7 @@ same_truth true false to from = sym (to refl)
 same_truth false true to from = from refl
 same_truth false false to from = refl
 
-module _ (trace : Trace) (setting : Setting) (suits : Suits trace setting) (s : State) (t : throttle.State) (ranges : Ranges trace s) (h : Follows trace setting s t)
+module _ (trace : Trace) (setting : Setting) (suits : Suits trace setting) (s : State) (t : throttle.State) (ranges : Ranges trace setting s) (h : Follows trace setting s t)
     (d : ℕ) (inside : d < domains trace) where
   abbrev at : Domain
   at = domain_of d s

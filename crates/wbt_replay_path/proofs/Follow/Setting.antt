@@ -103,7 +103,6 @@ unfolding setting_of
 suits_of trace facts in_contexts is = record {
   cpus = refl;
   cap = refl;
-  page_steps = refl;
   contexts = refl;
   group = λ k. refl;
   pages = refl;

@@ -56,7 +56,7 @@ use Rattle.wbt_replay_order.proofs.Facts.Ages.{noticed_kept, aged_kept}
 use Rattle.wbt_book.specs.declared.event.Event.{Event}
 
 module _ (trace : Trace) (setting : Setting) (suits : Suits trace setting) (i : ℕ) (less : i < trace.cpus) (s : State) (t : throttle.State)
-    (ranges : Ranges trace s) (h : Follows trace setting s t) where
+    (ranges : Ranges trace setting s) (h : Follows trace setting s t) where
   pub there : i < length s.cpus
   there = omega (arith, less, ranges.cpus)
 

@@ -169,7 +169,7 @@ counts_stay : (all : List Domain) (contexts : List Writeback) (d : ℕ) (v : Dom
 counts_stay all contexts d v same (ofDomain e) = still (λ (q : Domain). q.count) all d v no_domain same e
 counts_stay all contexts d v same (ofContext k) = refl
 
-module _ (trace : Trace) (setting : Setting) (suits : Suits trace setting) (s : State) (t : throttle.State) (ranges : Ranges trace s) (h : Follows trace setting s t) where
+module _ (trace : Trace) (setting : Setting) (suits : Suits trace setting) (s : State) (t : throttle.State) (ranges : Ranges trace setting s) (h : Follows trace setting s t) where
   number_is : timer_number s ≡ setting.cpus
   number_is = ranges.cpus ∙ sym suits.cpus
 
@@ -270,7 +270,7 @@ module _ (trace : Trace) (setting : Setting) (suits : Suits trace setting) (s : 
           let tells : sequence_of t.timer d ≡ (domain_of d s).sequence = ap (λ (k : ℕ × ℕ). k.1) (h.peak d inside) in
           let few = ranges.sequences d inside in
           let sequences = sequence_put r (sequence_unsealed t.published t.timer d sealed) in
-          by (relation.unseal d) refl (record { sealed = sealed; room = omega (arith, tells, few, ranges.followed) })
+          by (relation.unseal d) refl (record { sealed = sealed; room = omega (arith, tells, few, ranges.last_sequence) })
           (ap (λ (n : ℕ). s.steps ++ plain_entry n kind.Unseal ∷ []) number_is)
           (timer_follows (set s.domains d v) (unseal d s1).timer (unseal d s1).steps r t.published t.peak (counts_stay s.domains s.contexts d v refl)
           (λ e known. h.published e known ∙ sym (still (λ (q : Domain). q.limits) s.domains d v no_domain refl e))

@@ -114,7 +114,7 @@ impl Words {
         requires seat { place.old.table_id ≡ self.now.table.shared.table_id }
         requires named { C.turn ≡ turn self.now.layout (count Timer counter) None }
         requires there { HasCounter self.now.layout counter }
-        requires ready { IsTimerReady (count Timer counter) place.old.me.0.timer }
+        requires ready { IsTimerReady self.now.layout (count Timer counter) place.old.me.0.timer }
         ensures seat { (place.new.table_id ≡ place.old.table_id) × (place.new.id ≡ place.old.id) }
         ensures ticked { Ticked (turn self.now.layout (count Timer counter) None) result place.old.me place.new.me }
     {

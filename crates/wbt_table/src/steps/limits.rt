@@ -82,7 +82,7 @@ impl Words {
         requires seat { place.old.table_id ≡ self.now.table.shared.table_id }
         requires named { C.turn ≡ turn self.now.layout (peak domain hard) None }
         requires there { domain < domains self.now.layout }
-        requires ready { IsTimerReady (peak domain hard) place.old.me.0.timer }
+        requires ready { IsTimerReady self.now.layout (peak domain hard) place.old.me.0.timer }
         ensures seat { (place.new.table_id ≡ place.old.table_id) × (place.new.id ≡ place.old.id) }
         ensures ticked { Ticked (turn self.now.layout (peak domain hard) None) result place.old.me place.new.me }
     {
@@ -95,7 +95,7 @@ impl Words {
         requires seat { place.old.table_id ≡ self.now.table.shared.table_id }
         requires named { C.turn ≡ turn self.now.layout (unseal domain) None }
         requires there { domain < domains self.now.layout }
-        requires ready { IsTimerReady (unseal domain) place.old.me.0.timer }
+        requires ready { IsTimerReady self.now.layout (unseal domain) place.old.me.0.timer }
         ensures seat { (place.new.table_id ≡ place.old.table_id) × (place.new.id ≡ place.old.id) }
         ensures ticked { Ticked (turn self.now.layout (unseal domain) None) result place.old.me place.new.me }
     {
@@ -111,7 +111,7 @@ impl Words {
         requires named { C.turn ≡ turn self.now.layout (thresh domain triple) None }
         requires there { domain < domains self.now.layout }
         requires lawful { IsLawful triple }
-        requires ready { IsTimerReady (thresh domain triple) place.old.me.0.timer }
+        requires ready { IsTimerReady self.now.layout (thresh domain triple) place.old.me.0.timer }
         ensures seat { (place.new.table_id ≡ place.old.table_id) × (place.new.id ≡ place.old.id) }
         ensures ticked { Ticked (turn self.now.layout (thresh domain triple) None) result place.old.me place.new.me }
     {
