@@ -92,9 +92,7 @@ impl Sink for MemSink {
         ensures cause { OnErr result (HasRisen self.old.faults self.new.faults) }
 
         // It fails at the calls that it was told, and where a piece that isn't empty finds no room, and nowhere else.
-        ensures listed { Contains self.old.fails (self.old.calls + 1) → IsErr result }
-        ensures full { 0 < length piece.now → length self.old.held ≡ self.old.room → IsErr result }
-        ensures fails { OnErr result (Contains self.old.fails (self.old.calls + 1) ⊎ ((0 < length piece.now) × (length self.old.held ≡ self.old.room))) }
+        ensures fails { IsErr result ↔ (Contains self.old.fails (self.old.calls + 1) ⊎ ((0 < length piece.now) × (length self.old.held ≡ self.old.room))) }
 
         // Each failure is a fault counted.
         ensures counted { OnErr result (self.new.faults ≡ one_more self.old.faults) }
