@@ -237,13 +237,9 @@ FlusherStops plan kit drain told said old new = AfterPuts plan kit (StopsTook pl
 abbrev pub FlusherFails : (plan : FlusherPlan) (kit : Kit) (old new : Sight) → Type 0
 FlusherFails plan kit old new = AfterPuts plan kit (FailsTook plan kit) old new
 
--- the CPU had no page step left for the next page of a batch that landed, or that is given back
-abbrev pub FlusherSpends : (plan : FlusherPlan) (kit : Kit) (old new : Sight) → Type 0
-FlusherSpends plan kit old new = AfterPuts plan kit DoesNothing old new
-
 -- ---- a turn that found nothing to do
 
--- it waits for the end of its rest, or of its flight
+-- it waits for the end of its rest, or of its flight, or the CPU had no page step left for the next page of a batch that landed or is given back
 abbrev pub FlusherWaits : (plan : FlusherPlan) (kit : Kit) (old new : Sight) → Type 0
 FlusherWaits plan kit old new = AfterPuts plan kit DoesNothing old new
 

@@ -1,6 +1,6 @@
 //! A turn of a flusher.
 
-ghost use Rattle.std.specs.Prelude.{◌&&◌, not, ◌↔◌, ◌≡◌, ◌≤◌, length, Bool, OnOk, Option};
+ghost use Rattle.std.specs.Prelude.{◌&&◌, not, ◌↔◌, ◌⊎◌, ◌≡◌, ◌≤◌, length, Bool, OnOk, Option};
 ghost use Rattle.wbt_io.specs.Faults.{HasRisen};
 ghost use Rattle.wbt_num.specs.declared.most.TheConstants.{MOST_CONTEXTS};
 ghost use Rattle.wbt_table.specs.Layout.{domains};
@@ -8,7 +8,7 @@ ghost use Rattle.wbt_run_steps.specs.Gate.{AskedBeforeEach};
 ghost use Rattle.wbt_run_steps.specs.Kinds.{StepsInTurn};
 ghost use Rattle.wbt_flusher.specs.Aged.{IsIdleTurn, WritesInTime, WritesWhatIsDue};
 ghost use Rattle.wbt_flusher.specs.Answers.{FlusherAnswers, TurnAnswers, HasSpace, IsReady, IsSameWork};
-ghost use Rattle.wbt_flusher.specs.Cut.{DoesNothing, FailsTook, FindsNothing, FlusherEnds, FlusherFails, FlusherSpends, FlusherStops, FlusherWaits, StopsTook};
+ghost use Rattle.wbt_flusher.specs.Cut.{DoesNothing, FailsTook, FindsNothing, FlusherEnds, FlusherFails, FlusherStops, FlusherWaits, StopsTook};
 ghost use Rattle.wbt_flusher.specs.Plans.{Suits};
 ghost use Rattle.wbt_flusher.specs.Sights.{sight};
 ghost use Rattle.wbt_flusher.specs.Took.{FlusherTook, Took};
@@ -72,10 +72,9 @@ impl<D: Disk> Flusher<D> {
         // Where it was cut off it did a first part of such a turn.
         ensures halts { result ≡ Halted → FlusherStops self.old.plan hands.now.kit.now drain (C.told hands.now.clock.now) (G.said hands.now.gate.now) (sight self.old.work seats.old log.old (D.written self.old.disk)) (sight self.new.work seats.new log.new (D.written self.new.disk)) }
         ensures fails { result ≡ Faulted → FlusherFails self.old.plan hands.now.kit.now (sight self.old.work seats.old log.old (D.written self.old.disk)) (sight self.new.work seats.new log.new (D.written self.new.disk)) }
-        ensures spends { result ≡ Spent → FlusherSpends self.old.plan hands.now.kit.now (sight self.old.work seats.old log.old (D.written self.old.disk)) (sight self.new.work seats.new log.new (D.written self.new.disk)) }
 
-        // Where it had nothing to do it did nothing, but that inodes which waited were put.
-        ensures waits { (now until : _) → result ≡ Resting now until → FlusherWaits self.old.plan hands.now.kit.now (sight self.old.work seats.old log.old (D.written self.old.disk)) (sight self.new.work seats.new log.new (D.written self.new.disk)) }
+        // Where it had nothing to do, or no page step left, it did nothing, but that inodes which waited were put.
+        ensures waits { (now until : _) → (result ≡ Resting now until) ⊎ (result ≡ Spent) → FlusherWaits self.old.plan hands.now.kit.now (sight self.old.work seats.old log.old (D.written self.old.disk)) (sight self.new.work seats.new log.new (D.written self.new.disk)) }
         ensures done { result ≡ Done → FlusherEnds self.old.plan hands.now.kit.now (sight self.old.work seats.old log.old (D.written self.old.disk)) (sight self.new.work seats.new log.new (D.written self.new.disk)) }
     {
         let mut pen = Pen::open(hands.alloc, log);

@@ -1,7 +1,7 @@
 -- A flusher's turn in the drain, and what is seen of a pass over the flushers of all CPUs.
-use Rattle.std.specs.Prelude.{◌≡◌, ℕ, ◌<◌, ◌≤◌, Bool, true, List, set, get_or, length, min, Option}
+use Rattle.std.specs.Prelude.{◌≡◌, ◌⊎◌, ℕ, ◌<◌, ◌≤◌, Bool, true, List, set, get_or, length, min, Option}
 use Rattle.wbt_flusher.specs.Answers.{FlusherAnswers, IsReady}
-use Rattle.wbt_flusher.specs.Cut.{FlusherEnds, FlusherFails, FlusherSpends, FlusherStops, FlusherWaits}
+use Rattle.wbt_flusher.specs.Cut.{FlusherEnds, FlusherFails, FlusherStops, FlusherWaits}
 use Rattle.wbt_flusher.specs.Plans.{Suits}
 use Rattle.wbt_flusher.specs.Sights.{Sight, sight}
 use Rattle.wbt_flusher.specs.Took.{FlusherTook}
@@ -50,8 +50,7 @@ pub record IsOneTurn (told : ℕ → Type 0) (said : ℕ → ℕ → Bool → Ty
   pub took : answer ≡ turn.Stepped → FlusherTook plan kit true told said old new
   pub halts : answer ≡ turn.Halted → FlusherStops plan kit true told said old new
   pub fails : answer ≡ turn.Faulted → FlusherFails plan kit old new
-  pub spends : answer ≡ turn.Spent → FlusherSpends plan kit old new
-  pub waits : (now until : ℕ) → answer ≡ turn.Resting now until → FlusherWaits plan kit old new
+  pub waits : (now until : ℕ) → (answer ≡ turn.Resting now until) ⊎ (answer ≡ turn.Spent) → FlusherWaits plan kit old new
   pub done : answer ≡ turn.Done → FlusherEnds plan kit old new
 
 -- The flusher of this place took a turn and answered so: its CPU's steps are those of a whole turn, or where it was halted a first part of

@@ -1,9 +1,9 @@
 -- A job's turn: what it did, by its answer, and why it wasn't made.
-use Rattle.std.proofs.Common.{◌≡◌, ℕ, ◌<◌, ◌-◌, Bool, false, true≢false, if◌then◌else◌, List, length, map, set, get_or, refl, sym, ap, ◌∙◌, subst, arith}
+use Rattle.std.proofs.Common.{◌≡◌, ◌⊎◌, inl, inr, ℕ, ◌<◌, ◌-◌, Bool, false, true≢false, if◌then◌else◌, List, length, map, set, get_or, refl, sym, ap, ◌∙◌, subst, arith}
 use Rattle.std.proofs.lemmas.Bool.{lt-ltb}
 use Rattle.wbt_flusher.specs.Answers.{FlusherAnswers}
 use Rattle.wbt_flusher.specs.Answers as flusher
-use Rattle.wbt_flusher.specs.Cut.{FlusherFails, FlusherSpends, FlusherStops, FlusherWaits}
+use Rattle.wbt_flusher.specs.Cut.{FlusherFails, FlusherStops, FlusherWaits}
 use Rattle.wbt_flusher.specs.Sights as sights
 use Rattle.wbt_flusher.specs.Took.{FlusherTook}
 use Rattle.wbt_io.specs.Faults.{HasRisen}
@@ -128,15 +128,15 @@ module _ (told : ℕ → Type 0) (said : ℕ → ℕ → Bool → Type 0) (kit :
 
   pub flusher_did : (a : Turn) → Answers a → (a ≡ turn.Stepped → FlusherTook d.plan kit false told said was now_is)
       → (a ≡ turn.Halted → FlusherStops d.plan kit false told said was now_is) → (a ≡ turn.Faulted → FlusherFails d.plan kit was now_is)
-      → (a ≡ turn.Spent → FlusherSpends d.plan kit was now_is) → ((now until : ℕ) → a ≡ turn.Resting now until → FlusherWaits d.plan kit was now_is)
+      → ((now until : ℕ) → (a ≡ turn.Resting now until) ⊎ (a ≡ turn.Spent) → FlusherWaits d.plan kit was now_is)
       → FlusherDid told said d.plan kit a was now_is
-  flusher_did turn.Stepped answers took halts fails spends waits = took refl
-  flusher_did (turn.Resting now until) answers took halts fails spends waits = (answers.left, waits now until refl)
-  flusher_did turn.Done answers took halts fails spends waits = absurd (true≢false (sym answers.does.in_drain))
-  flusher_did turn.Halted answers took halts fails spends waits = (halts refl, answers.does.stopped)
-  flusher_did turn.Faulted answers took halts fails spends waits = fails refl
-  flusher_did turn.Spent answers took halts fails spends waits = spends refl
-  flusher_did turn.NoMemory answers took halts fails spends waits = answers
+  flusher_did turn.Stepped answers took halts fails waits = took refl
+  flusher_did (turn.Resting now until) answers took halts fails waits = (answers.left, waits now until (inl refl))
+  flusher_did turn.Done answers took halts fails waits = absurd (true≢false (sym answers.does.in_drain))
+  flusher_did turn.Halted answers took halts fails waits = (halts refl, answers.does.stopped)
+  flusher_did turn.Faulted answers took halts fails waits = fails refl
+  flusher_did turn.Spent answers took halts fails waits = waits 0 0 (inr refl)
+  flusher_did turn.NoMemory answers took halts fails waits = answers
 
   pub flusher_takes : (a : Turn) (outcome : JobOutcome) → outcome ≡ job_by a → FlusherDid told said d.plan kit a was now_is → d.plan.cpu ≡ old.desk.cpu
       → StepsInTurn (domains kit.throttle.layout) d.plan.cpu a seats seats' → JobTakes told said kit (Flusher k) outcome old moved seats seats'

@@ -1,7 +1,7 @@
 -- What a round did: who went, what all before it said, and how far the rotation came.
 use Rattle.std.specs.Prelude.{◌≡◌, ℕ, ◌+◌, ◌<◌, ◌≤◌, Bool, false, List, [], ◌∷◌, length, get_or, set}
 use Rattle.wbt_flusher.specs.Answers as flusher
-use Rattle.wbt_flusher.specs.Cut.{FlusherFails, FlusherSpends, FlusherStops, FlusherWaits}
+use Rattle.wbt_flusher.specs.Cut.{FlusherFails, FlusherStops, FlusherWaits}
 use Rattle.wbt_flusher.specs.Did.{IsStopped}
 use Rattle.wbt_flusher.specs.Sights as sights
 use Rattle.wbt_flusher.specs.Took.{FlusherTook}
@@ -34,7 +34,7 @@ FlusherDid told said plan kit (turn.Resting now until) old new = flusher.IsLeft 
 FlusherDid told said plan kit turn.Done old new = ⊥
 FlusherDid told said plan kit turn.Halted old new = FlusherStops plan kit false told said old new × IsStopped plan said new.seats
 FlusherDid told said plan kit turn.Faulted old new = FlusherFails plan kit old new
-FlusherDid told said plan kit turn.Spent old new = FlusherSpends plan kit old new
+FlusherDid told said plan kit turn.Spent old new = FlusherWaits plan kit old new
 FlusherDid told said plan kit turn.NoMemory old new = flusher.IsUntouched old new
 
 -- the flusher of a place did so, and the others and the writers did nothing

@@ -22,7 +22,6 @@ returns g c =
           took = c.turn.ensures.took;
           halts = c.turn.ensures.halts;
           fails = c.turn.ensures.fails;
-          spends = c.turn.ensures.spends;
           waits = c.turn.ensures.waits;
           done = c.turn.ensures.done;
         };

@@ -1,6 +1,6 @@
 -- Memory was taken, inodes that waited were put, and then it took its turn.
 use Rattle.wbt_run_steps.proofs.Gating.{asked_more, asked_none}
-use Rattle.std.proofs.Common.{◌≡◌, ℕ, Bool, List, length, refl, sym, ◌∙◌, subst}
+use Rattle.std.proofs.Common.{◌≡◌, ℕ, Bool, List, ⊎_elim, length, refl, sym, ◌∙◌, subst}
 use Rattle.wbt_io.specs.Faults.{HasRisen}
 use Rattle.wbt_journal.specs.declared.entry.CpuJournal.{CpuJournal}
 use Rattle.wbt_flusher.specs.Answers.{FlusherAnswers, IsLeft, Went}
@@ -125,18 +125,6 @@ returns-in-Ok-clause-fails g c is =
     (sight t.new.self.work t.new.seats c.close-in-Ok.new.log (g.D.Disk.written t.new.self.disk)) c.reserve.ensures.same (c.reserve.ensures.log ∙ c.open-pen.ensures) p.ensures.only_waiting p.ensures.only_queue p.ensures.puts
     (subst (λ (l : CpuJournal). FailsTook plan kit put (sight t.new.self.work t.new.seats l (g.D.Disk.written t.new.self.disk))) (sym c.close-in-Ok.ensures) (t.ensures.fails is))
 
-pub returns-in-Ok-clause-spends : goal.returns-in-Ok-clause-spends
-returns-in-Ok-clause-spends g c is =
-    let plan = c.args.self.now.plan in
-    let kit = c.args.hands.now.kit.now in
-    let t = c.turn_on-answer in
-    let p = c.put_waiting in
-    let written = g.D.Disk.written c.args.self.now.disk in
-    let put = sight p.new.work p.new.seats c.reserve.new.pen.log written in
-    after_puts plan kit DoesNothing c.args.self.now.work c.reserve.new.work p.new.work c.args.seats.now p.new.seats c.args.log.now c.reserve.new.pen.log written
-    (sight t.new.self.work t.new.seats c.close-in-Ok.new.log (g.D.Disk.written t.new.self.disk)) c.reserve.ensures.same (c.reserve.ensures.log ∙ c.open-pen.ensures) p.ensures.only_waiting p.ensures.only_queue p.ensures.puts
-    (subst (λ (l : CpuJournal). DoesNothing put (sight t.new.self.work t.new.seats l (g.D.Disk.written t.new.self.disk))) (sym c.close-in-Ok.ensures) (t.ensures.spends is))
-
 pub returns-in-Err-clause-within_quota : goal.returns-in-Err-clause-within_quota
 returns-in-Err-clause-within_quota g c =
     let plan = c.args.self.now.plan in
@@ -159,7 +147,7 @@ returns-in-Ok-clause-waits g c n u is =
     let put = sight p.new.work p.new.seats c.reserve.new.pen.log written in
     after_puts plan kit DoesNothing c.args.self.now.work c.reserve.new.work p.new.work c.args.seats.now p.new.seats c.args.log.now c.reserve.new.pen.log written
     (sight t.new.self.work t.new.seats c.close-in-Ok.new.log (g.D.Disk.written t.new.self.disk)) c.reserve.ensures.same (c.reserve.ensures.log ∙ c.open-pen.ensures) p.ensures.only_waiting p.ensures.only_queue p.ensures.puts
-    (subst (λ (l : CpuJournal). DoesNothing put (sight t.new.self.work t.new.seats l (g.D.Disk.written t.new.self.disk))) (sym c.close-in-Ok.ensures) (t.ensures.waits n u is))
+    (subst (λ (l : CpuJournal). DoesNothing put (sight t.new.self.work t.new.seats l (g.D.Disk.written t.new.self.disk))) (sym c.close-in-Ok.ensures) (⊎_elim (t.ensures.waits n u) t.ensures.spends is))
 
 pub returns-in-Ok-clause-done : goal.returns-in-Ok-clause-done
 returns-in-Ok-clause-done g c is =

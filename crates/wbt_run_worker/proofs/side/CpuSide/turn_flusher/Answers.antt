@@ -97,7 +97,7 @@ returns-clause-takes g c =
     let is : get_or old.posts c.args.at (f post) ≡ f post = map_at f c.args.self.now.posts.items c.args.at post ∙ ap f (sym c.index_mut-post.ensures.value) in
     let e = c.turn.ensures in
     let did = flusher_did told said c.args.hands.now.kit.now old c.args.at (f post) (f next) c.args.seats.now c.turn.new.seats c.turn.new.log there is e.plan
-    c.turn.result e.answers e.took e.halts e.fails e.spends e.waits in
+    c.turn.result e.answers e.took e.halts e.fails e.waits in
     let own = same_cpu told said c.args.hands.now.kit.now old c.args.at (f post) (f next) c.args.seats.now c.turn.new.seats c.turn.new.log there is e.plan
     (record { faults = e.later; counted = e.counted }) c.requires.side in
     let all = flusher_takes told said c.args.hands.now.kit.now old c.args.at (f post) (f next) c.args.seats.now c.turn.new.seats c.turn.new.log there is e.plan
