@@ -3,8 +3,7 @@ use Rattle.std.proofs.Common.{◌≡◌, ℕ, ◌+◌, ◌<◌, ◌≤◌, Bool,
 use Rattle.std.proofs.lemmas.List.{drop_all, drop_more, get_or-replicate}
 use Rattle.std.proofs.lemmas.List.Sums.{sum_by-cons}
 use Rattle.wbt_trace.specs.Lawful.{IsTask}
-use Rattle.wbt_trace.specs.declared.trace.TaskLine.{TaskLine}
-use Rattle.wbt_trace.specs.declared.trace.Trace.{Trace}
+use Rattle.wbt_audit_walk.proofs.Common.{TaskLine, Trace}
 use Rattle.wbt_audit.specs.Audited.{is_unsettled, tasks_on, unsettled_from}
 use Rattle.wbt_audit_turns.specs.Worked.{one_if_so}
 

@@ -4,15 +4,10 @@ use Rattle.std.proofs.lemmas.Bool.{cases_eq}
 use Rattle.std.proofs.lemmas.Grind.{common_steps}
 use Rattle.std.proofs.lemmas.List.{length-map}
 use Rattle.std.proofs.lemmas.List.Sums.{sum_by-cons}
-use Rattle.wbt_trace.specs.declared.trace.TaskLine.{TaskLine}
-use Rattle.wbt_trace.specs.declared.trace.Trace.{Trace}
-use Rattle.wbt_journal.specs.declared.entry.CpuJournal.{CpuJournal}
-use Rattle.wbt_journal.specs.declared.journal.Journal.{Journal}
-use Rattle.wbt_journal.specs.Checks.{part_with_marks, with_mark, with_marks}
-use Rattle.wbt_journal.specs.Each.{Each}
+use Rattle.wbt_audit_walk.proofs.Common.{TaskLine, Trace, CpuJournal, Journal, with_mark, with_marks, Each, rests_last, is_on}
+use Rattle.wbt_journal.specs.Checks.{part_with_marks}
 use Rattle.wbt_journal.specs.Laws.{FaultlessIsLawful, LawfulIsFaultless, RestersAreAlone}
-use Rattle.wbt_journal.specs.Machine.{cpu_of_task, rests_last}
-use Rattle.wbt_journal.specs.Side.{is_on}
+use Rattle.wbt_journal.specs.Machine.{cpu_of_task}
 use Rattle.wbt_journal.specs.Told.{InOrder, NamesInOrder}
 use Rattle.wbt_journal.specs.Verdict as journal
 use Rattle.wbt_journal.specs.Verdict.{verdict_of}

@@ -1,24 +1,12 @@
 -- What the code of the clause on counts keeps, step by step.
 use Rattle.std.proofs.Common.{◌≡◌, ℕ, ◌+◌, Bool, true, false, ◌&&◌, nat_le, if◌then◌else◌, Option, Some, None, ℤ, List, [], ◌∷◌, ◌++◌, length, get_or, replicate, refl, ap, sym, subst, ◌∙◌, append_assoc, append-nil}
 use Rattle.std.specs.Ordering.{int_eq}
-use Rattle.wbt_counter.specs.Counters.{is_same}
-use Rattle.wbt_counter.specs.declared.counter.Counter.{Counter}
-use Rattle.wbt_counter.specs.declared.record.Fold.{Fold}
-use Rattle.wbt_trace.specs.declared.trace.Trace.{Trace}
-use Rattle.wbt_journal.specs.Counts.{Load, Version, cgroup_reads, count_fault, is_fresh_count, is_sum, load_of_read, loads_of, of_counter, read_loads, sum_to, version_of_fold, versions_after, versions_in, versions_of}
-use Rattle.wbt_journal.specs.Effects.{effect, of_part}
-use Rattle.wbt_journal.specs.Items.{begins, tells}
-use Rattle.wbt_journal.specs.Machine.{domains, contexts, has_counter}
-use Rattle.wbt_journal.specs.Told.{Told, wrote, folded, checked, claimed, batch, done, share, estimated, fault, gave_back, noticed, aged, took}
-use Rattle.wbt_journal.specs.Walk.{first_failed}
-use Rattle.wbt_journal.specs.declared.entry.CheckEntry.{CheckEntry}
-use Rattle.wbt_journal.specs.declared.entry.DomainLine.{DomainLine}
+use Rattle.wbt_audit_walk.proofs.Common.{is_same, Counter, Fold, Trace, Load, cgroup_reads, count_fault, loads_of, of_counter, read_loads, versions_after, effect, of_part, begins, tells, domains, contexts, Told, wrote, folded, checked, claimed, batch, done, share, estimated, fault, gave_back, noticed, aged, took, first_failed, CheckEntry, DomainLine, seen_at, counter_place, IsJudged, Judges}
+use Rattle.wbt_journal.specs.Counts.{Version, is_fresh_count, is_sum, load_of_read, sum_to, version_of_fold, versions_in, versions_of}
+use Rattle.wbt_journal.specs.Machine.{has_counter}
 use Rattle.wbt_audit_reads.specs.Counting.{AreSums, AreSeen, KeepsCounts, Sees, JudgesCheck, is_sum_of, load_test, one_version, test_at, versions_by}
 use Rattle.wbt_audit_reads.specs.Folding.{AreOf, place_in}
-use Rattle.wbt_audit_walk.specs.Newest.{seen_at}
-use Rattle.wbt_audit_walk.specs.Places.{counter_place}
 use Rattle.wbt_audit_reads.specs.Summing.{AreSumsBy}
-use Rattle.wbt_audit_walk.specs.Walking.{IsJudged, Judges}
 use Rattle.wbt_audit_reads.specs.declared.counts.Counts.{Counts}
 use Rattle.wbt_audit_walk.specs.declared.places.Places.{Places}
 use Rattle.wbt_audit_reads.proofs.Folded.{has_place, lacks_place, of_places, to_places}

@@ -5,23 +5,13 @@ use Rattle.std.proofs.lemmas.Bool.{cases_eq, cases_lt}
 use Rattle.std.proofs.lemmas.Grind.{flat_map-append}
 use Rattle.std.proofs.lemmas.List.{length-map, length-replicate, get_or-replicate}
 use Rattle.std.proofs.lemmas.Option.{slice_get-get_or, slice_get_past, get_or_from_slice_get}
-use Rattle.wbt_estimate.specs.declared.estimate.Estimate.{Estimate}
+use Rattle.wbt_audit_walk.proofs.Common.{Estimate, Trace, first_estimate, effect, of_part, decision_at, estimate_fault, estimate_in, estimates_of, sight_after, begins, tells, contexts, Told, wrote, folded, checked, claimed, batch, done, share, estimated, fault, gave_back, noticed, aged, took, first_of, unless, CheckEntry, EstEntry, seen_at, below, IsJudged, Judges}
 use Rattle.wbt_trace.specs.declared.trace.Context.{Context}
-use Rattle.wbt_trace.specs.declared.trace.Trace.{Trace}
 use Rattle.wbt_rules.proofs.Openings.{first_in_range}
-use Rattle.wbt_rules.specs.First.{first_by, first_estimate, first_estimates}
-use Rattle.wbt_journal.specs.Effects.{effect, of_part}
-use Rattle.wbt_journal.specs.Estimates.{Named, Sight, decision_at, estimate_fault, estimate_in, estimates_of, follows, is_no_newer, name_fault, newest_of, next_fault, sight_after}
-use Rattle.wbt_journal.specs.Items.{begins, tells}
-use Rattle.wbt_journal.specs.Machine.{contexts}
-use Rattle.wbt_journal.specs.Told.{Told, wrote, folded, checked, claimed, batch, done, share, estimated, fault, gave_back, noticed, aged, took}
-use Rattle.wbt_journal.specs.Walk.{first_of, unless}
-use Rattle.wbt_journal.specs.declared.entry.CheckEntry.{CheckEntry}
-use Rattle.wbt_journal.specs.declared.entry.EstEntry.{EstEntry}
+use Rattle.wbt_rules.specs.First.{first_by, first_estimates}
+use Rattle.wbt_journal.specs.Estimates.{Named, Sight, follows, is_no_newer, name_fault, newest_of, next_fault}
 use Rattle.wbt_audit_reads.specs.Estimating.{AreCounts, AreLast, AreNamed, IsName, IsNext, JudgesName, JudgesNext, KeepsEstimates, capped, counted_by, may_by, may_name, name_of}
-use Rattle.wbt_audit_walk.specs.Newest.{seen_at, with_seen}
-use Rattle.wbt_audit_walk.specs.Places.{below}
-use Rattle.wbt_audit_walk.specs.Walking.{IsJudged, Judges}
+use Rattle.wbt_audit_walk.specs.Newest.{with_seen}
 use Rattle.wbt_audit_reads.specs.declared.estimates.Estimates.{Estimates}
 use Rattle.wbt_audit_walk.proofs.Placing.{numbers_apart}
 use Rattle.wbt_audit_walk.proofs.Rowing.{slice_get-set_same, slice_get-set_other}

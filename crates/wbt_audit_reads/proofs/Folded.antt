@@ -5,23 +5,16 @@ use Rattle.std.proofs.lemmas.Bool.{cases_eq, cases_lt, false≢true}
 use Rattle.std.proofs.lemmas.List.{length-replicate, get_or-replicate, length-set, replicate_more}
 use Rattle.std.proofs.lemmas.List.Filters.{length-filter_more}
 use Rattle.std.proofs.lemmas.Option.{slice_get-get_or, slice_get_past}
-use Rattle.wbt_counter.specs.Counters.{is_same}
-use Rattle.wbt_counter.specs.declared.counter.Counter.{Counter}
+use Rattle.wbt_audit_walk.proofs.Common.{is_same, Counter, Fold, Trace, of_counter, fold_fault, folds_after, effect, of_part, tells, domains, contexts, Told, unless, below, counter_place, row_of, cell, push_cell, IsJudged}
 use Rattle.wbt_counter.specs.declared.counter.Counter.TheVariants.{Domain, Context}
-use Rattle.wbt_counter.specs.declared.record.Fold.{Fold}
-use Rattle.wbt_trace.specs.declared.trace.Trace.{Trace}
-use Rattle.wbt_journal.specs.Counts.{of_counter, is_version, is_fold, fold_fault, folds_after}
-use Rattle.wbt_journal.specs.Effects.{effect, listed, of_part}
-use Rattle.wbt_journal.specs.Items.{tells}
-use Rattle.wbt_journal.specs.Machine.{domains, contexts, has_counter, batch_of}
-use Rattle.wbt_journal.specs.Told.{Told}
-use Rattle.wbt_journal.specs.Walk.{unless}
+use Rattle.wbt_journal.specs.Counts.{is_version, is_fold}
+use Rattle.wbt_journal.specs.Effects.{listed}
+use Rattle.wbt_journal.specs.Machine.{has_counter, batch_of}
 use Rattle.wbt_audit_reads.specs.declared.folds.Seen.{Seen}
 use Rattle.wbt_audit_walk.specs.declared.places.Places.{Places}
 use Rattle.wbt_audit_reads.specs.Folding.{AreOf, place_in, mark_of, AreMarks, KeepsSeen, IsSeen, kept_batch, is_unseen, may_mark, mark_more_at, one_mark_more, HaveNone}
-use Rattle.wbt_audit_walk.specs.Places.{below, behind, counter_place}
-use Rattle.wbt_audit_walk.specs.Rows.{row_of, cell, push_cell, put_cell}
-use Rattle.wbt_audit_walk.specs.Walking.{IsJudged}
+use Rattle.wbt_audit_walk.specs.Places.{behind}
+use Rattle.wbt_audit_walk.specs.Rows.{put_cell}
 use Rattle.wbt_audit_walk.proofs.Placing.{counters_apart}
 use Rattle.wbt_audit_walk.proofs.Rowing.{row-set_same, row-set_other, cell-put_same, cell-put_place, cell-put_row}
 

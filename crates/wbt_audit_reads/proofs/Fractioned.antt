@@ -3,29 +3,17 @@ use Rattle.std.proofs.Common.{◌≡◌, ℕ, ◌+◌, ◌*◌, ◌<◌, ◌≤�
 use Rattle.std.specs.List.{list_any}
 use Rattle.std.proofs.lemmas.Bool.{cases_lt}
 use Rattle.std.proofs.lemmas.List.{get_or_past}
-use Rattle.wbt_counter.specs.declared.record.Fold.{Fold}
-use Rattle.wbt_trace.specs.declared.trace.Trace.{Trace}
-use Rattle.wbt_journal.specs.Counts.{CountsAreSums, IsSum, Load, cgroup_reads, loads_of, read_loads, reads_of}
-use Rattle.wbt_journal.specs.Each.{Each}
-use Rattle.wbt_journal.specs.Effects.{Share, effect, of_part}
-use Rattle.wbt_journal.specs.Items.{begins, tells}
-use Rattle.wbt_journal.specs.Machine.{domains, contexts}
-use Rattle.wbt_journal.specs.Reads.{Period, added_to, fraction_fault, is_fraction, is_new_enough, periods_after, periods_from, periods_read, read_fault}
+use Rattle.wbt_audit_walk.proofs.Common.{Fold, Trace, CountsAreSums, Load, cgroup_reads, loads_of, read_loads, reads_of, Each, effect, of_part, begins, tells, domains, contexts, added_to, fraction_fault, periods_after, periods_from, Told, wrote, folded, checked, claimed, batch, done, share, estimated, fault, gave_back, noticed, aged, took, first_failed, first_of, unless, CheckEntry, DomainLine, TimerEntry, seen_at, below, row_of, IsJudged, Judges}
+use Rattle.wbt_journal.specs.Counts.{IsSum}
+use Rattle.wbt_journal.specs.Effects.{Share}
+use Rattle.wbt_journal.specs.Reads.{Period, is_fraction, is_new_enough, periods_read, read_fault}
 use Rattle.wbt_journal.specs.Reads as law
-use Rattle.wbt_journal.specs.Told.{Told, wrote, folded, checked, claimed, batch, done, share, estimated, fault, gave_back, noticed, aged, took}
-use Rattle.wbt_journal.specs.Walk.{first_failed, first_of, unless}
-use Rattle.wbt_journal.specs.declared.entry.CheckEntry.{CheckEntry}
-use Rattle.wbt_journal.specs.declared.entry.DomainLine.{DomainLine}
-use Rattle.wbt_journal.specs.declared.timer.TimerEntry.{TimerEntry}
 use Rattle.wbt_audit_reads.specs.Counting.{context_load}
 use Rattle.wbt_audit_reads.specs.Folding.{AreOf}
 use Rattle.wbt_audit_reads.specs.Fractioning.{AreRead, AreRising, JudgesCheck, KeepsFractions, Sees, pair_read, share_fault, test, test_at}
-use Rattle.wbt_audit_walk.specs.Newest.{seen_at}
 use Rattle.wbt_audit_reads.specs.Periods.{ArePeriods, IsRising}
-use Rattle.wbt_audit_walk.specs.Places.{below, pair_at, place_of_pair, same_pairs}
-use Rattle.wbt_audit_walk.specs.Rows.{row_of}
+use Rattle.wbt_audit_walk.specs.Places.{pair_at, place_of_pair, same_pairs}
 use Rattle.wbt_audit_reads.specs.Sharing.{pair_by}
-use Rattle.wbt_audit_walk.specs.Walking.{IsJudged, Judges}
 use Rattle.wbt_audit_reads.specs.declared.fractions.Fractions.{Fractions}
 use Rattle.wbt_audit_walk.specs.declared.places.Places.{Places}
 use Rattle.wbt_audit_reads.proofs.Perioded.{rising}

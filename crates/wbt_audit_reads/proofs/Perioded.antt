@@ -4,12 +4,9 @@ use Rattle.std.specs.List.{list_any}
 use Rattle.std.proofs.lemmas.Bool.{cases_eq, cases_lt}
 use Rattle.std.specs.Result.{MatchResult}
 use Rattle.std.proofs.lemmas.List.{get_or-replicate, length-set, take_more}
-use Rattle.wbt_journal.specs.Reads.{periods_from}
-use Rattle.wbt_journal.specs.declared.timer.TimerEntry.{TimerEntry}
+use Rattle.wbt_audit_walk.proofs.Common.{periods_from, TimerEntry, below, row_of}
 use Rattle.wbt_journal.specs.declared.timer.TimerEntry.TheVariants as timer
 use Rattle.wbt_audit_reads.specs.Periods.{ArePeriods, IsRising, last_in, period_more_at, one_period_more}
-use Rattle.wbt_audit_walk.specs.Places.{below}
-use Rattle.wbt_audit_walk.specs.Rows.{row_of}
 use Rattle.wbt_audit_walk.specs.declared.places.Places.{Places}
 use Rattle.wbt_audit_walk.proofs.Placing.{numbers_apart, below_is}
 use Rattle.wbt_audit_walk.proofs.Rowing.{row-set_same, row-set_other}

@@ -4,9 +4,9 @@ use Rattle.std.proofs.lemmas.Bool.{cases_eq}
 use Rattle.std.proofs.lemmas.Grind.{get_or-set_at}
 use Rattle.std.proofs.lemmas.List.{length-replicate, get_or-replicate, length-set, get_or-set_other}
 use Rattle.std.proofs.lemmas.List.Sums.{sum_by-append, sum_by-cons}
-use Rattle.wbt_journal.specs.Effects.{Share, effect, of_part}
-use Rattle.wbt_journal.specs.Reads.{added_by, added_to}
-use Rattle.wbt_journal.specs.Told.{Told}
+use Rattle.wbt_audit_walk.proofs.Common.{effect, of_part, added_to, Told}
+use Rattle.wbt_journal.specs.Effects.{Share}
+use Rattle.wbt_journal.specs.Reads.{added_by}
 use Rattle.wbt_audit_reads.specs.Sharing.{AreAdded, added_at, one_added, pair_by, with_share}
 use Rattle.wbt_audit_walk.specs.declared.places.Places.{Places}
 use Rattle.wbt_audit_walk.proofs.Placing.{pairs_apart}

@@ -6,12 +6,9 @@ use Rattle.std.proofs.lemmas.Bool.{cases_eq, cases_lt}
 use Rattle.std.proofs.lemmas.List.{length-replicate, get_or-replicate, length-set, replicate_more, take_more}
 use Rattle.std.proofs.lemmas.List.Elements.{filter-append}
 use Rattle.std.proofs.lemmas.Option.{slice_get-get_or, slice_get_past, slice_get_within}
-use Rattle.wbt_counter.specs.Counters.{is_same}
-use Rattle.wbt_counter.specs.declared.counter.Counter.{Counter}
-use Rattle.wbt_counter.specs.declared.record.Fold.{Fold}
-use Rattle.wbt_journal.specs.Counts.{of_counter, sum_to}
+use Rattle.wbt_audit_walk.proofs.Common.{is_same, Counter, Fold, of_counter, row_of, cell, push_cell}
+use Rattle.wbt_journal.specs.Counts.{sum_to}
 use Rattle.wbt_audit_reads.specs.Counting.{sum_at}
-use Rattle.wbt_audit_walk.specs.Rows.{row_of, cell, push_cell}
 use Rattle.wbt_audit_reads.specs.Summing.{AddsSome, AddsSomeRows, AddsUp, AreParts, AreSumsBy, AreZeros, Mixed, Parts, add_cell, add_to, all_mixed, before_at, fold_at, mixed, zero_more_at, one_zero_more, part_at, place_by, sum_of, with_before, with_fold}
 use Rattle.wbt_audit_walk.specs.declared.places.Places.{Places}
 use Rattle.wbt_audit_walk.proofs.Placing.{counters_apart}

@@ -3,15 +3,10 @@ use Rattle.std.proofs.Common.{◌≡◌, ℕ, zero, suc, ◌+◌, ◌<◌, ◌�
 use Rattle.std.specs.List.{slice_get}
 use Rattle.std.proofs.lemmas.List.{drop_all}
 use Rattle.std.proofs.lemmas.Option.{slice_get-map, slice_get_within}
-use Rattle.wbt_num.specs.declared.limits.Limits.{Limits}
-use Rattle.wbt_trace.specs.declared.trace.Trace.{Trace}
-use Rattle.wbt_journal.specs.Machine.{domains}
+use Rattle.wbt_audit_walk.proofs.Common.{Limits, Trace, domains, first_fault, first_of, unless, opened_at, Journal, TimerEntry}
 use Rattle.wbt_journal.specs.Timer.{LastLine, is_opening, limits_by, line_follows, lines_after, one_line, timer_fault}
-use Rattle.wbt_journal.specs.Walk.{after, first_fault, first_of, unless}
-use Rattle.wbt_journal.specs.Estimates.{opened_at}
+use Rattle.wbt_journal.specs.Walk.{after}
 use Rattle.wbt_journal.specs.Verdict.{timers_fault}
-use Rattle.wbt_journal.specs.declared.journal.Journal.{Journal}
-use Rattle.wbt_journal.specs.declared.timer.TimerEntry.{TimerEntry}
 use Rattle.wbt_journal.specs.declared.timer.TimerEntry.TheVariants as timer
 use Rattle.wbt_audit_reads.specs.Timing.{Keeps, Answers, Judges, JudgesLimits, Goes, line_of, lines_of, put}
 use Rattle.wbt_audit_reads.specs.declared.timer.Line.{Line as KeptLine}

@@ -4,28 +4,13 @@ use Rattle.std.specs.List.{slice_get}
 use Rattle.std.proofs.lemmas.Bool.{cases_eq}
 use Rattle.std.proofs.lemmas.Grind.{flat_map-append}
 use Rattle.std.proofs.lemmas.List.{get_or-replicate, length-set, take_more}
-use Rattle.wbt_counter.specs.declared.record.Fold.{Fold}
-use Rattle.wbt_num.specs.declared.limits.Limits.{Limits}
-use Rattle.wbt_trace.specs.declared.trace.Trace.{Trace}
-use Rattle.wbt_journal.specs.Counts.{CountsAreSums, IsSum, cgroup_reads, loads_of, read_loads, reads_of, Load}
-use Rattle.wbt_journal.specs.Each.{Each}
-use Rattle.wbt_journal.specs.Effects.{effect, of_part}
-use Rattle.wbt_journal.specs.Items.{begins, tells}
-use Rattle.wbt_journal.specs.Machine.{domains}
-use Rattle.wbt_journal.specs.Reads.{are_limits, is_new, is_published, triple_fault, triple_in, triples_after, triples_of}
-use Rattle.wbt_journal.specs.Told.{Told}
-use Rattle.wbt_journal.specs.Walk.{first_failed}
-use Rattle.wbt_journal.specs.declared.entry.CheckEntry.{CheckEntry}
-use Rattle.wbt_journal.specs.declared.entry.DomainLine.{DomainLine}
-use Rattle.wbt_journal.specs.declared.timer.TimerEntry.{TimerEntry}
+use Rattle.wbt_audit_walk.proofs.Common.{Fold, Limits, Trace, CountsAreSums, cgroup_reads, loads_of, read_loads, reads_of, Load, Each, effect, of_part, begins, tells, domains, triple_fault, triples_after, Told, first_failed, CheckEntry, DomainLine, TimerEntry, seen_at, below, row_of, push_cell, IsJudged, Judges}
+use Rattle.wbt_journal.specs.Counts.{IsSum}
+use Rattle.wbt_journal.specs.Reads.{are_limits, is_new, is_published, triple_in, triples_of}
 use Rattle.wbt_journal.specs.declared.timer.TimerEntry.TheVariants as timer
 use Rattle.wbt_audit_reads.specs.Counting.{context_load}
 use Rattle.wbt_audit_reads.specs.Folding.{AreOf}
-use Rattle.wbt_audit_walk.specs.Newest.{seen_at}
-use Rattle.wbt_audit_walk.specs.Places.{below}
 use Rattle.wbt_audit_reads.specs.Reading.{AreSeen, ArePublished, KeepsTriples, Sees, JudgesCheck, triple_more_at, one_triple_more, place_by, test, test_at}
-use Rattle.wbt_audit_walk.specs.Rows.{row_of, push_cell}
-use Rattle.wbt_audit_walk.specs.Walking.{IsJudged, Judges}
 use Rattle.wbt_audit_walk.specs.declared.places.Places.{Places}
 use Rattle.wbt_audit_reads.specs.declared.triples.Triples.{Triples}
 use Rattle.wbt_audit_walk.proofs.Placing.{numbers_apart, below_is}

@@ -2,15 +2,12 @@
 use Rattle.std.proofs.Common.{◌≡◌, ℕ, Bool, true, false, ◌&&◌, ◌==◌, Option, Some, None, refl, sym, ap, ◌∙◌}
 use Rattle.std.proofs.lemmas.Bool.{cond-true, cond-false}
 use Rattle.std.proofs.lemmas.Bool.Decides.{Decides-eqb}
-use Rattle.wbt_estimate.specs.declared.estimate.Estimate.{Estimate}
-use Rattle.wbt_pause.specs.declared.decision.Decision.{Decision}
+use Rattle.wbt_audit_walk.proofs.Common.{Estimate, Decision, Trace, with_mark, CheckEntry}
 use Rattle.wbt_pause.specs.declared.decision.Kind.{Kind}
 use Rattle.wbt_pause.specs.declared.decision.Kind.TheVariants as kind
 use Rattle.wbt_pause.specs.declared.reads.Task.{Task}
-use Rattle.wbt_trace.specs.declared.trace.Trace.{Trace}
-use Rattle.wbt_journal.specs.Checks.{asked_by, decides_by, is_in_range, same_bool, same_decision, same_kind, same_task, task_numbers, with_mark}
+use Rattle.wbt_journal.specs.Checks.{asked_by, decides_by, is_in_range, same_bool, same_decision, same_kind, same_task, task_numbers}
 use Rattle.wbt_journal.specs.Side.{Side}
-use Rattle.wbt_journal.specs.declared.entry.CheckEntry.{CheckEntry}
 use Rattle.wbt_audit_turns.specs.Judging.{asked_in_range}
 use Rattle.wbt_audit_turns.specs.Sides.{tells_decision}
 use Rattle.wbt_audit_turns.proofs.Marked.{marks_agree}

@@ -6,10 +6,9 @@ use Rattle.std.proofs.lemmas.List.Folds.{list_all_more}
 use Rattle.std.proofs.lemmas.List.Sums.{sum_by-cons}
 use Rattle.wbt_book.specs.declared.event.Event.{Event}
 use Rattle.wbt_book.specs.declared.event.Event.TheVariants.{Dirty, Claim, Complete, Redirty, Absorb}
-use Rattle.wbt_journal.specs.declared.journal.Left.{Left}
-use Rattle.wbt_journal.specs.Effects.{event_of, of_part}
-use Rattle.wbt_journal.specs.Leaves.{is_dirtying, is_claim, is_completing, is_redirtying, is_absorbing, dirties, claims, completes, redirties, absorbs, left_dirty, left_writeback, is_even_below}
-use Rattle.wbt_journal.specs.Told.{Told}
+use Rattle.wbt_audit_walk.proofs.Common.{Left, of_part, is_even_below, Told}
+use Rattle.wbt_journal.specs.Effects.{event_of}
+use Rattle.wbt_journal.specs.Leaves.{is_dirtying, is_claim, is_completing, is_redirtying, is_absorbing, dirties, claims, completes, redirties, absorbs, left_dirty, left_writeback}
 use Rattle.wbt_audit_turns.specs.declared.ledger.Tally.{Tally}
 use Rattle.wbt_audit_turns.specs.Balanced.{nothing, plus, with_events, tally_of_event, tally_of, tally_of_left, Tallied, is_balanced}
 

@@ -2,14 +2,10 @@
 use Rattle.std.proofs.Common.{◌≡◌, ℕ, zero, suc, ◌+◌, ◌^◌, ◌<◌, ◌≤◌, not, ◌&&◌, ◌==◌, List, [], ◌∷◌, length, map, get_or, replicate, refl, ap, ◌∙◌, arith, ne_eqb}
 use Rattle.std.specs.List.{sum_by}
 use Rattle.std.proofs.lemmas.List.Sums.{sum_by-cons}
-use Rattle.wbt_task.specs.Allowance.{first}
+use Rattle.wbt_audit_walk.proofs.Common.{first, new_writer, Writer, TaskLine, Trace, pages_of_task, rests_last, all_writers}
 use Rattle.wbt_task.specs.Counts.{dirtied_by}
-use Rattle.wbt_task.specs.History.{new_cpu, new_writer}
-use Rattle.wbt_task.specs.declared.history.Writer.{Writer}
-use Rattle.wbt_trace.specs.declared.trace.TaskLine.{TaskLine}
-use Rattle.wbt_trace.specs.declared.trace.Trace.{Trace}
-use Rattle.wbt_journal.specs.Machine.{pages_of_task, rests_last}
-use Rattle.wbt_journal.specs.Side.{all_writers, first_side, first_states, is_empty}
+use Rattle.wbt_task.specs.History.{new_cpu}
+use Rattle.wbt_journal.specs.Side.{first_side, first_states, is_empty}
 use Rattle.wbt_audit_turns.specs.Sides.{Fits, IsMachine, at_first, no_plan, plan_of, side_of, state_of}
 use Rattle.wbt_audit_turns.specs.declared.machine.Machine.{Machine}
 use Rattle.wbt_audit_turns.specs.declared.machine.TaskPlan.{TaskPlan}

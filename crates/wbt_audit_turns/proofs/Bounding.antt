@@ -1,12 +1,8 @@
 -- What is counted for the bound of a domain, piece by piece.
 use Rattle.std.proofs.Common.{◌≡◌, ℕ, zero, suc, ◌<◌, ◌≤◌, Bool, true, false, ◌&&◌, nat_le, Some, None, List, refl, sym, ap, ◌∙◌, arith, ◌⊎◌, inl, inr}
 use Rattle.std.proofs.lemmas.Bool.{cases_eq}
-use Rattle.wbt_trace.specs.declared.trace.Trace.{Trace}
-use Rattle.wbt_journal.specs.declared.journal.Left.{Left}
-use Rattle.wbt_journal.specs.declared.timer.TimerEntry.{TimerEntry}
-use Rattle.wbt_journal.specs.Leaves.{is_bounded, count_of, bound_of}
-use Rattle.wbt_journal.specs.Machine.{domains}
-use Rattle.wbt_journal.specs.Walk.{unless}
+use Rattle.wbt_audit_walk.proofs.Common.{Trace, Left, TimerEntry, is_bounded, domains, unless}
+use Rattle.wbt_journal.specs.Leaves.{count_of, bound_of}
 
 and_false : (a b : Bool) → b ≡ false → (a && b) ≡ false
 and_false true b q = q

@@ -1,29 +1,18 @@
 -- The walk over a journal's checks, each with the mark that its line calls for.
 use Rattle.std.proofs.Common.{◌≡◌, ℕ, ◌+◌, Bool, true, false, not, ◌&&◌, ◌||◌, Option, Some, None, List, [], ◌∷◌, ◌++◌, length, map, replicate, zero, suc, refl, sym, ap, ◌∙◌}
 use Rattle.std.specs.List.{list_all}
-use Rattle.wbt_estimate.specs.declared.estimate.Estimate.{Estimate}
-use Rattle.wbt_task.specs.Allowance.{first}
-use Rattle.wbt_task.specs.History.{new_cpu, new_writer}
-use Rattle.wbt_trace.specs.declared.trace.Trace.{Trace}
-use Rattle.wbt_rules.specs.First.{first_estimate}
-use Rattle.wbt_journal.specs.Checks.{decides_by, decision_fault, is_writer_quiet, nth_estimate, none_due, stands_fault, with_marks}
-use Rattle.wbt_journal.specs.Effects.{effect, of_part}
-use Rattle.wbt_journal.specs.Estimates.{decision_at, estimates_of, opened_at}
-use Rattle.wbt_journal.specs.Items.{Item, begins, tells, all_told, item_size, items_from, items_of, parts_of}
-use Rattle.wbt_journal.specs.Side.{all_writers, first_side, is_own_task, side_after_item}
+use Rattle.wbt_audit_walk.proofs.Common.{Estimate, first, new_writer, Trace, first_estimate, nth_estimate, with_marks, effect, of_part, decision_at, estimates_of, opened_at, Item, begins, tells, all_told, item_size, items_from, items_of, parts_of, all_writers, Told, first_cpu_line, first_fault, first_of, unless, CheckEntry, Ending, Journal, Shows, item_of, rest}
+use Rattle.wbt_task.specs.History.{new_cpu}
+use Rattle.wbt_journal.specs.Checks.{decides_by, decision_fault, is_writer_quiet, none_due, stands_fault}
+use Rattle.wbt_journal.specs.Side.{first_side, is_own_task, side_after_item}
 use Rattle.wbt_journal.specs.Side as spec
-use Rattle.wbt_journal.specs.Told.{Told}
-use Rattle.wbt_journal.specs.Verdict.{checks_fault, decisions_fault, end_at, first_cpu_line, none_missing}
-use Rattle.wbt_journal.specs.Walk.{after, first_fault, first_of, unless}
-use Rattle.wbt_journal.specs.declared.entry.CheckEntry.{CheckEntry}
-use Rattle.wbt_journal.specs.declared.journal.Ending.{Ending}
+use Rattle.wbt_journal.specs.Verdict.{checks_fault, decisions_fault, end_at, none_missing}
+use Rattle.wbt_journal.specs.Walk.{after}
 use Rattle.wbt_journal.specs.declared.journal.Ending.TheVariants as ending
-use Rattle.wbt_journal.specs.declared.journal.Journal.{Journal}
 use Rattle.wbt_audit_turns.specs.Checked.{HasPassed, decides, is_missing, next_side, standing_fault, stands}
 use Rattle.wbt_audit_turns.specs.Judging.{IsJudgeOf, Passes, ends_due, from_line, some_due}
 use Rattle.wbt_audit_turns.specs.Marks.{marked_item}
 use Rattle.wbt_audit_turns.specs.Sides.{side_of}
-use Rattle.wbt_audit_walk.specs.Walks.{Shows, item_of, rest}
 use Rattle.wbt_audit_turns.specs.declared.checks.Judge.{Judge}
 use Rattle.wbt_audit_walk.specs.declared.walk.Step.{Step}
 use Rattle.wbt_audit_walk.specs.declared.walk.Walk.{Walk}

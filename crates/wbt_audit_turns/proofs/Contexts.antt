@@ -1,9 +1,8 @@
 -- The context of a page is one that there is.
 use Rattle.std.proofs.Common.{◌≡◌, ℕ, ◌+◌, ◌<◌, Bool, true, false, ◌&&◌, cond, nat_le, nat_lt, Some, List, [], ◌∷◌, All, length, subst}
 use Rattle.std.proofs.lemmas.List.Elements.{All-head, All-tail}
-use Rattle.wbt_trace.specs.Lawful.{IsInode, IsLawful}
-use Rattle.wbt_trace.specs.declared.trace.Inode.{Inode}
-use Rattle.wbt_trace.specs.declared.trace.Trace.{Trace}
+use Rattle.wbt_audit_walk.proofs.Common.{IsLawful, Inode, Trace}
+use Rattle.wbt_trace.specs.Lawful.{IsInode}
 use Rattle.wbt_journal.specs.Machine.{context_among, page_context}
 
 in_range : (contexts page : ℕ) (inodes : List Inode) → All (IsInode contexts) inodes → (context : ℕ) → context_among page inodes ≡ Some context → context < contexts

@@ -3,8 +3,8 @@ use Rattle.std.proofs.Common.{ℕ, ◌+◌, ◌*◌, ◌^◌, ◌<◌, ◌≤◌
 use Rattle.wbt_expiry.specs.Kept.{reach}
 use Rattle.wbt_rules.specs.Age.{due_after, expire_ticks}
 use Rattle.wbt_rules.specs.Things.{context_at, context_of}
-use Rattle.wbt_trace.specs.Lawful.{IsExpire, IsLawful}
-use Rattle.wbt_trace.specs.declared.trace.Trace.{Trace}
+use Rattle.wbt_audit_walk.proofs.Common.{IsLawful, Trace}
+use Rattle.wbt_trace.specs.Lawful.{IsExpire}
 
 by_line : (expire : Option ℕ) → IfSome expire IsExpire → 10 * unwrap_or expire 3000 ≤ reach
 by_line None fits = omega arith

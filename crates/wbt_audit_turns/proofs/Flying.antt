@@ -3,13 +3,9 @@ use Rattle.std.proofs.Common.{◌≡◌, ℕ, ◌+◌, ◌<◌, Bool, true, fals
 use Rattle.std.proofs.lemmas.List.{drop_more, length-replicate}
 use Rattle.std.proofs.lemmas.List.Edits.{map_over_more}
 use Rattle.wbt_trace.specs.declared.trace.FlusherLine.{FlusherLine}
-use Rattle.wbt_trace.specs.declared.trace.Trace.{Trace}
-use Rattle.wbt_journal.specs.Flights.{ToldFlusher, ToldPhase, flying, returning, new_flusher, first_flushers, flushers_after, is_landing, is_giving_back, landed, given_back}
-use Rattle.wbt_journal.specs.Items.{Item}
-use Rattle.wbt_journal.specs.Verdict.{turn_fault}
-use Rattle.wbt_journal.specs.Walk.{unless}
+use Rattle.wbt_audit_walk.proofs.Common.{Trace, ToldFlusher, ToldPhase, new_flusher, first_flushers, flushers_after, Item, turn_fault, unless, Judges}
+use Rattle.wbt_journal.specs.Flights.{flying, returning, is_landing, is_giving_back, landed, given_back}
 use Rattle.wbt_audit_turns.specs.Flown.{is_leaving, left_batch}
-use Rattle.wbt_audit_walk.specs.Walking.{Judges}
 
 -- ---- flushers that do nothing yet
 

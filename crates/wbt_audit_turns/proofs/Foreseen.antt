@@ -2,11 +2,8 @@
 use Rattle.std.proofs.Common.{◌≡◌, ◌≢◌, ℕ, zero, suc, ◌+◌, ◌<◌, ◌⊎◌, inl, inr, Bool, true, false, eqb, List, [], ◌∷◌, ◌++◌, length, flat_map, get_or, set, refl, sym, ap, ◌∙◌, arith, length-append, eq-eqb, ne_eqb}
 use Rattle.std.proofs.lemmas.Bool.{cond-true, cond-false, cases_eq}
 use Rattle.std.proofs.lemmas.List.{get_or-set_same, get_or-set_other}
-use Rattle.wbt_trace.specs.Sofar.{inode_at}
-use Rattle.wbt_trace.specs.declared.trace.Action.{Action}
+use Rattle.wbt_audit_walk.proofs.Common.{inode_at, Action, Inode, numbers, pages_of_action, rests_after}
 use Rattle.wbt_trace.specs.declared.trace.Action.TheVariants as action
-use Rattle.wbt_trace.specs.declared.trace.Inode.{Inode}
-use Rattle.wbt_journal.specs.Machine.{numbers, pages_of_action, rests_after}
 use Rattle.wbt_audit_turns.specs.Plans.{by_of, seen_more}
 use Rattle.wbt_audit_turns.specs.Sides.{no_plan}
 use Rattle.wbt_audit_turns.specs.declared.machine.TaskPlan.{TaskPlan}

@@ -1,18 +1,15 @@
 -- A check with the mark that its line calls for is compared with what it is asked by its lines alone.
 use Rattle.std.proofs.Common.{◌≡◌, Bool, true, false, ◌&&◌, ◌==◌, refl, sym, ap, ◌∙◌}
-use Rattle.wbt_estimate.specs.declared.estimate.Estimate.{Estimate}
+use Rattle.wbt_audit_walk.proofs.Common.{Estimate, Decision, Trace, with_mark, CheckEntry}
 use Rattle.wbt_pause.specs.Decision.{exceeded_of}
-use Rattle.wbt_pause.specs.declared.decision.Decision.{Decision}
 use Rattle.wbt_pause.specs.declared.decision.Kind.{Kind}
 use Rattle.wbt_pause.specs.declared.decision.Kind.TheVariants as kind
 use Rattle.wbt_pause.specs.declared.reads.Reads.{Reads}
 use Rattle.wbt_rules.specs.Strict.{is_strict}
 use Rattle.wbt_strict.specs.Decision.{exceeded_for}
 use Rattle.wbt_strict.proofs.Marks.{exceeded_is}
-use Rattle.wbt_trace.specs.declared.trace.Trace.{Trace}
-use Rattle.wbt_journal.specs.Checks.{asked_by, mark_of, reads_by, same_bool, same_decision, same_kind, same_task, task_numbers, with_mark}
+use Rattle.wbt_journal.specs.Checks.{asked_by, mark_of, reads_by, same_bool, same_decision, same_kind, same_task, task_numbers}
 use Rattle.wbt_journal.specs.Side.{Side}
-use Rattle.wbt_journal.specs.declared.entry.CheckEntry.{CheckEntry}
 use Rattle.wbt_audit_turns.specs.Sides.{tells_decision}
 
 same_mark : (a b : Kind) (over : Bool) → same_kind a b ≡ true → exceeded_of a over ≡ exceeded_of b over

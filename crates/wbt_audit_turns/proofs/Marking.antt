@@ -4,34 +4,17 @@ use Rattle.std.specs.Prelude.{slice_get}
 use Rattle.std.specs.List.{sum_by, list_any, list_all}
 use Rattle.std.proofs.lemmas.List.{map-append}
 use Rattle.std.proofs.lemmas.List.Sums.{sum_by-cons}
-use Rattle.wbt_trace.specs.declared.trace.TaskLine.{TaskLine}
-use Rattle.wbt_trace.specs.declared.trace.Trace.{Trace}
-use Rattle.wbt_journal.specs.declared.entry.CheckEntry.{CheckEntry}
-use Rattle.wbt_journal.specs.declared.entry.CpuJournal.{CpuJournal}
-use Rattle.wbt_journal.specs.declared.entry.Entry.{Entry}
+use Rattle.wbt_audit_walk.proofs.Common.{TaskLine, Trace, CheckEntry, CpuJournal, Entry, EstEntry, Ending, Journal, with_mark, with_marks, reads_of, fold_in, folds_in, fold_fault, folds_after, count_fault, versions_after, Estimate, DomainLine, effect, of_part, opened_at, estimates_of, estimate_in, decision_at, sight_after, estimate_fault, flushers_after, first_flushers, Item, begins, tells, items_from, items_of, item_size, parts_of, all_told, is_even_below, is_bounded, is_nothing, has_all_steps, MOST_FAULTS, contexts, domains, pages_of_task, page_fault, writes_after, triple_fault, triples_after, fraction_fault, periods_after, periods_from, added_to, Told, wrote, folded, checked, claimed, batch, done, share, estimated, fault, gave_back, noticed, aged, took, told, told_entry, first_cpu_line, turn_fault, wait_fault, lists_after, first_lists, first_fault, first_failed, first_of, unless}
 use Rattle.wbt_journal.specs.declared.entry.Entry.TheVariants as entry
-use Rattle.wbt_journal.specs.declared.entry.EstEntry.{EstEntry}
-use Rattle.wbt_journal.specs.declared.journal.Ending.{Ending}
 use Rattle.wbt_journal.specs.declared.journal.Ending.TheVariants as ending
-use Rattle.wbt_journal.specs.declared.journal.Journal.{Journal}
-use Rattle.wbt_journal.specs.Checks.{with_mark, part_with_marks, with_marks}
-use Rattle.wbt_journal.specs.Counts.{reads_of, fold_in, folds_in, fold_fault, folds_after, count_fault, versions_after}
-use Rattle.wbt_estimate.specs.declared.estimate.Estimate.{Estimate}
-use Rattle.wbt_journal.specs.declared.entry.DomainLine.{DomainLine}
-use Rattle.wbt_journal.specs.Effects.{effect, of_part}
-use Rattle.wbt_journal.specs.Estimates.{opened_at, estimates_of, estimate_in, Named, is_no_newer, decision_at, next_fault, Sight, sight_after, no_sight, estimate_fault}
-use Rattle.wbt_journal.specs.Flights.{flushers_after, first_flushers}
-use Rattle.wbt_journal.specs.Items.{Item, begins, tells, items_from, items_of, item_size, parts_of, all_told}
-use Rattle.wbt_journal.specs.Leaves.{dirties, claims, completes, redirties, absorbs, left_dirty, left_writeback, is_even, is_even_below, is_left_from, is_page, is_bounded, is_fault_of, some_failed, is_nothing, is_page_step, wrote_all, writes_of, has_all_steps, ends_by}
+use Rattle.wbt_journal.specs.Checks.{part_with_marks}
+use Rattle.wbt_journal.specs.Estimates.{Named, is_no_newer, next_fault, Sight, no_sight}
+use Rattle.wbt_journal.specs.Leaves.{dirties, claims, completes, redirties, absorbs, left_dirty, left_writeback, is_even, is_left_from, is_page, is_fault_of, some_failed, is_page_step, wrote_all, writes_of, ends_by}
 use Rattle.wbt_num.specs.declared.most.TheConstants.{MOST_PAGE_STEPS}
-use Rattle.wbt_rules.specs.declared.moments.TheConstants.{MOST_FAULTS}
-use Rattle.wbt_journal.specs.Machine.{contexts, domains, pages, pages_of_task}
-use Rattle.wbt_journal.specs.Pages.{page_fault, writes_after}
-use Rattle.wbt_journal.specs.Reads.{triple_fault, triples_after, fraction_fault, share_fault, Period, periods_after, periods_from, is_new_enough, added_by, added_to}
-use Rattle.wbt_journal.specs.Told.{Told, wrote, folded, checked, claimed, batch, done, share, estimated, fault, gave_back, noticed, aged, took, told, told_entry, one_checked, one_estimated}
-use Rattle.wbt_journal.specs.Verdict.{first_cpu_line, census_at, first_left_line, turn_fault}
-use Rattle.wbt_journal.specs.Waits.{wait_fault, lists_after, first_lists}
-use Rattle.wbt_journal.specs.Walk.{first_fault, first_failed, first_of, unless}
+use Rattle.wbt_journal.specs.Machine.{pages}
+use Rattle.wbt_journal.specs.Reads.{share_fault, Period, is_new_enough, added_by}
+use Rattle.wbt_journal.specs.Told.{one_checked, one_estimated}
+use Rattle.wbt_journal.specs.Verdict.{census_at, first_left_line}
 use Rattle.wbt_audit_turns.specs.Marks as marks
 use Rattle.wbt_audit_turns.specs.Marks.{FaultsStay, MarksChangeNoOther}
 

@@ -1,13 +1,7 @@
 -- Estimates by context and version.
 use Rattle.std.proofs.Common.{◌≡◌, ℕ, zero, suc, ◌+◌, List, [], ◌∷◌, ◌++◌, map, flat_map, refl, sym, ap, ◌∙◌, append_assoc}
 use Rattle.std.specs.Prelude.{slice_get}
-use Rattle.wbt_estimate.specs.declared.estimate.Estimate.{Estimate}
-use Rattle.wbt_journal.specs.declared.entry.CpuJournal.{CpuJournal}
-use Rattle.wbt_journal.specs.declared.journal.Journal.{Journal}
-use Rattle.wbt_journal.specs.Checks.{nth_estimate}
-use Rattle.wbt_journal.specs.Estimates.{estimate_in, estimates_of}
-use Rattle.wbt_journal.specs.Items.{Item, tells, items_from, items_of, all_told}
-use Rattle.wbt_journal.specs.Told.{Told, told}
+use Rattle.wbt_audit_walk.proofs.Common.{Estimate, CpuJournal, Journal, nth_estimate, estimate_in, estimates_of, Item, tells, items_from, items_of, all_told, Told, told}
 use Rattle.wbt_audit_turns.specs.Sides.{estimates_in}
 
 pub nth_is : (version : ℕ) (xs : List Estimate) → slice_get xs version ≡ nth_estimate version xs

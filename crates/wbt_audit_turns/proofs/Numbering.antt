@@ -2,13 +2,11 @@
 use Rattle.std.proofs.Common.{◌≡◌, ◌≢◌, ℕ, zero, suc, ◌+◌, ◌*◌, ◌<◌, ◌≤◌, ◌⊎◌, inl, inr, Bool, true, false, ◌&&◌, cond, eqb, List, [], ◌∷◌, ◌++◌, length, get_or, set, drop, refl, sym, ap, ◌∙◌, arith, append_assoc, add-one, drop-cons, eq-eqb, ne_eqb, All}
 use Rattle.std.proofs.lemmas.Bool.{cond-true, cond-false, cases_eq}
 use Rattle.std.proofs.lemmas.List.{append-nil, drop_all, get_or-set_same, get_or-set_other}
-use Rattle.wbt_num.specs.declared.most.TheConstants.{MOST_CONTEXTS, MOST_TASKS}
-use Rattle.wbt_trace.specs.Lawful.{IsLawful, writers_of}
+use Rattle.wbt_audit_walk.proofs.Common.{MOST_CONTEXTS, IsLawful, Trace, Each, all_writers, number_from, numbers_from}
+use Rattle.wbt_num.specs.declared.most.TheConstants.{MOST_TASKS}
+use Rattle.wbt_trace.specs.Lawful.{writers_of}
 use Rattle.wbt_trace.specs.WriterList.{is_writer, writers_from, writers_of_task}
-use Rattle.wbt_trace.specs.declared.trace.Trace.{Trace}
 use Rattle.wbt_trace.specs.declared.writers.Writer.{Writer}
-use Rattle.wbt_journal.specs.Each.{Each}
-use Rattle.wbt_journal.specs.Side.{all_writers, number_from, numbers_from}
 use Rattle.wbt_audit_turns.specs.Naming.{AreInRange, no_name}
 
 -- ---- the numbers of a task

@@ -5,30 +5,18 @@ use Rattle.std.proofs.lemmas.Grind.{common_steps, get_or-set_at}
 use Rattle.std.proofs.lemmas.List.{append-nil, drop-drop, drop_more, drop_all, get_or-map, get_or-replicate, get_or-set_other, length-map, length-replicate, length-set}
 use Rattle.std.proofs.lemmas.List.Edits.{map_over_more}
 use Rattle.std.proofs.lemmas.List.Sums.{sum_by-cons}
-use Rattle.wbt_trace.specs.Sofar.{inode_at}
-use Rattle.wbt_trace.specs.declared.trace.Action.{Action}
+use Rattle.wbt_audit_walk.proofs.Common.{inode_at, Action, TaskLine, Trace, CheckEntry, DomainLine, cgroup_reads, effect, of_part, decision_at, tells, numbers, pages_of_action, pages_of_task, page_fault, writes_after, is_on, Told, wrote, checked, first_of, unless, told_of, IsJudged}
 use Rattle.wbt_trace.specs.declared.trace.Action.TheVariants as action
-use Rattle.wbt_trace.specs.declared.trace.TaskLine.{TaskLine}
-use Rattle.wbt_trace.specs.declared.trace.Trace.{Trace}
-use Rattle.wbt_journal.specs.declared.entry.CheckEntry.{CheckEntry}
-use Rattle.wbt_journal.specs.declared.entry.DomainLine.{DomainLine}
-use Rattle.wbt_journal.specs.Counts.{cgroup_reads}
-use Rattle.wbt_journal.specs.Effects.{Write, effect, of_part}
-use Rattle.wbt_journal.specs.Estimates.{decision_at}
-use Rattle.wbt_journal.specs.Items.{tells}
+use Rattle.wbt_journal.specs.Effects.{Write}
 use Rattle.wbt_journal.specs.Lines.{check_lines, read_line, cgroup_lines, count_line, decision_line}
-use Rattle.wbt_journal.specs.Machine.{cpu_of_task, numbers, pages_of_action, pages_of_task}
-use Rattle.wbt_journal.specs.Pages.{is_at, next_page, page_fault, writes_after, write_fault, task_fault, move_fault}
-use Rattle.wbt_journal.specs.Side.{is_on, is_own_task}
-use Rattle.wbt_journal.specs.Told.{Told, wrote, checked}
-use Rattle.wbt_journal.specs.Walk.{first_of, unless}
+use Rattle.wbt_journal.specs.Machine.{cpu_of_task}
+use Rattle.wbt_journal.specs.Pages.{is_at, next_page, write_fault, task_fault, move_fault}
+use Rattle.wbt_journal.specs.Side.{is_own_task}
 use Rattle.std.specs.Borrow.{Bor}
 use Rattle.wbt_audit_walk.specs.declared.act.Act.{Act}
 use Rattle.wbt_audit_walk.specs.declared.act.Act.TheVariants as act
 use Rattle.wbt_audit_turns.specs.declared.plan.Span.{Span}
-use Rattle.wbt_audit_walk.specs.Acts.{told_of}
 use Rattle.wbt_audit_turns.specs.Planned.{IsPlan, TaskPages, pages_of_spans, is_next, no_span}
-use Rattle.wbt_audit_walk.specs.Walking.{IsJudged}
 use Rattle.wbt_audit_turns.specs.Written.{ArePlanned, ShowsWritten, all_left, no_pages}
 
 -- ---- one task

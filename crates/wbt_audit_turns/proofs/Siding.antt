@@ -4,17 +4,15 @@ use Rattle.std.specs.List.{sum_by}
 use Rattle.std.proofs.lemmas.Bool.Decides.{nat_tests}
 use Rattle.std.proofs.lemmas.List.{get_or-map, drop_all, get_or_past, map-set, set_past}
 use Rattle.std.proofs.lemmas.List.Elements.{All-cons, All-nil}
-use Rattle.wbt_pause.specs.declared.decision.Decision.{Decision}
-use Rattle.wbt_task.specs.Allowance.{ended, first, page_after}
-use Rattle.wbt_task.specs.Counts.{Settles, counted, dirtied_by, is_write}
-use Rattle.wbt_task.specs.History.{Along, Cpu, HasRoom, IsOfWriter, checked_writer, cpu_after, cpu_step, new_writer, writer_of, wrote_page, wrote_writer}
+use Rattle.wbt_audit_walk.proofs.Common.{Decision, first, is_write, cpu_after, new_writer, Ended, Writer, Trace}
+use Rattle.wbt_task.specs.Allowance.{ended, page_after}
+use Rattle.wbt_task.specs.Counts.{Settles, counted, dirtied_by}
+use Rattle.wbt_task.specs.History.{Along, Cpu, HasRoom, IsOfWriter, checked_writer, cpu_step, writer_of, wrote_page, wrote_writer}
 use Rattle.wbt_task.specs.declared.allowance.CpuLocal.{CpuLocal}
 use Rattle.wbt_task.specs.declared.history.Event.{Event}
-use Rattle.wbt_task.specs.declared.history.Event.TheVariants.{Checked, Ended, Wrote}
-use Rattle.wbt_task.specs.declared.history.Writer.{Writer}
+use Rattle.wbt_task.specs.declared.history.Event.TheVariants.{Checked, Wrote}
 use Rattle.wbt_task.proofs.Keeping.{same_writers, event_keeps}
 use Rattle.wbt_task.proofs.Leaving.{room_is_kept}
-use Rattle.wbt_trace.specs.declared.trace.Trace.{Trace}
 use Rattle.wbt_journal.specs.Side.{TaskState, no_task}
 use Rattle.wbt_journal.specs.Side as spec
 use Rattle.wbt_audit_turns.specs.Sides.{Fits, cpu_of, state_of}

@@ -4,14 +4,10 @@ use Rattle.std.proofs.lemmas.Bool.{cond-false, cases_lt, le-ltb}
 use Rattle.wbt_expiry.specs.Waiting.{Waiting}
 use Rattle.wbt_rules.specs.Things as things
 use Rattle.wbt_trace.specs.declared.trace.FlusherLine.{FlusherLine}
-use Rattle.wbt_trace.specs.declared.trace.Trace.{Trace}
+use Rattle.wbt_audit_walk.proofs.Common.{Trace, is_on, Item, tells, items_from, Told, first_lists, item_of}
 use Rattle.wbt_journal.specs.Flights.{is_own_flusher}
-use Rattle.wbt_journal.specs.Side.{is_on}
-use Rattle.wbt_journal.specs.Items.{Item, tells, items_from}
-use Rattle.wbt_journal.specs.Told.{Told}
-use Rattle.wbt_journal.specs.Waits.{first_lists}
 use Rattle.wbt_audit_turns.specs.Waited.{AreOf, IsOf, Keep, wheel_at}
-use Rattle.wbt_audit_walk.specs.Walks.{item_by, item_of}
+use Rattle.wbt_audit_walk.specs.Walks.{item_by}
 use Rattle.wbt_audit_walk.specs.declared.act.Act.{Act}
 use Rattle.wbt_audit_walk.specs.declared.walk.Step.{Step}
 

@@ -5,24 +5,12 @@ use Rattle.std.proofs.lemmas.Bool.Decides.{nat_tests}
 use Rattle.std.proofs.lemmas.List.{drop_all, drop_more, get_or-replicate, length-append, take_all}
 use Rattle.std.proofs.lemmas.List.Folds.{list_any_more}
 use Rattle.std.proofs.lemmas.List.Sums.{sum_by-append, sum_by-cons}
-use Rattle.wbt_rules.specs.declared.moments.TheConstants.{MOST_FAULTS}
-use Rattle.wbt_trace.specs.declared.trace.Action.{Action}
+use Rattle.wbt_audit_walk.proofs.Common.{MOST_FAULTS, Action, Inode, TaskLine, Trace, inode_at, CheckEntry, EstEntry, Entry, CpuJournal, Ending, Left, is_nothing, has_all_steps, numbers, pages_of_action, pages_of_task, Told, told, told_entry}
 use Rattle.wbt_trace.specs.declared.trace.Action.TheVariants.{Write, Rest}
-use Rattle.wbt_trace.specs.declared.trace.Inode.{Inode}
-use Rattle.wbt_trace.specs.declared.trace.TaskLine.{TaskLine}
-use Rattle.wbt_trace.specs.declared.trace.Trace.{Trace}
-use Rattle.wbt_trace.specs.Sofar.{inode_at}
-use Rattle.wbt_journal.specs.declared.entry.CheckEntry.{CheckEntry}
-use Rattle.wbt_journal.specs.declared.entry.EstEntry.{EstEntry}
-use Rattle.wbt_journal.specs.declared.entry.Entry.{Entry}
 use Rattle.wbt_journal.specs.declared.entry.Entry.TheVariants as entry
-use Rattle.wbt_journal.specs.declared.entry.CpuJournal.{CpuJournal}
-use Rattle.wbt_journal.specs.declared.journal.Ending.{Ending}
 use Rattle.wbt_journal.specs.declared.journal.Ending.TheVariants as ending
-use Rattle.wbt_journal.specs.declared.journal.Left.{Left}
-use Rattle.wbt_journal.specs.Leaves.{a_flusher_failed, ends_by, is_fault_of, is_nothing, writes_of, has_all_steps, has_failed, some_failed, wrote_all, is_page_step}
-use Rattle.wbt_journal.specs.Machine.{numbers, pages_of_action, pages_of_task}
-use Rattle.wbt_journal.specs.Told.{Told, told, told_entry, one_checked, one_estimated}
+use Rattle.wbt_journal.specs.Leaves.{a_flusher_failed, ends_by, is_fault_of, writes_of, has_failed, some_failed, wrote_all, is_page_step}
+use Rattle.wbt_journal.specs.Told.{one_checked, one_estimated}
 use Rattle.wbt_audit_turns.specs.Worked.{one_if_so, pages_planned, AreLeft, HaveChances, is_faulted_by, is_step_entry}
 
 -- ---- pages of a task

@@ -1,15 +1,11 @@
 -- What a walk tells of the whole journal.
 use Rattle.std.proofs.Common.{◌≡◌, ℕ, ◌+◌, List, [], ◌∷◌, ◌++◌, map, flat_map, Option, Some, None, refl, ap, sym, ◌∙◌, append_assoc, append-nil}
 use Rattle.std.proofs.lemmas.Grind.{flat_map-append}
-use Rattle.wbt_journal.specs.Items.{Item, begins, tells, items_from, items_of, all_told}
-use Rattle.wbt_journal.specs.Told.{Told, told}
-use Rattle.wbt_journal.specs.declared.entry.CpuJournal.{CpuJournal}
-use Rattle.wbt_journal.specs.declared.journal.Journal.{Journal}
+use Rattle.wbt_audit_walk.proofs.Common.{Item, begins, tells, items_from, items_of, all_told, Told, told, CpuJournal, Journal, told_by, rest, told_in, Shows}
 use Rattle.wbt_audit_walk.specs.declared.act.Act.{Act}
 use Rattle.wbt_audit_walk.specs.declared.walk.Step.{Step}
 use Rattle.wbt_audit_walk.specs.declared.walk.Walk.{Walk}
-use Rattle.wbt_audit_walk.specs.Acts.{told_by}
-use Rattle.wbt_audit_walk.specs.Walks.{rest, told_in, item_by, Shows}
+use Rattle.wbt_audit_walk.specs.Walks.{item_by}
 
 told_in-append : (xs ys : List Item) → told_in (xs ++ ys) ≡ told_in xs ++ told_in ys
 told_in-append [] ys = refl

@@ -7,7 +7,7 @@ use Rattle.std.proofs.lemmas.List.Sums.{sum_by-cons}
 use Rattle.std.proofs.lemmas.Option.{get_or_from_slice_get, slice_get_within}
 use Rattle.wbt_trace.specs.Lawful.{AreFirsts}
 use Rattle.wbt_trace.specs.Sofar.{pages_in}
-use Rattle.wbt_trace.specs.declared.trace.Inode.{Inode}
+use Rattle.wbt_audit_walk.proofs.Common.{Inode}
 use Rattle.wbt_journal.specs.Checks.{has_page}
 use Rattle.wbt_journal.specs.Machine.{context_among}
 

@@ -1,11 +1,10 @@
 -- Things by their numbers stand apart.
 use Rattle.std.proofs.Common.{◌≡◌, ℕ, ◌<◌, ◌+◌, ◌*◌, Bool, true, false, ◌==◌, ◌&&◌, nat_lt, if◌then◌else◌, Option, Some, None, refl, sym, arith, tests, ◌⊎◌, inl, inr}
 use Rattle.std.proofs.lemmas.Nat.{mul-add-lt, rows}
-use Rattle.wbt_counter.specs.Counters.{is_same}
-use Rattle.wbt_counter.specs.declared.counter.Counter.{Counter}
+use Rattle.wbt_audit_walk.proofs.Common.{is_same, Counter, below, counter_place}
 use Rattle.wbt_counter.specs.declared.counter.Counter.TheVariants.{Domain, Context}
 use Rattle.wbt_audit_walk.specs.Newest.{AreApart}
-use Rattle.wbt_audit_walk.specs.Places.{below, behind, counter_place, pair_at, pair_place, place_of_pair, same_pairs}
+use Rattle.wbt_audit_walk.specs.Places.{behind, pair_at, pair_place, place_of_pair, same_pairs}
 
 pub some_is : (a b : ℕ) → Some a ≡ Some b → a ≡ b
 some_is a b e = cc

@@ -3,7 +3,8 @@ use Rattle.std.proofs.Common.{◌≡◌, ℕ, zero, suc, ◌<◌, Some, List, []
 use Rattle.std.specs.List.{slice_get}
 use Rattle.std.proofs.lemmas.Grind.{get_or-set_at}
 use Rattle.std.proofs.lemmas.List.{get_or-set_other}
-use Rattle.wbt_audit_walk.specs.Rows.{row_of, cell, put_cell}
+use Rattle.wbt_audit_walk.proofs.Common.{row_of, cell}
+use Rattle.wbt_audit_walk.specs.Rows.{put_cell}
 
 -- ---- in one row
 

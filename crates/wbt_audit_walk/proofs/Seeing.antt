@@ -4,7 +4,8 @@ use Rattle.std.specs.List.{list_all}
 use Rattle.std.proofs.lemmas.Bool.{cases_eq}
 use Rattle.std.proofs.lemmas.Grind.{common_steps, get_or-set_at}
 use Rattle.std.proofs.lemmas.List.{get_or-set_other, length-set, length-replicate, get_or-replicate}
-use Rattle.wbt_audit_walk.specs.Newest.{is_older, AreNewest, with_seen, seen_at, AreApart}
+use Rattle.wbt_audit_walk.proofs.Common.{seen_at}
+use Rattle.wbt_audit_walk.specs.Newest.{is_older, AreNewest, with_seen, AreApart}
 
 le_max : (a b v : ℕ) → (nat_le b v && nat_le a v) ≡ nat_le (max a b) v
 le_max a b v = grind (arith, tests, common_steps)

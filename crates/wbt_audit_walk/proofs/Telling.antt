@@ -2,10 +2,9 @@
 use Rattle.std.proofs.Common.{◌≡◌, ℕ, ◌+◌, List, [], ap, ◌∙◌, arith}
 use Rattle.std.specs.List.{sum_by}
 use Rattle.std.proofs.lemmas.List.Sums.{sum_by-cons}
-use Rattle.wbt_journal.specs.Items.{Item, item_size}
+use Rattle.wbt_audit_walk.proofs.Common.{Item, item_size, rest, item_of, Shows}
 use Rattle.wbt_audit_walk.specs.declared.walk.Step.{Step}
 use Rattle.wbt_audit_walk.specs.declared.walk.Walk.{Walk}
-use Rattle.wbt_audit_walk.specs.Walks.{rest, item_of, Shows}
 
 -- a step leaves it as it is
 pub line_behind : (old : Walk) (step : Step) (new : Walk) → Shows old step new

@@ -1,11 +1,8 @@
 -- A walk of a clause, step by step.
 use Rattle.std.proofs.Common.{◌≡◌, ℕ, ◌+◌, ◌<◌, Option, Some, None, List, [], ◌∷◌, length, ap, sym, ◌∙◌, arith}
-use Rattle.wbt_journal.specs.Items.{Item, item_size}
-use Rattle.wbt_journal.specs.Walk.{first_fault}
+use Rattle.wbt_audit_walk.proofs.Common.{Item, item_size, first_fault, Judges, Goes, rest, item_of, Shows}
 use Rattle.wbt_audit_walk.specs.declared.walk.Step.{Step}
 use Rattle.wbt_audit_walk.specs.declared.walk.Walk.{Walk}
-use Rattle.wbt_audit_walk.specs.Walking.{Judges, Goes}
-use Rattle.wbt_audit_walk.specs.Walks.{rest, item_of, Shows}
 
 -- each step is nearer to the end
 pub nearer : (old : Walk) (step : Step) (new : Walk) → Shows old step new → length (rest new) < length (rest old)

@@ -4,45 +4,15 @@ use Rattle.std.specs.Prelude.{sum_by}
 use Rattle.std.proofs.lemmas.Bool.{cases_lt, cond-true, cond-false}
 use mathlib.Core.Logic.{dite}
 use native.Mathlib.Decide.{ℕ_discrete}
-use Rattle.wbt_book.specs.Ledger.{times_in, times}
+use Rattle.wbt_flusher.proofs.Common.{times_in, times, room_of, CpuRecord, Grows, Estimate, Has, Scan, Trace, Load, Each, added_to, Told, CpuJournal, IsPlain, Grew, Logged, NotedFlusherTurn, SharesGrew, IsOwn, IsOfFlusher, Flew, FliesInTurn, flusher_after, by_nothing, Gathered, Worker, longer_none, logged_nothing, untold_grows, walked_none, Kit, Seats, IsApart, record_of, record_is, Moments, IsTimed, handed, Did, Works, IsWork, Sight, sight, record_in, phase_by, flusher_in, pages_in, pages_by, shown_of, notes_of, notes_by, OwesRescan, OwesMark, completions, is_completion, all_completions, owing, owing_total, list_by, Waited}
 use Rattle.wbt_fraction.specs.Several as fraction
-use Rattle.wbt_fraction.specs.Totals.{room_of}
-use Rattle.wbt_grant.specs.declared.record.CpuRecord.{CpuRecord}
-use Rattle.wbt_io.specs.Pages.{Grows}
-use Rattle.wbt_estimate.specs.declared.estimate.Estimate.{Estimate}
 use Rattle.wbt_published.specs.Passes as est
-use Rattle.wbt_table.specs.Rule.{Has}
 use Rattle.wbt_rules.specs.Places.{page_at}
-use Rattle.wbt_rules.specs.declared.scan.Scan.{Scan}
-use Rattle.wbt_trace.specs.declared.trace.Trace.{Trace}
-use Rattle.wbt_journal.specs.Counts.{Load}
-use Rattle.wbt_journal.specs.Each.{Each}
 use Rattle.wbt_journal.specs.Flights as flights
-use Rattle.wbt_journal.specs.Reads.{added_to}
-use Rattle.wbt_journal.specs.Told.{Told}
-use Rattle.wbt_journal.specs.declared.entry.CpuJournal.{CpuJournal}
-use Rattle.wbt_run_laws.specs.Elsewhere.{IsPlain}
-use Rattle.wbt_run_laws.specs.Grew.{Grew}
-use Rattle.wbt_run_laws.specs.Log.{Logged}
-use Rattle.wbt_run_laws.specs.Noted.{NotedFlusherTurn}
-use Rattle.wbt_run_laws.specs.Notes.{Notes, SharesGrew, EstimatesGrew}
-use Rattle.wbt_run_laws.specs.Owns.{IsOwn, IsOfFlusher}
-use Rattle.wbt_run_laws.specs.Phases.{Flew, FliesInTurn, flusher_after}
-use Rattle.wbt_run_laws.proofs.Growing.{by_nothing}
-use Rattle.wbt_run_laws.specs.Steps.{Gathered}
-use Rattle.wbt_run_laws.specs.Worker.{Worker}
-use Rattle.wbt_run_laws.proofs.Lists.{longer_none}
-use Rattle.wbt_run_laws.proofs.Logging.{logged_nothing}
+use Rattle.wbt_run_laws.specs.Notes.{Notes, EstimatesGrew}
 use Rattle.wbt_run_laws.proofs.Moving.{plain_estimates}
-use Rattle.wbt_run_laws.proofs.Stepping.{untold_grows}
-use Rattle.wbt_run_laws.proofs.Walking.{walked_none}
-use Rattle.wbt_kit.specs.declared.kit.Kit.{Kit}
-use Rattle.wbt_kit.specs.declared.kit.Seats.{Seats}
-use Rattle.wbt_run_steps.specs.Records.{IsApart, record_of}
-use Rattle.wbt_run_steps.proofs.Changing.{record_is}
-use Rattle.wbt_flusher.specs.Did.{Moments, IsTimed, handed, Did, Quiet, Works}
-use Rattle.wbt_flusher.specs.Plans.{IsWork}
-use Rattle.wbt_flusher.specs.Sights.{Sight, sight, record_in, phase_by, flusher_by, flusher_in, pages_in, pages_by, shown_of, notes_of, notes_by, OwesRescan, OwesMark, completions, is_completion, all_completions, owing, owing_total, list_by, shown_by}
+use Rattle.wbt_flusher.specs.Did.{Quiet}
+use Rattle.wbt_flusher.specs.Sights.{flusher_by, shown_by}
 use Rattle.wbt_flusher.specs.declared.plan.FlusherPlan.{FlusherPlan}
 use Rattle.wbt_flusher.specs.declared.work.Phase.{Phase}
 use Rattle.wbt_flusher.specs.declared.work.Phase.TheVariants.{Idle, Scanning, Flying, Returning, Failed}
@@ -51,7 +21,6 @@ use Rattle.wbt_flusher.proofs.Changing.{Changed}
 use Rattle.wbt_flusher.proofs.Noting.{shares_by, grows_none}
 use Rattle.wbt_flusher.proofs.Waiting.{list_kept}
 use Rattle.wbt_run_laws.specs.Shown.{ShownFlusher}
-use Rattle.wbt_run_laws.specs.Waits.{Waited}
 
 -- ---- what the flusher owes itself is known
 

@@ -3,23 +3,13 @@ use Rattle.std.proofs.Common.{◌≡◌, ◌≢◌, ℕ, suc, ◌+◌, ◌<◌, 
 use Rattle.std.specs.Prelude.{slice_index_or, slice_set}
 use mathlib.Core.Logic.{dite}
 use native.Mathlib.Decide.{ℕ_discrete}
-use Rattle.wbt_fraction.specs.Laws.{begun}
-use Rattle.wbt_fraction.specs.Notes.{added_at}
+use Rattle.wbt_flusher.proofs.Common.{begun, added_at, no_seat, Each, added_to, Told, share, Longer, SharesGrew, IsOfFlusher, Worker, longer_none, notes_by}
+use Rattle.wbt_kit.proofs.Common.{fits_length}
 use Rattle.wbt_fraction.specs.Sums.{total as weigh}
 use Rattle.wbt_fraction.specs.Seat.{Seated, Shape}
 use Rattle.wbt_fraction.specs.Several as fraction
-use Rattle.wbt_fraction.specs.Several.{no_seat}
-use Rattle.wbt_fraction.proofs.Fitting.{fits_length}
-use Rattle.wbt_journal.specs.Each.{Each}
-use Rattle.wbt_journal.specs.Reads.{added_to}
-use Rattle.wbt_journal.specs.Told.{Told, share}
 use Rattle.wbt_published.specs.Passes as est
 use Rattle.wbt_run_laws.specs.Calls.{NotesGrew}
-use Rattle.wbt_run_laws.specs.Notes.{Longer, SharesGrew}
-use Rattle.wbt_run_laws.specs.Owns.{IsOfFlusher}
-use Rattle.wbt_run_laws.specs.Worker.{Worker}
-use Rattle.wbt_run_laws.proofs.Lists.{longer_none}
-use Rattle.wbt_flusher.specs.Sights.{notes_by}
 use Rattle.wbt_flusher.proofs.Noting.{shares_by}
 
 -- ---- one domain of a seat

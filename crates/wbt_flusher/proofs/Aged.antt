@@ -1,45 +1,33 @@
 -- What turns say of writeback by age, from what they did.
 use Rattle.std.proofs.Common.{◌≡◌, ℕ, zero, suc, ◌≤◌, Bool, true, false, true≢false, cond, eqb, ltb, ◌||◌, ◌&&◌, ◌⊎◌, List, [], ◌∷◌, length, Contains, Option, Some, None, IfSome, inl, inr, sym, refl, ap, ◌∙◌, subst, arith, eqb-true}
 use Rattle.std.proofs.lemmas.Bool.{ltb-false, ltb-true}
-use Rattle.wbt_counter.specs.History.{at_least_zero}
+use Rattle.wbt_flusher.proofs.Common.{AreInOrder, Waiting, Due, Trace, effect, Told, CpuJournal, Logged, Worker, logged_nothing, Kit, Turn, Stepped, Resting, Done, Halted, Faulted, Spent, NoMemory, HasWheel, pairs_of, FlusherAnswers, Did, IsTimed, Moments, no_moments, Sight, list_by, MeasuresBefore, WeighsBefore, DomainLoad}
+use Rattle.wbt_kit.proofs.Common.{at_least_zero, Wait, of_part, MayWait, waited, opening}
 use Rattle.wbt_expiry.specs.Kept.{NoneDue}
-use Rattle.wbt_expiry.specs.Waiting.{AreInOrder, ComesBefore, Each, Waiting, comes_before, with_pair}
-use Rattle.wbt_expiry.specs.declared.due.Due.{Due}
+use Rattle.wbt_expiry.specs.Waiting.{ComesBefore, Each, comes_before, with_pair}
 use Rattle.wbt_expiry.proofs.Sorting.{each_put}
-use Rattle.wbt_trace.specs.declared.trace.Trace.{Trace}
 use Rattle.wbt_journal.specs.Each as journal
-use Rattle.wbt_journal.specs.Effects.{Wait, WaitMove, notices, ages, takes_first, effect, of_part}
-use Rattle.wbt_journal.specs.Told.{Told}
-use Rattle.wbt_journal.specs.Waits.{MayAge, MayWait, noticed_pair, waited, without_first}
+use Rattle.wbt_journal.specs.Effects.{WaitMove, notices, ages, takes_first}
+use Rattle.wbt_journal.specs.Waits.{MayAge, noticed_pair, without_first}
 use Rattle.wbt_journal.specs.Walk.{Along}
-use Rattle.wbt_run_laws.specs.Log.{Logged}
 use Rattle.wbt_run_laws.specs.Notes.{no_fraction}
 use Rattle.wbt_run_laws.specs.Shown.{ShownFlusher, first_shown}
 use Rattle.wbt_run_laws.specs.Waits.{WaitsInTurn, list_after}
-use Rattle.wbt_run_laws.specs.Worker.{Worker, empty_log}
-use Rattle.wbt_run_laws.proofs.Logging.{logged_nothing}
-use Rattle.wbt_kit.specs.declared.kit.Kit.{Kit}
-use Rattle.wbt_kit.specs.declared.turn.Turn.{Turn}
-use Rattle.wbt_kit.specs.declared.turn.Turn.TheVariants.{Stepped, Resting, Done, Halted, Faulted, Spent, NoMemory}
+use Rattle.wbt_run_laws.specs.Worker.{empty_log}
 use Rattle.wbt_flusher.specs.Aged.{EntryIsInTime, IsIdleTurn, IsInTime, MoveIsInTime, WritesForAge, WritesInTime, WritesWhatIsDue}
 use Rattle.wbt_flusher.specs.Ageing.{RestsByAge, ScansByAge, TakesByAge, as_it_is_over, for_its_age}
-use Rattle.wbt_flusher.specs.Ages.{HasWheel, pairs_of}
-use Rattle.wbt_flusher.specs.Answers.{AreTold, FlusherAnswers}
-use Rattle.wbt_flusher.specs.Did.{Did, IsTimed, Moments, no_moments, waited_at}
-use Rattle.wbt_flusher.specs.Sights.{Sight, list_by}
+use Rattle.wbt_flusher.specs.Answers.{AreTold}
+use Rattle.wbt_flusher.specs.Did.{waited_at}
 use Rattle.wbt_flusher.specs.Reads as reads
-use Rattle.wbt_flusher.specs.Reads.{Measures, MeasuresAll, MeasuresBefore, is_another, is_first, is_updated, is_young}
+use Rattle.wbt_flusher.specs.Reads.{Measures, MeasuresAll, is_another, is_first, is_updated, is_young}
 use Rattle.wbt_flusher.specs.Took.{Decides, FlusherTook, Took, by_age, drains, flies, is_calm, is_over, returns, scans, tests}
 use Rattle.wbt_flusher.specs.Weighs as weighs
-use Rattle.wbt_flusher.specs.Weighs.{WeighsAll, WeighsBefore, WeighsInGroup, WeighsNext, has_none, has_one, is_weighed, weighs_each, weighs_none}
+use Rattle.wbt_flusher.specs.Weighs.{WeighsAll, WeighsInGroup, WeighsNext, has_none, has_one, is_weighed, weighs_each, weighs_none}
 use Rattle.wbt_flusher.specs.declared.background.Read.{Read}
 use Rattle.wbt_flusher.specs.declared.work.FlusherWork.{FlusherWork}
 use Rattle.wbt_flusher.specs.declared.work.Phase.{Phase}
 use Rattle.wbt_flusher.specs.declared.work.Phase.TheVariants.{Idle, Scanning, Flying, Returning, Failed}
 use Rattle.wbt_flusher.specs.declared.plan.FlusherPlan.{FlusherPlan}
-use Rattle.wbt_journal.specs.declared.entry.CpuJournal.{CpuJournal}
-use Rattle.wbt_published.specs.Known.{opening}
-use Rattle.wbt_run_steps.specs.declared.loads.DomainLoad.{DomainLoad}
 use Rattle.wbt_flusher.proofs.Acting.{own_flusher_is}
 use Rattle.wbt_flusher.proofs.Ending.{told_none}
 

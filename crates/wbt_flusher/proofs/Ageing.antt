@@ -4,47 +4,23 @@ use Rattle.std.proofs.lemmas.Bool.{cond-true}
 use Rattle.std.proofs.lemmas.Option.{get_or_from_slice_get}
 use Rattle.std.specs.Prelude.{sum_by, ◌*◌, ◌^◌, ◌&&◌, not, is_some, unwrap_or, IfNone}
 use Rattle.wbt_expiry.specs.Kept.{reach}
-use Rattle.wbt_expiry.specs.Waiting.{AreInOrder, Each, Waiting, has_inode, with_pair}
-use Rattle.wbt_expiry.specs.declared.due.Due.{Due}
+use Rattle.wbt_flusher.proofs.Common.{AreInOrder, Waiting, Due, CpuRecord, Grows, Context, FlusherLine, Trace, added_to, Told, CpuJournal, IsPlain, Grew, Logged, with_entry, IsOwn, IsOfFlusher, FliesInTurn, flusher_after, Waited, items_told, gained_none, longer_none, logged_entry, IsSilent, walked_silent, walks_silent, Kit, Seats, OnlyQueue, only_same, NoticesBefore, HasWheel, WasTold, pairs_of, Goes, GoesAt, Went, Moments, Fits, IsTimed, handed, IsInode, IsPlanOf, IsWork, Sight, list_by, record_in, sight, HasLists}
+use Rattle.wbt_kit.proofs.Common.{Inode, flusher_device}
+use Rattle.wbt_expiry.specs.Waiting.{Each, has_inode, with_pair}
 use Rattle.wbt_expiry.proofs.Sorting.{each_put}
-use Rattle.wbt_grant.specs.declared.record.CpuRecord.{CpuRecord}
-use Rattle.wbt_io.specs.Pages.{Grows}
 use Rattle.wbt_trace.specs.Lawful.{IsExpire}
-use Rattle.wbt_trace.specs.declared.trace.Context.{Context}
-use Rattle.wbt_trace.specs.declared.trace.FlusherLine.{FlusherLine}
-use Rattle.wbt_trace.specs.declared.trace.Inode.{Inode}
-use Rattle.wbt_trace.specs.declared.trace.Trace.{Trace}
 use Rattle.wbt_rules.specs.declared.age.TheConstants.{DEFAULT_EXPIRE, EXPIRE_TICKS}
 use Rattle.wbt_rules.specs.Age.{due_after, expire_of, expire_ticks, is_ageing}
-use Rattle.wbt_rules.specs.Things.{context_in, flusher_device, inode_in}
+use Rattle.wbt_rules.specs.Things.{context_in, inode_in}
 use Rattle.wbt_journal.specs.Counts.{CountsAreFresh, versions_after}
-use Rattle.wbt_journal.specs.Reads.{added_to}
-use Rattle.wbt_journal.specs.Told.{Told, noticed, aged, took}
+use Rattle.wbt_journal.specs.Told.{noticed, aged, took}
 use Rattle.wbt_journal.specs.Waits.{MayNotice, noticed_pair as named_pair}
-use Rattle.wbt_journal.specs.declared.entry.CpuJournal.{CpuJournal}
 use Rattle.wbt_journal.specs.declared.entry.Entry.{Entry}
 use Rattle.wbt_journal.specs.declared.entry.Entry.TheVariants as entry
-use Rattle.wbt_run_laws.specs.Elsewhere.{IsPlain}
-use Rattle.wbt_run_laws.specs.Grew.{Grew, HasSeen}
-use Rattle.wbt_run_laws.specs.Log.{Logged, with_entry}
-use Rattle.wbt_run_laws.specs.Owns.{IsOwn, IsOfFlusher}
-use Rattle.wbt_run_laws.specs.Phases.{FliesInTurn, flusher_after}
-use Rattle.wbt_run_laws.specs.Waits.{Waited}
-use Rattle.wbt_run_laws.specs.Walks.{items_told}
-use Rattle.wbt_run_laws.proofs.Lists.{gained_none, longer_none}
-use Rattle.wbt_run_laws.proofs.Logging.{logged_entry}
-use Rattle.wbt_run_laws.proofs.Walking.{IsSilent, walked_silent, walks_silent}
-use Rattle.wbt_kit.specs.declared.kit.Kit.{Kit}
-use Rattle.wbt_kit.specs.declared.kit.Seats.{Seats}
-use Rattle.wbt_run_steps.specs.Inodes.{OnlyQueue}
-use Rattle.wbt_run_steps.proofs.Queues.{only_same}
-use Rattle.wbt_flusher.specs.Ageing.{NoticesBefore, NoticesNext, NoticesNumber, TakesFirst, is_strange, waits_already, is_noticed}
-use Rattle.wbt_flusher.specs.Ages.{HasWheel, WasTold, noticed_pair, pairs_of, told_at, with_list}
-use Rattle.wbt_flusher.specs.Answers.{Goes, GoesAt, Went}
-use Rattle.wbt_flusher.specs.Did.{Moments, Fits, IsTimed, handed}
-use Rattle.wbt_flusher.specs.Plans.{IsInode, IsPlanOf, IsWork, due_of}
-use Rattle.wbt_flusher.specs.Sights.{Sight, list_by, record_in, sight}
-use Rattle.wbt_flusher.specs.Turns.{HasLists}
+use Rattle.wbt_run_laws.specs.Grew.{HasSeen}
+use Rattle.wbt_flusher.specs.Ageing.{NoticesNext, NoticesNumber, TakesFirst, is_strange, waits_already, is_noticed}
+use Rattle.wbt_flusher.specs.Ages.{noticed_pair, told_at, with_list}
+use Rattle.wbt_flusher.specs.Plans.{due_of}
 use Rattle.wbt_flusher.specs.declared.plan.FlusherPlan.{FlusherPlan}
 use Rattle.wbt_flusher.specs.declared.work.FlusherWork.{FlusherWork}
 use Rattle.wbt_flusher.proofs.Acting.{did_act, mark_or, rescan_or}

@@ -3,13 +3,9 @@ use Rattle.std.proofs.Common.{◌≡◌, ℕ, ◌+◌, ◌<◌, ◌≤◌, Bool,
 use Rattle.std.proofs.lemmas.Bool.{cond-true, cond-false}
 use mathlib.Core.Logic.{dite}
 use native.Mathlib.Decide.{ℕ_discrete}
-use Rattle.wbt_book.specs.Ledger.{times_in}
+use Rattle.wbt_flusher.proofs.Common.{times_in, Seats, context_of, first_tallies, is_inside, phase_by, pages_by, tally_in, tallies_of, landed_in, owed_by, OwesRescan, OwesMark, HasLists, owing_more, pairs_of}
 use Rattle.wbt_counter.proofs.Sums.{total_le}
 use Rattle.wbt_journal.specs.Flights as flights
-use Rattle.wbt_kit.specs.declared.kit.Seats.{Seats}
-use Rattle.wbt_flusher.specs.Plans.{context_of}
-use Rattle.wbt_flusher.specs.Sights.{first_tallies, is_inside, phase_by, pages_by, tally_in, tallies_of, landed_in, owed_by, OwesRescan, OwesMark}
-use Rattle.wbt_flusher.specs.Turns.{HasLists, owing_more}
 use Rattle.wbt_flusher.specs.declared.plan.FlusherPlan.{FlusherPlan}
 use Rattle.wbt_flusher.specs.declared.tally.Tallies.{Tallies}
 use Rattle.wbt_flusher.specs.declared.work.Flight.{Flight}
@@ -17,7 +13,6 @@ use Rattle.wbt_flusher.specs.declared.work.Phase.{Phase}
 use Rattle.wbt_flusher.specs.declared.work.Phase.TheVariants.{Idle, Flying}
 use Rattle.wbt_flusher.specs.declared.work.FlusherWork.{FlusherWork}
 use Rattle.wbt_flusher.proofs.Acting.{Kept}
-use Rattle.wbt_flusher.specs.Ages.{pairs_of}
 
 pub drop_whole : (xs : List ℕ) → drop (length xs) xs ≡ []
 drop_whole [] = refl

@@ -1,29 +1,11 @@
 -- Steps on the marks of inodes: what a begun scan and a closed one did.
 use Rattle.std.proofs.Common.{◌≡◌, ℕ, ◌≤◌, Bool, not, ◌==◌, Option, List, [], get_or, sym, refl, ap, ◌∙◌, subst, arith, eq-eqb, true≢false}
-use Rattle.wbt_book.specs.Ledger.{times_in}
-use Rattle.wbt_grant.specs.Kinds.{mark, unmark}
-use Rattle.wbt_grant.specs.Seats.{record_after}
-use Rattle.wbt_grant.specs.declared.record.CpuRecord.{CpuRecord}
-use Rattle.wbt_table.specs.Layout.{setting}
-use Rattle.wbt_table.specs.Rule.{Has}
-use Rattle.wbt_table.specs.Seat.{Changes}
+use Rattle.wbt_flusher.proofs.Common.{times_in, mark, unmark, record_after, CpuRecord, setting, Has, Changes, CpuJournal, Scan, Flew, FliesInTurn, flusher_after, logged_nothing, walked_none, Kit, Seats, record_of, record_is, Works, Suits, IsInode, inode_at, sight, phase_by, pages_by, landed_in, owing_total, first_tallies, list_by, OwesInodeNothing, pairs_of}
 use Rattle.wbt_journal.specs.Flights as flights
-use Rattle.wbt_journal.specs.declared.entry.CpuJournal.{CpuJournal}
-use Rattle.wbt_run_laws.specs.Phases.{Flew, FliesInTurn, flusher_after}
-use Rattle.wbt_run_laws.proofs.Logging.{logged_nothing}
-use Rattle.wbt_run_laws.proofs.Walking.{walked_none}
-use Rattle.wbt_kit.specs.declared.kit.Kit.{Kit}
-use Rattle.wbt_kit.specs.declared.kit.Seats.{Seats}
-use Rattle.wbt_run_steps.specs.Records.{record_of}
-use Rattle.wbt_run_steps.proofs.Changing.{record_is}
-use Rattle.wbt_flusher.specs.Did.{Works}
-use Rattle.wbt_flusher.specs.Plans.{Suits, IsInode, inode_at}
-use Rattle.wbt_flusher.specs.Sights.{sight, flusher_by, phase_by, pages_by, landed_in, owing_total, first_tallies, list_by}
-use Rattle.wbt_flusher.specs.Turns.{OwesInodeNothing}
+use Rattle.wbt_flusher.specs.Sights.{flusher_by}
 use Rattle.wbt_flusher.specs.declared.plan.FlusherPlan.{FlusherPlan}
 use Rattle.wbt_flusher.specs.declared.tally.Tallies.{Tallies}
 use Rattle.wbt_flusher.specs.declared.work.Phase.TheVariants.{Idle, Scanning}
-use Rattle.wbt_rules.specs.declared.scan.Scan.{Scan}
 use Rattle.wbt_flusher.specs.declared.work.FlusherWork.{FlusherWork}
 use Rattle.wbt_flusher.proofs.Acting.{OnRecord, did_act, on_cpu, same_flusher}
 use Rattle.wbt_flusher.proofs.Changing.{changed}
@@ -32,7 +14,6 @@ use Rattle.wbt_flusher.proofs.Marking.{IsAtBegin, marked_on, begun_on}
 use Rattle.wbt_flusher.proofs.Noting.{grows_none}
 use Rattle.wbt_flusher.proofs.Owing.{owing_stays}
 use Rattle.wbt_flusher.proofs.Waiting.{list_kept}
-use Rattle.wbt_flusher.specs.Ages.{pairs_of}
 
 module _ (plan : FlusherPlan) (kit : Kit) (old new : Seats) (was is : FlusherWork) (n : ℕ) (r : CpuRecord)
     (suits : Suits plan kit) (share_is : new.share ≡ old.share) (est_is : new.est ≡ old.est) (has : Has old.cpu.cpus plan.cpu r)

@@ -1,13 +1,9 @@
 -- The record of one CPU changes in a seat.
 use Rattle.std.proofs.Common.{◌≡◌, ℕ, zero, suc, ◌+◌, [], ◌∷◌, Option, Some, None, sym, refl, ap, ◌∙◌, subst, arith}
 use mathlib.Core.Option.{some-injective, some-ne-none}
-use Rattle.wbt_grant.specs.declared.record.CpuRecord.{CpuRecord}
-use Rattle.wbt_table.specs.Rule.{Cpus, Has, put_record}
-use Rattle.wbt_table.specs.Seat.{Seated, Changes}
-use Rattle.wbt_table.proofs.Seating.{has_changed}
-use Rattle.wbt_run_steps.specs.Records.{IsApart}
+use Rattle.wbt_flusher.proofs.Common.{CpuRecord, Cpus, Has, Seated, Changes, IsApart, completions, all_completions, held_cpus}
+use Rattle.wbt_kit.proofs.Common.{put_record, has_changed}
 use Rattle.wbt_run_steps.proofs.Changing.{apart_changed}
-use Rattle.wbt_flusher.specs.Sights.{completions, all_completions, held_cpus}
 
 -- what the seat has after the change
 pub record Changed (c : ℕ) (r r' : CpuRecord) (old new : Seated) : Type 0 where

@@ -4,25 +4,16 @@ use Rattle.std.proofs.lemmas.Bool.{cond-true, cond-false}
 use mathlib.Core.Logic.{dite}
 use native.Mathlib.Decide.{ℕ_discrete}
 use Rattle.wbt_book.specs.Book.{is_claimable}
-use Rattle.wbt_book.specs.Ledger.{times_in}
-use Rattle.wbt_grant.specs.Kinds.{look, claim}
+use Rattle.wbt_flusher.proofs.Common.{times_in, look, claim, record_after, Setting, CpuRecord, IsAhead, page_of, Scan, Grew, untold_grows, steps_grow, Sight, pages_in, OwesRescan, OwesMark, all_completions, completions, owing, owing_total}
 use Rattle.wbt_grant.specs.Record
-use Rattle.wbt_grant.specs.Seats.{record_after}
-use Rattle.wbt_grant.specs.Setting.{Setting}
-use Rattle.wbt_grant.specs.declared.record.CpuRecord.{CpuRecord}
 use Rattle.wbt_grant.specs.declared.who.StepKind.TheVariants as kind
 use Rattle.wbt_grant.specs.declared.who.Word.TheVariants as word
 use Rattle.wbt_journal.specs.Told.{claimed}
-use Rattle.wbt_run_laws.specs.Grew.{Grew}
 use Rattle.wbt_run_laws.proofs.Growing.{by_both}
-use Rattle.wbt_run_laws.proofs.Stepping.{untold_grows, steps_grow}
-use Rattle.wbt_flusher.specs.Sights.{Sight, pages_in, OwesRescan, OwesMark, all_completions, completions, owing, owing_total}
 use Rattle.wbt_flusher.specs.declared.plan.FlusherPlan.{FlusherPlan}
 use Rattle.wbt_flusher.specs.declared.work.Phase.{Phase}
 use Rattle.wbt_flusher.specs.declared.work.Phase.TheVariants.{Scanning}
-use Rattle.wbt_rules.specs.Places.{IsAhead, page_of}
 use Rattle.wbt_rules.proofs.Places.{next_or_ahead}
-use Rattle.wbt_rules.specs.declared.scan.Scan.{Scan}
 use Rattle.wbt_flusher.proofs.Acting.{OnRecord, rescan_or, mark_or}
 use Rattle.wbt_flusher.proofs.Listing.{passed, times_append, one_of}
 

@@ -3,47 +3,17 @@ use Rattle.std.proofs.Common.{◌≡◌, ℕ, ◌+◌, ◌<◌, ◌≤◌, Bool,
 use Rattle.std.specs.Prelude.{negsuc}
 use Rattle.std.proofs.lemmas.Bool.{cond_both, cond-true, lt-ltb}
 use Rattle.std.proofs.lemmas.Option.{get_or_from_slice_get, slice_get_within}
-use Rattle.wbt_counter.specs.Sums.{one_if}
-use Rattle.wbt_counter.specs.declared.counter.Counter.{Counter}
-use Rattle.wbt_counter.specs.declared.counter.Counter.TheVariants.{Domain}
-use Rattle.wbt_counter.specs.declared.record.Debt.TheVariants.{Event}
-use Rattle.wbt_grant.specs.Record.{debts_of}
-use Rattle.wbt_book.specs.Ledger.{times_in}
-use Rattle.wbt_counter.specs.declared.record.Owed.{Owed}
-use Rattle.wbt_grant.specs.Kinds.{complete}
-use Rattle.wbt_grant.specs.Seats.{record_after}
-use Rattle.wbt_grant.specs.declared.record.CpuRecord.{CpuRecord}
-use Rattle.wbt_num.specs.declared.most.TheConstants.{MOST_PAGE_STEPS}
-use Rattle.wbt_table.specs.Layout.{setting, HasCounter, domains}
-use Rattle.wbt_table.specs.Rule.{Has}
-use Rattle.wbt_table.specs.Seat.{Changes}
-use Rattle.wbt_trace.specs.declared.trace.Device.{Device}
-use Rattle.wbt_trace.specs.declared.trace.FlusherLine.{FlusherLine}
-use Rattle.wbt_trace.specs.declared.trace.Trace.{Trace}
+use Rattle.wbt_flusher.proofs.Common.{one_if, Counter, Domain, times_in, Owed, complete, record_after, CpuRecord, MOST_PAGE_STEPS, setting, HasCounter, Has, Changes, Device, FlusherLine, Trace, Each, CpuJournal, with_entry, logged_entry, Kit, Seats, record_is, record_of, OnlyCpu, only_same, Goes, Fits, Works, AreOwed, Suits, IsPlanOf, IsWork, context_of, sight, pages_by, list_by, IsFlight, HoldsPages, pairs_of}
+use Rattle.wbt_kit.proofs.Common.{Event, debts_of, page_context, flusher_device, is_on}
+use Rattle.wbt_table.specs.Layout.{domains}
 use Rattle.wbt_journal.specs.Checks.{has_page}
-use Rattle.wbt_journal.specs.Each.{Each}
 use Rattle.wbt_journal.specs.Flights.{is_own_flusher}
-use Rattle.wbt_journal.specs.Machine.{page_context}
 use Rattle.wbt_rules.specs.Flusher.{chunk_at}
-use Rattle.wbt_rules.specs.Things.{device_at, flusher_cpu, flusher_device}
-use Rattle.wbt_journal.specs.Side.{is_on}
+use Rattle.wbt_rules.specs.Things.{device_at, flusher_cpu}
 use Rattle.wbt_journal.specs.Told.{done}
-use Rattle.wbt_journal.specs.declared.entry.CpuJournal.{CpuJournal}
 use Rattle.wbt_journal.specs.declared.entry.Entry.TheVariants as entry
-use Rattle.wbt_run_laws.specs.Log.{with_entry}
-use Rattle.wbt_run_laws.proofs.Logging.{logged_entry}
-use Rattle.wbt_kit.specs.declared.kit.Kit.{Kit}
-use Rattle.wbt_kit.specs.declared.kit.Seats.{Seats}
-use Rattle.wbt_run_steps.proofs.Changing.{record_is}
 use Rattle.wbt_run_steps.specs.Debts.{AreOnce}
-use Rattle.wbt_run_steps.specs.Records.{record_of, OnlyCpu}
 use Rattle.wbt_run_steps.proofs.Ordering.{page_once}
-use Rattle.wbt_run_steps.proofs.Queues.{only_same}
-use Rattle.wbt_flusher.specs.Answers.{Goes}
-use Rattle.wbt_flusher.specs.Did.{Fits, Works, AreOwed}
-use Rattle.wbt_flusher.specs.Plans.{Suits, IsPlanOf, IsWork, context_of}
-use Rattle.wbt_flusher.specs.Sights.{sight, pages_by, list_by}
-use Rattle.wbt_flusher.specs.Turns.{IsFlight, HoldsPages}
 use Rattle.wbt_flusher.specs.declared.plan.FlusherPlan.{FlusherPlan}
 use Rattle.wbt_flusher.specs.declared.work.Flight.{Flight}
 use Rattle.wbt_flusher.specs.declared.work.Phase.TheVariants.{Flying}
@@ -56,7 +26,6 @@ use Rattle.wbt_flusher.proofs.Listing.{drop_at}
 use Rattle.wbt_flusher.proofs.Noting.{grows_none}
 use Rattle.wbt_flusher.proofs.Going.{keeps_by}
 use Rattle.wbt_flusher.proofs.Waiting.{list_kept}
-use Rattle.wbt_flusher.specs.Ages.{pairs_of}
 
 -- ---- whose an entry is
 

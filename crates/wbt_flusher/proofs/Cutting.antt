@@ -1,21 +1,12 @@
 -- How a turn was cut off.
 use Rattle.std.proofs.Common.{◌≡◌, ℕ, ◌+◌, ◌<◌, ◌≤◌, Bool, List, [], ◌∷◌, map, length, Option, Some, None, refl, sym, subst, arith}
 use Rattle.std.specs.Prelude.{IfNone}
-use Rattle.wbt_journal.specs.declared.entry.CpuJournal.{CpuJournal}
-use Rattle.wbt_kit.specs.declared.kit.Kit.{Kit}
-use Rattle.wbt_kit.specs.declared.kit.Seats.{Seats}
-use Rattle.wbt_kit.specs.declared.turn.Turn.{Turn}
-use Rattle.wbt_kit.specs.declared.turn.Turn.TheVariants.{Faulted}
+use Rattle.wbt_flusher.proofs.Common.{CpuJournal, Kit, Seats, Turn, Faulted, OnlyQueue, load_of, triple_of, ReadOthers, IsInode, Sight, sight, OnlyWaiting, PutsBefore}
 use Rattle.wbt_queue.specs.Order.{HasTaken}
 use Rattle.wbt_queue.specs.Passes as queue
-use Rattle.wbt_run_steps.specs.Inodes.{OnlyQueue}
-use Rattle.wbt_run_steps.specs.Loads.{load_of, triple_of}
 use Rattle.wbt_flusher.specs.Answers.{IsSameWork, TurnAnswers}
 use Rattle.wbt_flusher.specs.Cut.{AfterPuts, LosesInode, ReadsPart, ReadsSome}
-use Rattle.wbt_flusher.specs.Loads.{ReadDomain, ReadOthers}
-use Rattle.wbt_flusher.specs.Plans.{IsInode}
-use Rattle.wbt_flusher.specs.Sights.{Sight, sight}
-use Rattle.wbt_flusher.specs.Turns.{OnlyWaiting, PutsBefore}
+use Rattle.wbt_flusher.specs.Loads.{ReadDomain}
 use Rattle.wbt_flusher.specs.declared.background.Read.{Read}
 use Rattle.wbt_flusher.specs.declared.background.Test.{Test}
 use Rattle.wbt_flusher.specs.declared.plan.FlusherPlan.{FlusherPlan}

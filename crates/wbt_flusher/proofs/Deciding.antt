@@ -1,16 +1,7 @@
 -- An idle flusher after its notices, where it took an inode that waited, or none.
 use Rattle.std.proofs.Common.{◌≡◌, ℕ, [], ◌∷◌, Option, None, refl, ap, ◌∙◌, arith}
-use Rattle.wbt_expiry.specs.Waiting.{Waiting}
-use Rattle.wbt_journal.specs.declared.entry.CpuJournal.{CpuJournal}
-use Rattle.wbt_run_laws.proofs.Lists.{here}
-use Rattle.wbt_kit.specs.declared.kit.Kit.{Kit}
-use Rattle.wbt_kit.specs.declared.kit.Seats.{Seats}
-use Rattle.wbt_run_steps.specs.Inodes.{OnlyQueue}
-use Rattle.wbt_flusher.specs.Ages.{pairs_of, told_at}
-use Rattle.wbt_flusher.specs.Answers.{GoesAt, IsReady}
-use Rattle.wbt_flusher.specs.Did.{Moments, Fits}
-use Rattle.wbt_flusher.specs.Sights.{list_by, sight}
-use Rattle.wbt_flusher.specs.Turns.{HasLists, IsIdle}
+use Rattle.wbt_flusher.proofs.Common.{Waiting, CpuJournal, here, Kit, Seats, OnlyQueue, pairs_of, GoesAt, IsReady, Moments, Fits, list_by, sight, HasLists, IsIdle}
+use Rattle.wbt_flusher.specs.Ages.{told_at}
 use Rattle.wbt_flusher.specs.declared.plan.FlusherPlan.{FlusherPlan}
 use Rattle.wbt_flusher.specs.declared.work.FlusherWork.{FlusherWork}
 use Rattle.wbt_flusher.proofs.Acting.{Kept}

@@ -1,29 +1,12 @@
 -- How parts of a turn end it.
 use Rattle.std.proofs.Common.{Contains, true≢false, ◌≡◌, ℕ, ◌<◌, ◌≤◌, Bool, true, false, not, ◌&&◌, cond, List, [], ◌∷◌, Option, Some, None, IfSome, inl, inr, sym, refl, ap, ◌∙◌, subst, arith}
-use Rattle.wbt_journal.specs.Each.{Each}
-use Rattle.wbt_journal.specs.Effects.{effect}
-use Rattle.wbt_journal.specs.Told.{Told}
-use Rattle.wbt_journal.specs.declared.entry.CpuJournal.{CpuJournal}
-use Rattle.wbt_journal.specs.declared.entry.EstEntry.{EstEntry}
-use Rattle.wbt_run_laws.specs.Elsewhere.{IsPlain}
-use Rattle.wbt_run_laws.specs.Owns.{IsOfFlusher}
-use Rattle.wbt_kit.specs.declared.kit.Kit.{Kit}
-use Rattle.wbt_kit.specs.declared.kit.Seats.{Seats}
-use Rattle.wbt_kit.specs.declared.turn.Turn.{Turn}
-use Rattle.wbt_kit.specs.declared.turn.Turn.TheVariants.{Stepped, Resting, Done, Halted, Faulted, Spent, NoMemory}
-use Rattle.wbt_rules.specs.declared.scan.Scan.{Scan}
-use Rattle.wbt_run_steps.specs.Inodes.{OnlyQueue}
-use Rattle.wbt_run_steps.specs.Queues.{OnlyDevice}
-use Rattle.wbt_flusher.specs.Answers.{Goes, GoesKept, IsOpen, Went, IsReady, IsLeft, Steps, Ends, EndsBy, Acts, AreTold, HasCome, Rests, TurnAnswers, FlusherAnswers, wait_of}
-use Rattle.wbt_flusher.specs.Did.{Moments, no_moments, Fits, HasRooms, KeepsDebts, IsTimed, OwesNothing}
+use Rattle.wbt_flusher.proofs.Common.{Each, effect, Told, CpuJournal, EstEntry, Scan, MOST_FAULTS, IsPlain, IsOfFlusher, Kit, Seats, Turn, Stepped, Resting, Done, Halted, Faulted, Spent, NoMemory, OnlyQueue, OnlyDevice, Goes, GoesKept, Went, IsReady, FlusherAnswers, wait_of, Moments, no_moments, Fits, HasRooms, KeepsDebts, IsTimed, OwesNothing, Sight, sight, HasLists, HoldsPages, IsSteady, IsPhase, IsScan, KeepsPlace, OnlyWaiting}
+use Rattle.wbt_flusher.specs.Answers.{IsOpen, IsLeft, Steps, Ends, EndsBy, Acts, AreTold, HasCome, Rests, TurnAnswers}
 use Rattle.wbt_flusher.specs.Looks.{HasPassed}
-use Rattle.wbt_flusher.specs.Sights.{Sight, sight}
-use Rattle.wbt_flusher.specs.Turns.{HasLists, HoldsPages, IsSteady, IsPhase, IsScan, KeepsPlace, OnlyWaiting}
 use Rattle.wbt_flusher.specs.declared.plan.FlusherPlan.{FlusherPlan}
 use Rattle.wbt_flusher.specs.declared.work.Phase.{Phase}
 use Rattle.wbt_flusher.specs.declared.work.Flight.{Flight}
 use Rattle.wbt_flusher.specs.declared.work.Return.{Return}
-use Rattle.wbt_rules.specs.declared.moments.TheConstants.{MOST_FAULTS}
 use Rattle.wbt_flusher.specs.declared.work.Phase.TheVariants.{Idle, Scanning, Flying, Returning, Failed}
 use Rattle.wbt_flusher.specs.declared.work.FlusherWork.{FlusherWork}
 use Rattle.wbt_flusher.proofs.Going.{went_more, kept_more, ready_went, owes_still, holds_went, rooms_went, goes_nowhere}

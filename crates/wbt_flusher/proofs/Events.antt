@@ -1,24 +1,13 @@
 -- An event of a page that a flusher's CPU owes to the page's counters, and the steps that settle it.
 use Rattle.std.proofs.Common.{◌≡◌, ℕ, Bool, true, false, List, inl, inr, sym, ap, ◌∙◌, subst}
 use Rattle.std.specs.Prelude.{negsuc, ◌++◌}
-use Rattle.wbt_counter.specs.declared.record.Owed.{Owed}
-use Rattle.wbt_grant.specs.Kinds.{complete}
-use Rattle.wbt_grant.specs.Seats.{record_after}
-use Rattle.wbt_grant.specs.declared.record.CpuRecord.{CpuRecord}
-use Rattle.wbt_kit.specs.declared.kit.Kit.{Kit}
-use Rattle.wbt_kit.specs.declared.kit.Seats.{Seats}
-use Rattle.wbt_table.specs.Layout.{setting}
-use Rattle.wbt_table.specs.Rule.{Has}
-use Rattle.wbt_table.specs.Seat.{Makes}
-use Rattle.wbt_table.proofs.Seating.{has_changed}
-use Rattle.wbt_turns.specs.Words.{IsCut, IsSettled, MaySettle}
+use Rattle.wbt_flusher.proofs.Common.{Owed, complete, record_after, CpuRecord, setting, Has, Makes, Kit, Seats, IsSettled, Steps, record_of, record_is, OwesNothing}
+use Rattle.wbt_kit.proofs.Common.{has_changed}
+use Rattle.wbt_turns.specs.Words.{IsCut, MaySettle}
 use Rattle.wbt_run_steps.specs.Backs.{Came, Returned}
-use Rattle.wbt_run_steps.specs.Kinds.{ArePayments, Steps, StepsToPay}
-use Rattle.wbt_run_steps.specs.Records.{record_of}
-use Rattle.wbt_run_steps.proofs.Changing.{record_is}
+use Rattle.wbt_run_steps.specs.Kinds.{ArePayments, StepsToPay}
 use Rattle.wbt_run_steps.proofs.Logging.{steps_so}
 use Rattle.wbt_run_steps.proofs.Payments.{page_settled, page_settled_part}
-use Rattle.wbt_flusher.specs.Did.{OwesNothing}
 use Rattle.wbt_flusher.specs.Kinds.{MayOweEvent, OwesEvent}
 use Rattle.wbt_flusher.specs.declared.plan.FlusherPlan.{FlusherPlan}
 

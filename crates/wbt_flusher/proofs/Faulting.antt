@@ -1,13 +1,8 @@
 -- How often the disk failed.
 use Rattle.std.proofs.Common.{◌≡◌, ℕ, ◌<◌, length, sym, refl, subst, arith}
-use Rattle.wbt_journal.specs.declared.entry.CpuJournal.{CpuJournal}
-use Rattle.wbt_kit.specs.declared.turn.Turn.{Turn}
-use Rattle.wbt_kit.specs.declared.turn.Turn.TheVariants.{Faulted}
-use Rattle.wbt_rules.specs.declared.moments.TheConstants.{MOST_FAULTS}
-use Rattle.wbt_rules.specs.declared.scan.Scan.{Scan}
-use Rattle.wbt_flusher.specs.Plans.{IsPlan}
+use Rattle.wbt_flusher.proofs.Common.{CpuJournal, MOST_FAULTS, Scan, Turn, Faulted, IsPlan, HasLists, IsPhase, IsScan, IsSteady}
 use Rattle.wbt_flusher.specs.Took.{ReturnsBatch}
-use Rattle.wbt_flusher.specs.Turns.{FaultsRise, HasLists, IsPhase, IsScan, IsSteady}
+use Rattle.wbt_flusher.specs.Turns.{FaultsRise}
 use Rattle.wbt_flusher.specs.declared.plan.FlusherPlan.{FlusherPlan}
 use Rattle.wbt_flusher.specs.declared.work.FlusherWork.{FlusherWork}
 use Rattle.wbt_flusher.proofs.Handing.{turns_back}

@@ -1,35 +1,13 @@
 -- Seats stay fit for the flusher where one part of them changes, and what single steps of its CPU are.
 use Rattle.std.proofs.Common.{◌≡◌, ℕ, inl, inr, List, [], ◌∷◌, sym, refl, ap, ◌∙◌, subst}
-use Rattle.wbt_counter.specs.Word.{version_in}
-use Rattle.wbt_counter.specs.declared.counter.Count.{Count}
-use Rattle.wbt_counter.specs.declared.counter.Counter.{Counter}
-use Rattle.wbt_counter.specs.declared.counter.Counter.TheVariants.{Domain}
-use Rattle.wbt_grant.specs.Kinds.{count}
-use Rattle.wbt_grant.specs.Laws.{NoneAhead}
-use Rattle.wbt_grant.specs.Seats.{record_after}
-use Rattle.wbt_grant.specs.declared.record.CpuRecord.{CpuRecord}
-use Rattle.wbt_journal.specs.Counts.{Load}
-use Rattle.wbt_grant.specs.declared.who.Who.TheVariants.{Cpu}
+use Rattle.wbt_flusher.proofs.Common.{Counter, Domain, count, record_after, CpuRecord, Load, known_of, setting, Has, Changes, Triple, Cpu, Gathered, steps_grow, Kit, Seats, record_is, DomainLoad, OnlyCpu, GoesQuiet, Fits, KeepsDebts, Suits}
+use Rattle.wbt_kit.proofs.Common.{version_in, Count, NoneAhead, whole_load}
 use Rattle.wbt_published.specs.Passes as est
-use Rattle.wbt_published.specs.Passes.{known_of}
-use Rattle.wbt_table.specs.Calls.{record_of as made_of, whole_load}
-use Rattle.wbt_table.specs.Layout.{setting}
-use Rattle.wbt_table.specs.Rule.{Has}
-use Rattle.wbt_table.specs.Seat.{Changes}
-use Rattle.wbt_table.specs.declared.answer.Triple.{Triple}
-use Rattle.wbt_run_laws.specs.Steps.{Gathered, load_made}
-use Rattle.wbt_run_laws.proofs.Stepping.{steps_grow}
-use Rattle.wbt_kit.specs.declared.kit.Kit.{Kit}
-use Rattle.wbt_kit.specs.declared.kit.Seats.{Seats}
-use Rattle.wbt_run_steps.proofs.Changing.{record_is}
+use Rattle.wbt_table.specs.Calls.{record_of as made_of}
+use Rattle.wbt_run_laws.specs.Steps.{load_made}
 use Rattle.wbt_run_steps.proofs.Held.{cut_gathers, cut_leaves, load_gathers}
 use Rattle.wbt_run_steps.specs.Loads.{HoldsLoader, LoadsCount, LoadsDomain, LoadsLimits, LoadsPart, LoadsSome}
-use Rattle.wbt_run_steps.specs.declared.loads.DomainLoad.{DomainLoad}
-use Rattle.wbt_run_steps.specs.Records.{OnlyCpu}
 use Rattle.wbt_run_steps.proofs.Changing.{seats_stay}
-use Rattle.wbt_flusher.specs.Answers.{GoesQuiet}
-use Rattle.wbt_flusher.specs.Did.{Fits, KeepsDebts}
-use Rattle.wbt_flusher.specs.Plans.{Suits}
 use Rattle.wbt_flusher.specs.declared.plan.FlusherPlan.{FlusherPlan}
 use Rattle.wbt_flusher.proofs.Going.{goes_quiet, quiet_more}
 use Rattle.wbt_flusher.proofs.Changing.{changed}

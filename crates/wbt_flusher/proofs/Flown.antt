@@ -1,12 +1,7 @@
 -- A flight between its pages.
 use Rattle.std.proofs.Common.{◌≡◌, ℕ, ◌+◌, ◌<◌, List, [], ◌∷◌, length, eqb, false, true≢false, None, sym, refl, subst, arith}
-use Rattle.wbt_journal.specs.declared.entry.CpuJournal.{CpuJournal}
-use Rattle.wbt_kit.specs.declared.kit.Kit.{Kit}
-use Rattle.wbt_kit.specs.declared.kit.Seats.{Seats}
-use Rattle.wbt_flusher.specs.Answers.{Goes, IsReady, IsDown}
-use Rattle.wbt_flusher.specs.Did.{no_moments, Fits, AreOwed, HasRooms}
-use Rattle.wbt_flusher.specs.Sights.{sight}
-use Rattle.wbt_flusher.specs.Turns.{HoldsPages, IsFlight, IsPhase, IsSteady}
+use Rattle.wbt_flusher.proofs.Common.{CpuJournal, Kit, Seats, Goes, IsReady, no_moments, Fits, AreOwed, HasRooms, sight, HoldsPages, IsFlight, IsPhase, IsSteady}
+use Rattle.wbt_flusher.specs.Answers.{IsDown}
 use Rattle.wbt_flusher.specs.declared.plan.FlusherPlan.{FlusherPlan}
 use Rattle.wbt_flusher.specs.declared.work.Flight.{Flight}
 use Rattle.wbt_flusher.specs.declared.work.Phase.{Phase}

@@ -4,18 +4,12 @@ use Rattle.std.specs.Prelude.{replicate, slice_index_or, None, IfSome}
 use Rattle.std.proofs.lemmas.List.{length-replicate}
 use Rattle.std.proofs.lemmas.List.Sums.{sum_by-cons}
 use Rattle.std.proofs.lemmas.Option.{slice_get-get_or}
-use Rattle.wbt_journal.specs.Machine.{domains}
-use Rattle.wbt_trace.specs.Lawful.{IsChunk, IsExpire, IsLawful, AreFirsts}
-use Rattle.wbt_trace.specs.Sofar.{least_shares, pages_in}
-use Rattle.wbt_trace.specs.declared.trace.Context.{Context}
-use Rattle.wbt_trace.specs.declared.trace.Device.{Device}
-use Rattle.wbt_trace.specs.declared.trace.FlusherLine.{FlusherLine}
-use Rattle.wbt_trace.specs.declared.trace.Inode.{Inode}
-use Rattle.wbt_trace.specs.declared.trace.Trace.{Trace}
+use Rattle.wbt_flusher.proofs.Common.{domains, Context, Device, FlusherLine, Trace, IsPlan, IsPlanOf, context_at, ArePlaces}
+use Rattle.wbt_kit.proofs.Common.{IsLawful, AreFirsts, least_shares, Inode}
+use Rattle.wbt_trace.specs.Lawful.{IsChunk, IsExpire}
+use Rattle.wbt_trace.specs.Sofar.{pages_in}
 use Rattle.wbt_rules.specs.Age.{is_ageing}
 use Rattle.wbt_rules.specs.Things.{leads}
-use Rattle.wbt_flusher.specs.Plans.{IsPlan, IsPlanOf, context_at}
-use Rattle.wbt_flusher.specs.Turns.{ArePlaces}
 use Rattle.wbt_flusher.specs.declared.plan.FlusherPlan.{FlusherPlan}
 
 -- ---- inodes

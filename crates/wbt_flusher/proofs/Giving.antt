@@ -2,40 +2,18 @@
 use Rattle.std.proofs.Common.{◌≡◌, ℕ, ◌+◌, ◌<◌, ◌≤◌, ◌⊎◌, Bool, true, false, not, ◌==◌, cond, List, [], ◌∷◌, drop, length, get_or, inl, inr, ⊎_elim, sym, refl, ap, ◌∙◌, subst, arith, eqb, eq-eqb}
 use Rattle.std.specs.Prelude.{Option, None, negsuc}
 use Rattle.std.proofs.lemmas.Bool.{cond-true}
-use Rattle.wbt_book.specs.Ledger.{times_in, times}
-use Rattle.wbt_counter.specs.Sums.{one_if}
-use Rattle.wbt_counter.specs.declared.record.Owed.{Owed}
-use Rattle.wbt_grant.specs.Record.{debts_of}
-use Rattle.wbt_grant.specs.declared.record.CpuRecord.{CpuRecord}
-use Rattle.wbt_book.specs.PageWords.{bits_at}
-use Rattle.wbt_table.specs.Calls.{HasPageSteps, Made, record_of as made_of}
-use Rattle.wbt_table.specs.Layout.{setting, HasCounter}
-use Rattle.wbt_journal.specs.Each.{Each}
+use Rattle.wbt_flusher.proofs.Common.{times_in, times, one_if, Owed, CpuRecord, setting, HasCounter, Each, CpuJournal, Grew, Logged, Flew, FliesInTurn, flusher_after, Gathered, gained_none, longer_none, logged_entry, logged_nothing, walked_none, Kit, Seats, record_of, record_is, only_same, Goes, IsReady, AreOwed, Fits, KeepsDebts, no_moments, Suits, end_of, inode_at, sight, phase_by, pages_by, landed_in, flusher_in, OwesRescan, OwesMark, completions, is_completion, list_by, HoldsPages, IsPhase, IsSteady, OwesInodeNothing, pairs_of}
+use Rattle.wbt_kit.proofs.Common.{debts_of, bits_at, HasPageSteps, Made}
+use Rattle.wbt_table.specs.Calls.{record_of as made_of}
 use Rattle.wbt_journal.specs.Flights as flights
 use Rattle.wbt_journal.specs.Told.{gave_back}
-use Rattle.wbt_journal.specs.declared.entry.CpuJournal.{CpuJournal}
 use Rattle.wbt_journal.specs.declared.entry.Entry.TheVariants as entry
-use Rattle.wbt_run_laws.specs.Grew.{Grew}
-use Rattle.wbt_run_laws.specs.Log.{Logged}
-use Rattle.wbt_run_laws.specs.Phases.{Flew, FliesInTurn, flusher_after}
-use Rattle.wbt_run_laws.specs.Steps.{Gathered}
-use Rattle.wbt_run_laws.proofs.Lists.{gained_none, longer_none}
-use Rattle.wbt_run_laws.proofs.Logging.{logged_entry, logged_nothing}
-use Rattle.wbt_run_laws.proofs.Walking.{walked_none}
-use Rattle.wbt_kit.specs.declared.kit.Kit.{Kit}
-use Rattle.wbt_kit.specs.declared.kit.Seats.{Seats}
 use Rattle.wbt_run_steps.specs.Backs.{Came, GivesBack, HaltsBack, Kept as KeptBack, Returned, after_its_look, and_one, before_its_look}
 use Rattle.wbt_run_steps.specs.Debts.{AreOnce}
 use Rattle.wbt_run_steps.specs.Made.{MakesThese}
-use Rattle.wbt_run_steps.specs.Records.{record_of}
-use Rattle.wbt_run_steps.proofs.Changing.{record_is}
 use Rattle.wbt_run_steps.proofs.Ordering.{page_once}
-use Rattle.wbt_run_steps.proofs.Queues.{only_same}
-use Rattle.wbt_flusher.specs.Answers.{Goes, IsBack, IsReady}
-use Rattle.wbt_flusher.specs.Did.{AreOwed, Fits, KeepsDebts, no_moments}
-use Rattle.wbt_flusher.specs.Plans.{Suits, end_of, inode_at}
-use Rattle.wbt_flusher.specs.Sights.{sight, phase_by, pages_by, landed_in, flusher_in, OwesRescan, OwesMark, completions, is_completion, list_by}
-use Rattle.wbt_flusher.specs.Turns.{HoldsPages, IsPhase, IsReturn, IsSteady, OwesInodeNothing}
+use Rattle.wbt_flusher.specs.Answers.{IsBack}
+use Rattle.wbt_flusher.specs.Turns.{IsReturn}
 use Rattle.wbt_flusher.specs.declared.plan.FlusherPlan.{FlusherPlan}
 use Rattle.wbt_flusher.specs.declared.work.FlusherWork.{FlusherWork}
 use Rattle.wbt_flusher.specs.declared.work.Phase.{Phase}
@@ -51,7 +29,6 @@ use Rattle.wbt_flusher.proofs.Handing.{owes_same}
 use Rattle.wbt_flusher.proofs.Listing.{drop_at, fewer, one_of, passed}
 use Rattle.wbt_flusher.proofs.Noting.{grows_none}
 use Rattle.wbt_flusher.proofs.Waiting.{list_kept}
-use Rattle.wbt_flusher.specs.Ages.{pairs_of}
 
 -- ---- what is told of the flusher
 

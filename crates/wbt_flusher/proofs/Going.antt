@@ -1,17 +1,9 @@
 -- Calls of a turn one after another, and what holds after them.
 use Rattle.std.proofs.Common.{◌≡◌, ℕ, ◌≤◌, sym, refl, ap, ◌∙◌, subst, arith}
-use Rattle.wbt_grant.specs.declared.record.CpuRecord.{CpuRecord}
-use Rattle.wbt_journal.specs.declared.entry.CpuJournal.{CpuJournal}
-use Rattle.wbt_num.specs.declared.most.TheConstants.{MOST_PAGE_STEPS}
-use Rattle.wbt_table.specs.Rule.{Cpus, Has}
+use Rattle.wbt_flusher.proofs.Common.{CpuRecord, CpuJournal, MOST_PAGE_STEPS, Cpus, Has, Kit, Seats, only_same, Went, GoesQuiet, GoesKept, GoesAt, IsReady, Moments, Fits, AreCounted, HasRooms, OwesNothing, KeepsDebts, Sight, sight, completions, held_cpus, HoldsPages, IsSteady}
 use Rattle.wbt_table.specs.Seat as table
-use Rattle.wbt_kit.specs.declared.kit.Kit.{Kit}
-use Rattle.wbt_kit.specs.declared.kit.Seats.{Seats}
-use Rattle.wbt_run_steps.proofs.Queues.{only_same, only_more}
-use Rattle.wbt_flusher.specs.Answers.{KeepsCpus, Went, GoesQuiet, GoesKept, GoesAt, IsReady}
-use Rattle.wbt_flusher.specs.Did.{Moments, Fits, AreCounted, HasRooms, OwesNothing, KeepsDebts}
-use Rattle.wbt_flusher.specs.Sights.{Sight, sight, completions, held_cpus}
-use Rattle.wbt_flusher.specs.Turns.{HoldsPages, IsSteady}
+use Rattle.wbt_run_steps.proofs.Queues.{only_more}
+use Rattle.wbt_flusher.specs.Answers.{KeepsCpus}
 use Rattle.wbt_flusher.specs.declared.plan.FlusherPlan.{FlusherPlan}
 use Rattle.wbt_flusher.specs.declared.work.FlusherWork.{FlusherWork}
 use Rattle.wbt_flusher.proofs.Acting.{Kept, works_by, Untold, quiet_by}

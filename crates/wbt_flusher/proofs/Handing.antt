@@ -2,34 +2,18 @@
 use Rattle.std.proofs.Common.{get_or, ◌≡◌, ℕ, ◌+◌, ◌<◌, ◌≤◌, Bool, false, cond, drop, eqb, List, [], ◌∷◌, length, Option, Some, Contains, inr, sym, refl, ap, ◌∙◌, subst, arith, eq-eqb}
 use Rattle.std.proofs.lemmas.Bool.{cond-true, cond_both, lt-leb}
 use Rattle.std.specs.Prelude.{nat_le}
-use Rattle.wbt_book.specs.Ledger.{times_in}
-use Rattle.wbt_io.specs.Pages.{Grows}
+use Rattle.wbt_flusher.proofs.Common.{times_in, Grows, Trace, CpuJournal, MOST_FAULTS, Scan, with_entry, Flew, logged_entry, Kit, Seats, record_of, only_same, Went, Moments, Fits, sight, phase_by, pages_by, landed_in, first_tallies, OwesRescan, OwesMark, list_by, AreOf, IsScan, IsFlight, IsInode, IsPlan, IsPlanOf, context_of, pairs_of}
 use Rattle.wbt_rules.proofs.Quotas.{within_less}
-use Rattle.wbt_trace.specs.declared.trace.Trace.{Trace}
 use Rattle.wbt_journal.specs.Flights as flights
 use Rattle.wbt_journal.specs.Told.{batch, fault}
-use Rattle.wbt_journal.specs.declared.entry.CpuJournal.{CpuJournal}
 use Rattle.wbt_journal.specs.declared.entry.Entry.TheVariants as entry
-use Rattle.wbt_run_laws.specs.Log.{with_entry}
-use Rattle.wbt_run_laws.specs.Phases.{Flew}
-use Rattle.wbt_run_laws.proofs.Logging.{logged_entry}
-use Rattle.wbt_kit.specs.declared.kit.Kit.{Kit}
-use Rattle.wbt_kit.specs.declared.kit.Seats.{Seats}
-use Rattle.wbt_run_steps.specs.Records.{record_of}
-use Rattle.wbt_run_steps.proofs.Queues.{only_same}
-use Rattle.wbt_flusher.specs.Answers.{Went}
-use Rattle.wbt_flusher.specs.Did.{Moments, Fits}
-use Rattle.wbt_flusher.specs.Sights.{sight, phase_by, pages_by, landed_in, first_tallies, OwesRescan, OwesMark, list_by}
-use Rattle.wbt_flusher.specs.Turns.{AreOf, IsPaid, IsScan, IsFlight, IsReturn, OwesNoMore}
-use Rattle.wbt_flusher.specs.Plans.{IsInode, IsPlan, IsPlanOf, context_of}
+use Rattle.wbt_flusher.specs.Turns.{IsPaid, IsReturn, OwesNoMore}
 use Rattle.wbt_flusher.specs.declared.plan.FlusherPlan.{FlusherPlan}
 use Rattle.wbt_flusher.specs.declared.work.Flight.{Flight}
 use Rattle.wbt_flusher.specs.declared.work.Phase.{Phase}
 use Rattle.wbt_flusher.specs.declared.work.Return.{Return}
 use Rattle.wbt_flusher.specs.declared.work.Phase.TheVariants.{Scanning, Flying, Returning, Failed}
 use Rattle.wbt_rules.specs.Flusher.{IsWithinChunk, chunk_at}
-use Rattle.wbt_rules.specs.declared.moments.TheConstants.{MOST_FAULTS}
-use Rattle.wbt_rules.specs.declared.scan.Scan.{Scan}
 use Rattle.wbt_flusher.specs.declared.work.FlusherWork.{FlusherWork}
 use Rattle.wbt_flusher.proofs.Acting.{did_act, flew_as, told_as}
 use Rattle.wbt_flusher.proofs.Completing.{chunk_is, own_flusher}
@@ -39,7 +23,6 @@ use Rattle.wbt_flusher.proofs.Owing.{owing_stays}
 use Rattle.wbt_flusher.specs.declared.tally.Tallies.{Tallies}
 use Rattle.wbt_flusher.proofs.Untold.{batch_grows, fault_grows}
 use Rattle.wbt_flusher.proofs.Waiting.{list_kept}
-use Rattle.wbt_flusher.specs.Ages.{pairs_of}
 
 hands : (flusher : ℕ) (pages : List ℕ) (now until faults : ℕ) → 0 < length pages
     → Flew flusher (told_as (flights.scanning pages) faults) (batch flusher (length pages) now until ∷ []) (told_as (flights.emptied pages) faults)

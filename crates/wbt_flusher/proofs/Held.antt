@@ -1,19 +1,15 @@
 -- What is kept of a context, where its fraction is read and what is owed is added.
 use Rattle.std.proofs.Common.{◌≡◌, ℕ, zero, suc, ◌+◌, ◌<◌, Bool, true, false, cond, eqb, List, ◌∷◌, length, get_or, set, Option, sym, refl, ap, ◌∙◌, subst, arith, get_or-set_same, set-set}
 use Rattle.std.proofs.lemmas.List.{set-get_or}
-use Rattle.wbt_flex.specs.declared.share.Fraction.{Fraction}
+use Rattle.wbt_flusher.proofs.Common.{CpuJournal, Kit, Seats, MeasuresBefore, Sight, sight, first_tallies, tallies_of, tally_in, with_tally, PutsBefore, owing_more}
+use Rattle.wbt_kit.proofs.Common.{Fraction, HasPut}
 use Rattle.wbt_fraction.specs.Several as share
 use Rattle.wbt_fraction.specs.declared.total.note.TotalNote.TheVariants.{Wrote}
-use Rattle.wbt_journal.specs.declared.entry.CpuJournal.{CpuJournal}
-use Rattle.wbt_kit.specs.declared.kit.Kit.{Kit}
-use Rattle.wbt_kit.specs.declared.kit.Seats.{Seats}
-use Rattle.wbt_queue.specs.Order.{HasPut}
 use Rattle.wbt_queue.specs.Passes as queue
 use Rattle.wbt_run_steps.specs.Inodes.{PutsWhere, was_full, was_put}
-use Rattle.wbt_flusher.specs.Reads.{AddsNumber, AddsShares, Measures, MeasuresBefore, tallies_at}
-use Rattle.wbt_flusher.specs.Sights.{Sight, sight, first_tallies, tallies_of, tally_in, with_tally}
+use Rattle.wbt_flusher.specs.Reads.{AddsNumber, AddsShares, Measures, tallies_at}
 use Rattle.wbt_flusher.specs.Took.{CountsIn}
-use Rattle.wbt_flusher.specs.Turns.{KeepsRest, OnlyShare, PutsBefore, PutsInode, PutsNext, owing_more, waits_not}
+use Rattle.wbt_flusher.specs.Turns.{KeepsRest, OnlyShare, PutsInode, PutsNext, waits_not}
 use Rattle.wbt_flusher.specs.declared.background.Read.{Read}
 use Rattle.wbt_flusher.specs.declared.plan.FlusherPlan.{FlusherPlan}
 use Rattle.wbt_flusher.specs.declared.tally.Tallies.{Tallies}

@@ -1,29 +1,13 @@
 -- Calls that leave records, shares and estimates, and change what the flusher keeps and what its pass knows of queues.
 use Rattle.std.proofs.Common.{zero, suc, drop, ◌≡◌, ℕ, ◌+◌, ◌<◌, ◌≤◌, Bool, false, List, [], ◌∷◌, All, length, get_or, inl, inr, ⊎_elim, sym, refl, ap, ◌∙◌, subst, arith, length-set, set, Option}
-use Rattle.wbt_book.specs.Ledger.{times_in}
-use Rattle.wbt_grant.specs.declared.record.CpuRecord.{CpuRecord}
+use Rattle.wbt_flusher.proofs.Common.{times_in, CpuRecord, known_of, Has, Scan, Waiting, Flew, FliesInTurn, flusher_after, by_nothing, logged_nothing, walked_none, Kit, Seats, OnlyQueue, IsApart, record_of, OnlyDevice, GoesQuiet, GoesKept, Fits, KeepsDebts, sight, record_in, flusher_in, phase_by, pages_by, all_completions, completions, landed_in, tallies_of, tally_in, with_tally, OwesRescan, OwesMark, list_by, AreProper, ArePlaces, HasLists, KeepsPlace, OnlyTallies, OnlyWaiting, HasWheel, pairs_of}
+use Rattle.wbt_kit.proofs.Common.{AreSeatsOf}
 use Rattle.wbt_fraction.specs.Several as share
 use Rattle.wbt_published.specs.Passes as est
-use Rattle.wbt_published.specs.Passes.{known_of}
 use Rattle.wbt_queue.specs.Passes as queue
-use Rattle.wbt_table.specs.Rule.{Has}
 use Rattle.wbt_table.specs.Seat as table
 use Rattle.wbt_journal.specs.Flights as flights
-use Rattle.wbt_run_laws.specs.Phases.{Flew, FliesInTurn, flusher_after}
-use Rattle.wbt_run_laws.proofs.Growing.{by_nothing}
-use Rattle.wbt_run_laws.proofs.Logging.{logged_nothing}
-use Rattle.wbt_run_laws.proofs.Walking.{walked_none}
-use Rattle.wbt_kit.specs.Kit.{AreSeatsOf}
-use Rattle.wbt_kit.specs.declared.kit.Kit.{Kit}
-use Rattle.wbt_kit.specs.declared.kit.Seats.{Seats}
-use Rattle.wbt_run_steps.specs.Inodes.{OnlyQueue}
-use Rattle.wbt_run_steps.specs.Records.{IsApart, record_of}
-use Rattle.wbt_run_steps.specs.Queues.{OnlyDevice}
-use Rattle.wbt_rules.specs.declared.scan.Scan.{Scan}
-use Rattle.wbt_flusher.specs.Answers.{GoesQuiet, GoesKept}
-use Rattle.wbt_flusher.specs.Did.{Fits, KeepsDebts}
-use Rattle.wbt_flusher.specs.Sights.{sight, record_in, flusher_in, phase_by, pages_by, all_completions, completions, landed_in, tallies_of, tally_in, with_tally, OwesRescan, OwesMark, list_by}
-use Rattle.wbt_flusher.specs.Turns.{AreProper, ArePlaces, HasLists, KeepsPlace, OnlyTallies, OnlyWaiting, IsBare}
+use Rattle.wbt_flusher.specs.Turns.{IsBare}
 use Rattle.wbt_flusher.specs.declared.plan.FlusherPlan.{FlusherPlan}
 use Rattle.wbt_flusher.specs.declared.tally.Tallies.{Tallies}
 use Rattle.wbt_flusher.specs.declared.tally.Tally.{Tally}
@@ -36,8 +20,6 @@ use Rattle.wbt_flusher.proofs.Going.{goes_kept, keeps_same, kept_same}
 use Rattle.wbt_flusher.proofs.Noting.{grows_none}
 use Rattle.wbt_flusher.proofs.Handing.{owes_same}
 use Rattle.wbt_flusher.proofs.Waiting.{list_kept}
-use Rattle.wbt_flusher.specs.Ages.{HasWheel, pairs_of}
-use Rattle.wbt_expiry.specs.Waiting.{Waiting}
 
 -- seats fit where their records stay, and the parts that changed are still those of the kit
 pub record StillFits (kit : Kit) (old new : Seats) : Type 0 where

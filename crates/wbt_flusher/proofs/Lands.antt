@@ -1,17 +1,9 @@
 -- A page of a flight is completed.
 use Rattle.std.proofs.Common.{◌≡◌, ℕ, ◌+◌, ◌<◌, ◌≤◌, List, [], ◌∷◌, drop, length, get_or, inr, refl, ap, ◌∙◌, subst, arith, eqb, eq-eqb}
 use Rattle.std.proofs.lemmas.Bool.{cond-true}
-use Rattle.wbt_book.specs.Ledger.{times_in}
-use Rattle.wbt_grant.specs.Kinds.{complete}
-use Rattle.wbt_grant.specs.Seats.{record_after}
-use Rattle.wbt_grant.specs.Setting.{Setting}
-use Rattle.wbt_grant.specs.declared.record.CpuRecord.{CpuRecord}
+use Rattle.wbt_flusher.proofs.Common.{times_in, complete, record_after, Setting, CpuRecord, Flew, steps_grow, context_of, Sight, phase_by, pages_by, flusher_in, pages_in, OwesRescan, OwesMark, all_completions, completions}
 use Rattle.wbt_journal.specs.Flights as flights
 use Rattle.wbt_journal.specs.Told.{done}
-use Rattle.wbt_run_laws.specs.Phases.{Flew}
-use Rattle.wbt_run_laws.proofs.Stepping.{steps_grow}
-use Rattle.wbt_flusher.specs.Plans.{context_of}
-use Rattle.wbt_flusher.specs.Sights.{Sight, phase_by, pages_by, flusher_in, pages_in, OwesRescan, OwesMark, all_completions, completions}
 use Rattle.wbt_flusher.specs.declared.plan.FlusherPlan.{FlusherPlan}
 use Rattle.wbt_flusher.specs.declared.work.Flight.{Flight}
 use Rattle.wbt_flusher.specs.declared.work.Phase.{Phase}

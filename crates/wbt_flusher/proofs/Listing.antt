@@ -1,8 +1,8 @@
 -- How often a page stands in a list.
 use Rattle.std.proofs.Common.{◌≡◌, ℕ, zero, suc, ◌+◌, ◌<◌, ◌≤◌, ◌⊎◌, Bool, true, false, cond, eqb, List, [], ◌∷◌, ◌++◌, filter, drop, length, get_or, inl, inr, sym, refl, ap, ◌∙◌, arith, eq-eqb, eqb-true, ⊎_elim}
 use Rattle.std.proofs.lemmas.Bool.{cond_both, cond-true}
-use Rattle.wbt_book.specs.Ledger.{times_in, let_go}
-use Rattle.wbt_counter.specs.Sums.{one_if}
+use Rattle.wbt_flusher.proofs.Common.{times_in, one_if}
+use Rattle.wbt_book.specs.Ledger.{let_go}
 
 pub times_append : (p : ℕ) (xs ys : List ℕ) → times_in p (xs ++ ys) ≡ times_in p xs + times_in p ys
 times_append p [] ys = omega arith

@@ -3,36 +3,16 @@ use Rattle.std.proofs.Common.{◌≡◌, ℕ, ◌+◌, Bool, true, false, cond, 
 use Rattle.std.specs.Prelude.{◌↔◌, IsTrue, IfSome, Option, Some, None}
 use Rattle.std.proofs.lemmas.Bool.{cond-true}
 use Rattle.std.proofs.lemmas.List.{map-append}
-use Rattle.wbt_counter.specs.declared.counter.Count.{Count}
-use Rattle.wbt_counter.specs.declared.counter.Counter.{Counter}
-use Rattle.wbt_counter.specs.declared.record.Reading.{Reading}
+use Rattle.wbt_flusher.proofs.Common.{Counter, count, record_after, CpuRecord, Load, setting, Changes, Triple, Cpu, Kit, Seats, load_of, triple_of, DomainLoad, record_of, record_is, Fits, ReadOthers}
+use Rattle.wbt_kit.proofs.Common.{Count, Reading, is_whole, read_triple, found_of, newest_of, DomainLimits, Limits, whole_load, Layout}
 use Rattle.wbt_grant.specs.Kinds as kind
-use Rattle.wbt_grant.specs.Kinds.{count}
-use Rattle.wbt_grant.specs.Record.{is_whole, read_triple}
-use Rattle.wbt_grant.specs.Seats.{record_after}
-use Rattle.wbt_grant.specs.State.{found_of, newest_of}
-use Rattle.wbt_grant.specs.declared.record.CpuRecord.{CpuRecord}
-use Rattle.wbt_grant.specs.declared.record.DomainLimits.{DomainLimits}
-use Rattle.wbt_grant.specs.declared.who.Who.TheVariants.{Cpu}
-use Rattle.wbt_journal.specs.Counts.{Load}
-use Rattle.wbt_kit.specs.declared.kit.Kit.{Kit}
-use Rattle.wbt_kit.specs.declared.kit.Seats.{Seats}
 use Rattle.wbt_limits.specs.Limits.{IsOverBackground}
-use Rattle.wbt_num.specs.declared.limits.Limits.{Limits}
-use Rattle.wbt_run_steps.specs.Loads.{LoadsCount, LoadsLimits, held_as, load_of, one, triple_of}
-use Rattle.wbt_run_steps.specs.declared.loads.DomainLoad.{DomainLoad}
-use Rattle.wbt_run_steps.specs.Records.{record_of}
-use Rattle.wbt_run_steps.proofs.Changing.{record_is}
-use Rattle.wbt_table.specs.Calls.{record_of as made_of, whole_load}
-use Rattle.wbt_table.specs.Layout.{setting}
-use Rattle.wbt_table.specs.Seat.{Changes}
-use Rattle.wbt_table.specs.declared.answer.Triple.{Triple}
-use Rattle.wbt_table.specs.declared.layout.Layout.{Layout}
+use Rattle.wbt_run_steps.specs.Loads.{LoadsCount, LoadsLimits, held_as, one}
+use Rattle.wbt_table.specs.Calls.{record_of as made_of}
 use Rattle.wbt_run_laws.specs.Grew.{onto, reading_of}
 use Rattle.wbt_run_laws.specs.Held.{IsHeld}
 use Rattle.wbt_run_laws.proofs.Lists.{onto_append}
-use Rattle.wbt_flusher.specs.Did.{Fits}
-use Rattle.wbt_flusher.specs.Loads.{AnyOver, AreFrom, IsOver, Loaded, LoadsEach, LoadsOnce, ReadDomain, ReadOthers, Tested}
+use Rattle.wbt_flusher.specs.Loads.{AnyOver, AreFrom, IsOver, Loaded, LoadsEach, LoadsOnce, ReadDomain, Tested}
 use Rattle.wbt_flusher.specs.declared.background.Read.{Read}
 use Rattle.wbt_flusher.specs.declared.background.Test.{Test}
 use Rattle.wbt_flusher.specs.declared.plan.FlusherPlan.{FlusherPlan}

@@ -2,43 +2,24 @@
 use Rattle.std.proofs.Common.{get_or, inl, inr, ne_eqb, ◌≡◌, ◌≢◌, ◌⊎◌, ℕ, ◌+◌, ◌/◌, ◌^◌, ◌<◌, ◌≤◌, Bool, true, false, not, ◌&&◌, eqb, List, [], ◌∷◌, ◌++◌, All, length, sym, refl, ap, ◌∙◌, subst, arith, eq-eqb, length-append}
 use Rattle.std.proofs.lemmas.Bool.{cond-true}
 use Rattle.wbt_book.specs.Book.{is_claimable}
-use Rattle.wbt_book.specs.PageWords.{bits_at, bits_of, shift_of}
-use Rattle.wbt_grant.specs.Kinds.{look, claim}
-use Rattle.wbt_grant.specs.Seats.{record_after}
+use Rattle.wbt_flusher.proofs.Common.{look, claim, record_after, CpuRecord, setting, Changes, Seated, CpuJournal, page_of, Scan, Setting, with_entry, Flew, flusher_after, FliesInTurn, logged_nothing, logged_entry, walked_none, Kit, Seats, OnlyCpu, only_same, Goes, Fits, KeepsDebts, IsPlan, Suits, end_of, inode_at, sight, phase_by, pages_by, landed_in, owing_total, first_tallies, completions, all_completions, list_by, AreOf, IsScan, steps_grow, pairs_of}
+use Rattle.wbt_kit.proofs.Common.{bits_at, Halts}
+use Rattle.wbt_book.specs.PageWords.{bits_of, shift_of}
 use Rattle.wbt_grant.specs.Record
-use Rattle.wbt_grant.specs.declared.record.CpuRecord.{CpuRecord}
 use Rattle.std.proofs.lemmas.List.Elements.{All-append, All-cons, All-nil}
 use Rattle.wbt_fraction.specs.Several as share
 use Rattle.wbt_published.specs.Passes as est
 use Rattle.wbt_queue.specs.Passes as queue
-use Rattle.wbt_table.specs.Calls.{Halts, before_its_look, after_its_look, looked_at, tried}
-use Rattle.wbt_table.specs.Layout.{setting}
-use Rattle.wbt_table.specs.Seat.{Changes, Seated}
+use Rattle.wbt_table.specs.Calls.{before_its_look, after_its_look, looked_at, tried}
 use Rattle.wbt_journal.specs.Flights as flights
 use Rattle.wbt_journal.specs.Told.{claimed}
-use Rattle.wbt_journal.specs.declared.entry.CpuJournal.{CpuJournal}
 use Rattle.wbt_journal.specs.declared.entry.Entry.TheVariants as entry
-use Rattle.wbt_run_laws.specs.Log.{with_entry}
-use Rattle.wbt_run_laws.specs.Phases.{Flew, flusher_after, FliesInTurn}
-use Rattle.wbt_run_laws.proofs.Logging.{logged_nothing, logged_entry}
-use Rattle.wbt_run_laws.proofs.Walking.{walked_none}
-use Rattle.wbt_kit.specs.declared.kit.Kit.{Kit}
-use Rattle.wbt_kit.specs.declared.kit.Seats.{Seats}
-use Rattle.wbt_run_steps.specs.Records.{OnlyCpu}
-use Rattle.wbt_run_steps.proofs.Queues.{only_same}
-use Rattle.wbt_flusher.specs.Answers.{Goes}
-use Rattle.wbt_flusher.specs.Did.{Fits, KeepsDebts}
 use Rattle.wbt_flusher.specs.Looks.{HasPassed}
-use Rattle.wbt_flusher.specs.Plans.{IsPlan, Suits, end_of, inode_at}
-use Rattle.wbt_flusher.specs.Sights.{sight, phase_by, pages_by, landed_in, owing_total, first_tallies, completions, all_completions, list_by}
-use Rattle.wbt_flusher.specs.Turns.{AreOf, IsScan}
 use Rattle.wbt_flusher.specs.declared.plan.FlusherPlan.{FlusherPlan}
 use Rattle.wbt_flusher.specs.declared.tally.Tallies.{Tallies}
 use Rattle.wbt_flusher.specs.declared.work.Phase.{Phase}
 use Rattle.wbt_flusher.specs.declared.work.Phase.TheVariants.{Scanning}
-use Rattle.wbt_rules.specs.Places.{page_of}
 use Rattle.wbt_rules.proofs.Places.{page_inside}
-use Rattle.wbt_rules.specs.declared.scan.Scan.{Scan}
 use Rattle.wbt_flusher.specs.declared.work.FlusherWork.{FlusherWork}
 use Rattle.wbt_flusher.proofs.Acting.{did_act, flew_as, on_cpu, told_as}
 use Rattle.wbt_flusher.proofs.Changing.{changed}
@@ -49,12 +30,10 @@ use Rattle.wbt_flusher.proofs.Going.{keeps_changed, kept_same}
 use Rattle.wbt_flusher.proofs.Keeping.{still_fits, goes_apart, debts_same}
 use Rattle.wbt_flusher.proofs.Noting.{grows_none}
 use Rattle.wbt_flusher.proofs.Owing.{owing_stays}
-use Rattle.wbt_run_laws.proofs.Stepping.{steps_grow, gathered_more}
-use Rattle.wbt_grant.specs.Setting.{Setting}
+use Rattle.wbt_run_laws.proofs.Stepping.{gathered_more}
 use Rattle.wbt_grant.specs.declared.who.StepKind.TheVariants as kind
 use Rattle.wbt_grant.specs.declared.who.Word.TheVariants as word
 use Rattle.wbt_flusher.proofs.Waiting.{list_kept}
-use Rattle.wbt_flusher.specs.Ages.{pairs_of}
 
 takes : (flusher page : ℕ) (batch : List ℕ) (faults : ℕ) → Flew flusher (told_as (flights.scanning batch) faults) (claimed flusher page ∷ []) (told_as (flights.scanning (batch ++ page ∷ [])) faults)
 takes flusher page batch faults = record {

@@ -1,20 +1,12 @@
 -- The mark of a scan's inode is set, or cleared where a scan begins.
 use Rattle.std.proofs.Common.{◌≡◌, ℕ, zero, suc, ◌+◌, ◌<◌, ◌≤◌, Bool, not, ◌==◌, eqb, List, [], ◌∷◌, inl, inr, ⊎_elim, sym, refl, ap, ◌∙◌, subst, arith, eqb-true}
 use Rattle.std.proofs.lemmas.Bool.{cond_both, cases_lt}
-use Rattle.wbt_book.specs.Ledger.{times_in}
-use Rattle.wbt_grant.specs.Kinds.{mark, unmark}
-use Rattle.wbt_grant.specs.Seats.{record_after}
-use Rattle.wbt_grant.specs.Setting.{Setting, pages_of}
-use Rattle.wbt_grant.specs.declared.record.CpuRecord.{CpuRecord}
-use Rattle.wbt_run_laws.proofs.Stepping.{untold_grows, steps_grow}
-use Rattle.wbt_flusher.specs.Plans.{inode_at, end_of}
-use Rattle.wbt_flusher.specs.Sights.{Sight, pages_in, OwesRescan, OwesMark, all_completions, completions, owing, owing_total}
+use Rattle.wbt_flusher.proofs.Common.{times_in, mark, unmark, record_after, Setting, CpuRecord, IsAhead, Scan, untold_grows, steps_grow, inode_at, end_of, Sight, pages_in, OwesRescan, OwesMark, all_completions, completions, owing, owing_total}
+use Rattle.wbt_grant.specs.Setting.{pages_of}
 use Rattle.wbt_flusher.specs.declared.plan.FlusherPlan.{FlusherPlan}
 use Rattle.wbt_flusher.specs.declared.work.Phase.{Phase}
 use Rattle.wbt_flusher.specs.declared.work.Phase.TheVariants.{Idle, Scanning}
-use Rattle.wbt_rules.specs.Places.{IsAhead}
 use Rattle.wbt_rules.proofs.Places.{all_ahead}
-use Rattle.wbt_rules.specs.declared.scan.Scan.{Scan}
 use Rattle.wbt_flusher.proofs.Acting.{OnRecord, rescan_or, mark_or}
 use Rattle.wbt_flusher.proofs.Listing.{passed, times_append, one_of}
 

@@ -1,25 +1,11 @@
 -- A scan closes: its inode's mark is set where that is due, and what the flusher would owe itself is paid.
 use Rattle.std.proofs.Common.{◌≡◌, ℕ, ◌≤◌, false, List, [], sym, refl, ap, ◌∙◌, subst, arith, true≢false}
-use Rattle.wbt_book.specs.Ledger.{times_in}
-use Rattle.wbt_grant.specs.Kinds.{mark}
-use Rattle.wbt_grant.specs.Seats.{record_after}
-use Rattle.wbt_table.specs.Layout.{setting}
-use Rattle.wbt_table.specs.Seat.{Changes, Seated}
-use Rattle.wbt_kit.specs.declared.kit.Kit.{Kit}
-use Rattle.wbt_kit.specs.declared.kit.Seats.{Seats}
-use Rattle.wbt_run_steps.specs.Inodes.{OnlyQueue}
-use Rattle.wbt_run_steps.specs.Records.{OnlyCpu, record_of}
-use Rattle.wbt_run_steps.proofs.Queues.{only_same}
-use Rattle.wbt_flusher.specs.Answers.{GoesKept}
-use Rattle.wbt_flusher.specs.Did.{Fits, KeepsDebts}
-use Rattle.wbt_flusher.specs.Plans.{Suits, IsInode}
-use Rattle.wbt_flusher.specs.Sights.{phase_by, landed_in, OwesRescan, OwesMark}
-use Rattle.wbt_flusher.specs.Turns.{IsPaid, IsIdle, IsBare, IsScan, OwesInodeNothing}
+use Rattle.wbt_flusher.proofs.Common.{times_in, mark, record_after, setting, Changes, Seated, Scan, Kit, Seats, OnlyQueue, OnlyCpu, record_of, only_same, GoesKept, Fits, KeepsDebts, Suits, IsInode, phase_by, landed_in, OwesRescan, OwesMark, IsIdle, IsScan, OwesInodeNothing}
+use Rattle.wbt_flusher.specs.Turns.{IsPaid, IsBare}
 use Rattle.wbt_flusher.specs.declared.plan.FlusherPlan.{FlusherPlan}
 use Rattle.wbt_flusher.specs.declared.work.Phase.{Phase}
 use Rattle.wbt_flusher.specs.declared.work.Phase.TheVariants.{Scanning}
 use Rattle.wbt_rules.proofs.Places.{page_inside, none_ahead}
-use Rattle.wbt_rules.specs.declared.scan.Scan.{Scan}
 use Rattle.wbt_flusher.specs.declared.work.FlusherWork.{FlusherWork}
 use Rattle.wbt_flusher.proofs.Beginning.{marks_inode, marks_pay}
 use Rattle.wbt_flusher.proofs.Changing.{changed}

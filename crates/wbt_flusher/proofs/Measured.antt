@@ -1,13 +1,6 @@
 -- An idle flusher after its loads and updates.
 use Rattle.std.proofs.Common.{◌≡◌, ℕ, [], ◌∷◌, None, ◌∙◌}
-use Rattle.wbt_journal.specs.declared.entry.CpuJournal.{CpuJournal}
-use Rattle.wbt_run_laws.proofs.Lists.{here}
-use Rattle.wbt_kit.specs.declared.kit.Kit.{Kit}
-use Rattle.wbt_kit.specs.declared.kit.Seats.{Seats}
-use Rattle.wbt_flusher.specs.Answers.{GoesAt, GoesQuiet, IsReady}
-use Rattle.wbt_flusher.specs.Did.{Moments, Fits, KeepsDebts}
-use Rattle.wbt_flusher.specs.Sights.{sight}
-use Rattle.wbt_flusher.specs.Turns.{HasLists, IsIdle, OnlyTallies}
+use Rattle.wbt_flusher.proofs.Common.{CpuJournal, here, Kit, Seats, GoesAt, GoesQuiet, IsReady, Moments, Fits, KeepsDebts, sight, HasLists, IsIdle, OnlyTallies}
 use Rattle.wbt_flusher.specs.declared.plan.FlusherPlan.{FlusherPlan}
 use Rattle.wbt_flusher.specs.declared.work.FlusherWork.{FlusherWork}
 use Rattle.wbt_flusher.proofs.Ending.{steady_same}

@@ -7,51 +7,26 @@ use mathlib.Core.Option.{some}
 use native.Mathlib.Decide.{ℕ_discrete}
 use lib.ListN.{get_elem?}
 use Rattle.wbt_estimate.specs.Estimate.{update_of, updated}
-use Rattle.wbt_estimate.specs.declared.estimate.Estimate.{Estimate}
+use Rattle.wbt_flusher.proofs.Common.{Estimate, begun, added_at, room_of, no_seat, Note, note_of, after_read, first_in, known_of, Known, Context, Each, contexts, added_to, Told, CpuJournal, EstEntry, Longer, SharesGrew, IsOfFlusher, FliesInTurn, flusher_after, Worker, by_nothing, longer_none, logged_nothing, walked_none, walked_silent, walks_silent, Kit, Seats, only_same, GoesQuiet, Went, Moments, Fits, Suits, sight, flusher_in, notes_by, list_by}
+use Rattle.wbt_kit.proofs.Common.{opening, estimates_of}
 use Rattle.wbt_estimate.specs.declared.estimate.Sample.{Sample}
-use Rattle.wbt_fraction.specs.Laws.{begun}
-use Rattle.wbt_fraction.specs.Notes.{added_at}
 use Rattle.wbt_fraction.specs.Sums.{total as weigh}
-use Rattle.wbt_fraction.specs.Totals.{room_of}
 use Rattle.wbt_fraction.specs.Several as share
-use Rattle.wbt_fraction.specs.Several.{no_seat}
-use Rattle.wbt_fraction.specs.declared.domain.note.Note.{Note}
-use Rattle.wbt_published.specs.Known.{first_one, note_of, after_read, opening, first_in}
+use Rattle.wbt_published.specs.Known.{first_one}
 use Rattle.wbt_published.specs.Passes as est
-use Rattle.wbt_published.specs.Passes.{known_of}
 use Rattle.wbt_published.specs.Publishing.{IsComplete, IsNewest as IsNewestNote}
-use Rattle.wbt_published.specs.declared.known.Known.{Known}
 use Rattle.wbt_published.proofs.Places.{first_version}
 use Rattle.wbt_queue.specs.Passes as queue
 use Rattle.wbt_table.specs.Seat as table
-use Rattle.wbt_trace.specs.declared.trace.Context.{Context}
-use Rattle.wbt_journal.specs.Estimates.{Follows, NamesGoOn, names_after, estimates_of}
-use Rattle.wbt_journal.specs.Each.{Each}
-use Rattle.wbt_journal.specs.Machine.{contexts}
-use Rattle.wbt_journal.specs.Reads.{added_to}
-use Rattle.wbt_journal.specs.Told.{Told, estimated}
-use Rattle.wbt_journal.specs.declared.entry.CpuJournal.{CpuJournal}
-use Rattle.wbt_journal.specs.declared.entry.EstEntry.{EstEntry}
+use Rattle.wbt_journal.specs.Estimates.{Follows, NamesGoOn, names_after}
+use Rattle.wbt_journal.specs.Told.{estimated}
 use Rattle.wbt_run_laws.specs.Entries.{NoneFalls}
 use Rattle.wbt_run_laws.specs.Log.{with_estimate}
-use Rattle.wbt_run_laws.specs.Notes.{HasNamed, Longer, SharesGrew, IsNewest, IsTold}
-use Rattle.wbt_run_laws.specs.Owns.{IsOfFlusher}
+use Rattle.wbt_run_laws.specs.Notes.{HasNamed, IsNewest, IsTold}
 use Rattle.wbt_run_laws.specs.Walks.{Walks}
-use Rattle.wbt_run_laws.specs.Phases.{FliesInTurn, flusher_after}
-use Rattle.wbt_run_laws.specs.Worker.{Worker}
 use Rattle.wbt_run_laws.proofs.Entering.{others_name_none}
-use Rattle.wbt_run_laws.proofs.Growing.{by_nothing}
-use Rattle.wbt_run_laws.proofs.Lists.{longer_none}
-use Rattle.wbt_run_laws.proofs.Logging.{logged_nothing, logged_estimate}
+use Rattle.wbt_run_laws.proofs.Logging.{logged_estimate}
 use Rattle.wbt_run_laws.proofs.Noting.{told_none}
-use Rattle.wbt_run_laws.proofs.Walking.{walked_none, walked_silent, walks_silent}
-use Rattle.wbt_kit.specs.declared.kit.Kit.{Kit}
-use Rattle.wbt_kit.specs.declared.kit.Seats.{Seats}
-use Rattle.wbt_run_steps.proofs.Queues.{only_same}
-use Rattle.wbt_flusher.specs.Answers.{GoesQuiet, Went}
-use Rattle.wbt_flusher.specs.Did.{Moments, Fits}
-use Rattle.wbt_flusher.specs.Plans.{Suits}
-use Rattle.wbt_flusher.specs.Sights.{sight, flusher_in, notes_by, list_by}
 use Rattle.wbt_flusher.specs.Turns.{OnlyEst}
 use Rattle.wbt_flusher.specs.declared.plan.FlusherPlan.{FlusherPlan}
 use Rattle.wbt_flusher.specs.declared.work.FlusherWork.{FlusherWork}

@@ -1,31 +1,12 @@
 -- Calls that leave the records, and note something of shares or of estimates.
 use Rattle.std.proofs.Common.{◌≡◌, ℕ, ◌+◌, ◌<◌, ◌≤◌, List, length, Some, inl, inr, ⊎_elim, sym, refl, ap, subst, arith}
 use Rattle.std.specs.Prelude.{sum_by}
-use Rattle.wbt_book.specs.Ledger.{times_in}
-use Rattle.wbt_estimate.specs.declared.estimate.Estimate.{Estimate}
-use Rattle.wbt_fraction.specs.Several.{KeepsStakes, room_in}
-use Rattle.wbt_fraction.specs.Totals.{room_of}
-use Rattle.wbt_grant.specs.declared.record.CpuRecord.{CpuRecord}
-use Rattle.wbt_io.specs.Pages.{Grows}
+use Rattle.wbt_flusher.proofs.Common.{times_in, Estimate, room_of, CpuRecord, Grows, Trace, Each, Told, Grew, Logged, NotedFlusherTurn, SharesGrew, IsOwn, IsOfFlusher, Flew, Worker, Kit, IsApart, Moments, IsTimed, handed, Did, IsWork, Sight, record_in, flusher_in, pages_in, shown_of, notes_of, OwesRescan, OwesMark, all_completions, owing, owing_total, list_by, Waited}
+use Rattle.wbt_kit.proofs.Common.{KeepsStakes, room_in}
 use Rattle.wbt_table.specs.Seat as table
-use Rattle.wbt_trace.specs.declared.trace.Trace.{Trace}
-use Rattle.wbt_journal.specs.Each.{Each}
-use Rattle.wbt_journal.specs.Told.{Told}
-use Rattle.wbt_run_laws.specs.Grew.{Grew}
-use Rattle.wbt_run_laws.specs.Log.{Logged}
-use Rattle.wbt_run_laws.specs.Noted.{NotedFlusherTurn}
-use Rattle.wbt_run_laws.specs.Notes.{SharesGrew, EstimatesGrew}
-use Rattle.wbt_run_laws.specs.Owns.{IsOwn, IsOfFlusher}
-use Rattle.wbt_run_laws.specs.Phases.{Flew}
-use Rattle.wbt_run_laws.specs.Worker.{Worker}
-use Rattle.wbt_kit.specs.declared.kit.Kit.{Kit}
-use Rattle.wbt_run_steps.specs.Records.{IsApart}
-use Rattle.wbt_flusher.specs.Did.{Moments, IsTimed, handed, Did}
-use Rattle.wbt_flusher.specs.Plans.{IsWork}
-use Rattle.wbt_flusher.specs.Sights.{Sight, record_in, flusher_in, pages_in, shown_of, notes_of, OwesRescan, OwesMark, all_completions, owing, owing_total, list_by}
+use Rattle.wbt_run_laws.specs.Notes.{EstimatesGrew}
 use Rattle.wbt_flusher.specs.declared.plan.FlusherPlan.{FlusherPlan}
 use Rattle.wbt_flusher.proofs.Acting.{own_flew, own_waited, others_stay, rescan_or, mark_or}
-use Rattle.wbt_run_laws.specs.Waits.{Waited}
 
 pub record Noted (plan : FlusherPlan) (kit : Kit) (told : Moments) (old new : Sight) : Type 0 where
   pub added : List Told

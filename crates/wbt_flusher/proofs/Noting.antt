@@ -2,35 +2,17 @@
 use Rattle.std.proofs.Common.{◌≡◌, ℕ, suc, ◌+◌, ◌≤◌, List, ◌++◌, Option, Some, None, inl, inr, ⊎_elim, sym, refl, ◌∙◌, subst, arith}
 use Rattle.std.proofs.lemmas.List.Sums.{sum_by-append}
 use Rattle.std.specs.Prelude.{sum_by}
-use Rattle.wbt_flex.specs.declared.share.Fraction.{Fraction}
-use Rattle.wbt_fraction.specs.Laws.{begun}
-use Rattle.wbt_fraction.specs.Notes.{added_at}
+use Rattle.wbt_flusher.proofs.Common.{begun, added_at, Note, Grows, Trace, Each, effect, added_to, Told, NotedFlusherTurn, Longer, SharesGrew, IsOfFlusher, items_told, Worker, IsSilent, walks_silent, Kit, Moments, IsTimed, handed, Did, Sight, shown_of, notes_of}
+use Rattle.wbt_kit.proofs.Common.{Fraction, reads_of, tells, CheckEntry}
 use Rattle.wbt_fraction.specs.Sums.{total as weigh}
-use Rattle.wbt_fraction.specs.declared.domain.note.Note.{Note}
-use Rattle.wbt_io.specs.Pages.{Grows}
-use Rattle.wbt_trace.specs.declared.trace.Trace.{Trace}
-use Rattle.wbt_journal.specs.Counts.{reads_of}
-use Rattle.wbt_journal.specs.Each.{Each}
-use Rattle.wbt_journal.specs.Effects.{effect}
-use Rattle.wbt_journal.specs.Items.{tells}
-use Rattle.wbt_journal.specs.Reads.{added_to, PeriodsGoOn, periods_after}
-use Rattle.wbt_journal.specs.Told.{Told}
-use Rattle.wbt_journal.specs.declared.entry.CheckEntry.{CheckEntry}
-use Rattle.wbt_run_laws.specs.Noted.{NotedFlusherTurn}
-use Rattle.wbt_run_laws.specs.Notes.{Notes, Longer, IsKept, TellsKept, KeepsPeriods, SharesGrew}
-use Rattle.wbt_run_laws.specs.Owns.{IsOfFlusher}
-use Rattle.wbt_run_laws.specs.Walks.{items_told}
-use Rattle.wbt_run_laws.specs.Worker.{Worker}
+use Rattle.wbt_journal.specs.Reads.{PeriodsGoOn, periods_after}
+use Rattle.wbt_run_laws.specs.Notes.{Notes, IsKept, TellsKept, KeepsPeriods}
 use Rattle.wbt_run_laws.proofs.Effects.{if_none}
 use Rattle.wbt_run_laws.proofs.Entering.{periods_silent}
 use Rattle.wbt_run_laws.proofs.Lists.{each_append, each_weaker, each_map}
 use Rattle.wbt_run_laws.proofs.Logging.{logged_both}
 use Rattle.wbt_run_laws.proofs.Noting.{kept_longer, noted_of_flusher, noted_more}
-use Rattle.wbt_run_laws.proofs.Walking.{IsSilent, walks_silent}
-use Rattle.wbt_kit.specs.declared.kit.Kit.{Kit}
 use Rattle.wbt_run_steps.proofs.Changing.{apart_more}
-use Rattle.wbt_flusher.specs.Did.{Moments, IsTimed, handed, Did}
-use Rattle.wbt_flusher.specs.Sights.{Sight, shown_of, notes_of}
 use Rattle.wbt_flusher.specs.declared.plan.FlusherPlan.{FlusherPlan}
 
 -- ---- what flushers' entries never tell

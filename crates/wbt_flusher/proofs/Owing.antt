@@ -1,9 +1,8 @@
 -- What is still to be added, where what a flusher keeps changes.
 use Rattle.std.proofs.Common.{◌≡◌, ℕ, ◌+◌, ◌<◌, ◌≤◌, Bool, cond, eqb, List, length, get_or, sym, ap, ◌∙◌, arith, ne_eqb}
 use Rattle.std.proofs.lemmas.Bool.{cond_both, cond-false}
-use Rattle.wbt_counter.proofs.Sums.{total_same, total_change}
-use Rattle.wbt_flusher.specs.Plans.{context_of}
-use Rattle.wbt_flusher.specs.Sights.{first_tallies, is_inside, tally_in, tallies_of, landed_in, owed_by, owing, owing_total}
+use Rattle.wbt_kit.proofs.Common.{total_same, total_change}
+use Rattle.wbt_flusher.proofs.Common.{context_of, first_tallies, is_inside, tally_in, tallies_of, landed_in, owed_by, owing, owing_total}
 use Rattle.wbt_flusher.specs.declared.plan.FlusherPlan.{FlusherPlan}
 use Rattle.wbt_flusher.specs.declared.tally.Tallies.{Tallies}
 use Rattle.wbt_flusher.specs.declared.work.Flight.{Flight}

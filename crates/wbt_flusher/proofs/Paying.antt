@@ -1,26 +1,12 @@
 -- What the flusher's CPU owes to counters is paid, and told.
 use Rattle.std.proofs.Common.{◌≡◌, ℕ, false, true, List, Some, inl, inr, ⊎_elim, ◌≤◌, sym, refl, ap, ◌∙◌, subst, arith}
 use Rattle.std.specs.Prelude.{Bool}
-use Rattle.wbt_book.specs.Ledger.{times_in, times}
-use Rattle.wbt_counter.specs.declared.record.Fold.{Fold}
-use Rattle.wbt_grant.specs.declared.record.CpuRecord.{CpuRecord}
-use Rattle.wbt_io.specs.Pages.{Grows}
-use Rattle.wbt_table.specs.Layout.{HasCounter}
-use Rattle.wbt_journal.specs.declared.entry.CpuJournal.{CpuJournal}
-use Rattle.wbt_run_laws.specs.Elsewhere.{IsPlain}
-use Rattle.wbt_run_laws.specs.Owns.{IsOwn, IsOfFlusher}
-use Rattle.wbt_run_laws.specs.Phases.{FliesInTurn, flusher_after}
-use Rattle.wbt_run_laws.proofs.Walking.{IsSilent, walked_silent}
-use Rattle.wbt_kit.specs.declared.kit.Kit.{Kit}
-use Rattle.wbt_kit.specs.declared.kit.Seats.{Seats}
-use Rattle.wbt_run_steps.specs.Steps.{Settled, tells_folds}
-use Rattle.wbt_run_steps.proofs.Changing.{record_is}
+use Rattle.wbt_flusher.proofs.Common.{times_in, times, CpuRecord, Grows, HasCounter, CpuJournal, IsPlain, IsOwn, IsOfFlusher, FliesInTurn, flusher_after, IsSilent, walked_silent, Kit, Seats, Settled, record_is, only_same, IsTimed, Fits, OwesNothing, Suits, sight, is_completion, list_by}
+use Rattle.wbt_kit.proofs.Common.{Fold}
+use Rattle.wbt_run_steps.specs.Steps.{tells_folds}
 use Rattle.wbt_run_steps.proofs.Telling.{each_fold, each_fold_of}
-use Rattle.wbt_run_steps.proofs.Queues.{only_same}
 use Rattle.wbt_flusher.specs.Answers.{GoesTold}
-use Rattle.wbt_flusher.specs.Did.{IsTimed, Fits, OwesNothing, IsStopped}
-use Rattle.wbt_flusher.specs.Plans.{Suits}
-use Rattle.wbt_flusher.specs.Sights.{sight, is_completion, list_by}
+use Rattle.wbt_flusher.specs.Did.{IsStopped}
 use Rattle.wbt_flusher.specs.declared.plan.FlusherPlan.{FlusherPlan}
 use Rattle.wbt_flusher.proofs.Acting.{did_act, on_cpu, rescan_or, mark_or}
 use Rattle.wbt_flusher.proofs.Changing.{changed}

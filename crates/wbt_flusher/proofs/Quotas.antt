@@ -1,12 +1,11 @@
 -- A scan's batch stays within its quota.
 use Rattle.std.proofs.Common.{◌≡◌, ℕ, ◌+◌, ◌<◌, ◌≤◌, inl, inr, ◌⊎◌, List, [], ◌∷◌, ◌++◌, length, ap, ◌∙◌, subst, arith}
 use Rattle.std.proofs.lemmas.List.{length-append}
-use Rattle.wbt_flusher.specs.Turns.{IsPhase, IsSteady, IsWithinQuota}
+use Rattle.wbt_flusher.proofs.Common.{IsPhase, IsSteady, IsWithinQuota, Scan}
 use Rattle.wbt_flusher.specs.declared.plan.FlusherPlan.{FlusherPlan}
 use Rattle.wbt_flusher.specs.declared.work.FlusherWork.{FlusherWork}
 use Rattle.wbt_flusher.specs.declared.work.Phase.{Phase}
 use Rattle.wbt_flusher.specs.declared.work.Phase.TheVariants.{Idle, Scanning, Flying, Returning, Failed}
-use Rattle.wbt_rules.specs.declared.scan.Scan.{Scan}
 
 -- between two turns it is below it
 pub scan_below : (plan : FlusherPlan) (work : FlusherWork) (scan : Scan) → IsSteady plan work → work.phase ≡ Scanning scan → length work.batch.items < scan.quota

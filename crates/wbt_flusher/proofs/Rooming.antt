@@ -3,13 +3,8 @@ use Rattle.std.proofs.Common.{◌≡◌, ℕ, ◌*◌, ◌^◌, ◌≤◌, sym, 
 use mathlib.Core.Logic.{dite}
 use mathlib.Core.Option.{some-injective}
 use native.Mathlib.Decide.{ℕ_discrete}
-use Rattle.wbt_grant.specs.declared.record.CpuRecord.{CpuRecord}
-use Rattle.wbt_num.specs.declared.most.TheConstants.{MOST_PAGE_STEPS}
-use Rattle.wbt_table.specs.Rule.{Cpus, Has}
+use Rattle.wbt_flusher.proofs.Common.{CpuRecord, MOST_PAGE_STEPS, Cpus, Has, Kit, Moments, Did, AreCounted, HasRooms, Sight, completions, held_cpus}
 use Rattle.wbt_table.specs.Seat as table
-use Rattle.wbt_kit.specs.declared.kit.Kit.{Kit}
-use Rattle.wbt_flusher.specs.Did.{Moments, Did, AreCounted, HasRooms}
-use Rattle.wbt_flusher.specs.Sights.{Sight, completions, held_cpus}
 use Rattle.wbt_flusher.specs.declared.plan.FlusherPlan.{FlusherPlan}
 use Rattle.wbt_flusher.proofs.Changing.{Changed}
 

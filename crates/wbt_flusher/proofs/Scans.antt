@@ -3,25 +3,19 @@ use Rattle.std.proofs.Common.{◌≡◌, ℕ, ◌<◌, ◌≤◌, true, false, L
 use Rattle.std.proofs.lemmas.Bool.{cond_both, cond-true, cond-false}
 use mathlib.Core.Logic.{dite}
 use native.Mathlib.Decide.{ℕ_discrete}
-use Rattle.wbt_book.specs.Ledger.{times_in}
+use Rattle.wbt_flusher.proofs.Common.{times_in, IsAhead, same_default, Scan, Seats, phase_by, pages_by, landed_in, OwesRescan, OwesMark, IsInode, IsPlan, inode_at, end_of, AreOf, AreProper, ArePlaces, HasLists, IsScan, KeepsPlace, HasWheel, pairs_of}
 use Rattle.wbt_journal.specs.Flights as flights
-use Rattle.wbt_kit.specs.declared.kit.Seats.{Seats}
-use Rattle.wbt_flusher.specs.Sights.{phase_by, pages_by, landed_in, OwesRescan, OwesMark}
 use Rattle.wbt_flusher.specs.declared.work.Phase.{Phase}
 use Rattle.wbt_flusher.specs.declared.work.Phase.TheVariants.{Scanning}
 use Rattle.wbt_flusher.specs.declared.work.FlusherWork.{FlusherWork}
 use Rattle.wbt_flusher.proofs.Acting.{Kept}
 use Rattle.wbt_flusher.proofs.Handing.{owes_same}
 use Rattle.wbt_flusher.proofs.Marking.{IsAtBegin}
-use Rattle.wbt_flusher.specs.Plans.{IsInode, IsPlan, inode_at, end_of}
-use Rattle.wbt_flusher.specs.Turns.{AreOf, AreProper, ArePlaces, HasLists, IsScan, KeepsPlace, places_after, start_of}
+use Rattle.wbt_flusher.specs.Turns.{places_after, start_of}
 use Rattle.wbt_flusher.specs.declared.plan.FlusherPlan.{FlusherPlan}
 use Rattle.wbt_rules.specs.Flusher.{IsWithinChunk}
-use Rattle.wbt_rules.specs.Places.{IsAhead, place_after}
+use Rattle.wbt_rules.specs.Places.{place_after}
 use Rattle.wbt_rules.proofs.Places.{place_below}
-use Rattle.wbt_table.proofs.Lists.{same_default}
-use Rattle.wbt_rules.specs.declared.scan.Scan.{Scan}
-use Rattle.wbt_flusher.specs.Ages.{HasWheel, pairs_of}
 use Rattle.wbt_flusher.specs.declared.tally.Tallies.{Tallies}
 
 none_of : (P : ℕ → Type 0) → All P []

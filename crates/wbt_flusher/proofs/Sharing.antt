@@ -4,48 +4,23 @@ use Rattle.std.specs.Prelude.{slice_set, slice_index_or}
 use Rattle.std.proofs.lemmas.Bool.{cond-true, cond-false, lt-ltb}
 use mathlib.Core.Logic.{dite}
 use native.Mathlib.Decide.{ℕ_discrete}
-use Rattle.wbt_book.specs.Ledger.{times_in}
-use Rattle.wbt_fraction.specs.Laws.{begun}
-use Rattle.wbt_fraction.specs.Notes.{added_at}
+use Rattle.wbt_flusher.proofs.Common.{times_in, begun, added_at, Note, no_seat, room_of, CpuRecord, known_of, Cpus, Context, Trace, domains, contexts, share, CpuJournal, with_entry, Longer, SharesGrew, Flew, FliesInTurn, flusher_after, Worker, by_nothing, longer_none, logged_nothing, logged_entry, walked_none, walked_silent, Kit, Seats, only_same, GoesQuiet, GoesKept, Goes, AreCounted, Fits, HasRooms, Suits, IsWork, sight, flusher_in, phase_by, pages_by, notes_by, OwesRescan, OwesMark, tally_in, with_tally, tallies_of, all_completions, held_cpus, owing, owing_total, list_by, HasLists, OnlyTallies, pairs_of}
+use Rattle.wbt_kit.proofs.Common.{KeepsStakes, stakes_in, IsSeatOf, room_in, TotalSeated}
 use Rattle.wbt_fraction.specs.Sums.{total as weigh}
-use Rattle.wbt_fraction.specs.declared.domain.note.Note.{Note}
 use Rattle.wbt_fraction.specs.Seat.{Seated, Adds, Missed}
-use Rattle.wbt_fraction.specs.Several.{KeepsStakes, stakes_in, KeepsRooms, TakesRoom, IsSeatOf, room_in, no_seat}
-use Rattle.wbt_fraction.specs.Totals.{room_of, lowered, TotalSeated}
+use Rattle.wbt_fraction.specs.Several.{KeepsRooms, TakesRoom}
+use Rattle.wbt_fraction.specs.Totals.{lowered}
 use Rattle.wbt_fraction.specs.declared.domain.words.Again.{Again}
-use Rattle.wbt_grant.specs.declared.record.CpuRecord.{CpuRecord}
 use Rattle.wbt_published.specs.Passes as est
-use Rattle.wbt_published.specs.Passes.{known_of}
 use Rattle.wbt_queue.specs.Passes as queue
-use Rattle.wbt_table.specs.Rule.{Cpus}
 use Rattle.wbt_table.specs.Seat as table
-use Rattle.wbt_trace.specs.declared.trace.Context.{Context}
-use Rattle.wbt_trace.specs.declared.trace.Trace.{Trace}
 use Rattle.wbt_journal.specs.Flights as flights
-use Rattle.wbt_journal.specs.Machine.{domains, contexts}
 use Rattle.wbt_journal.specs.Reads.{IsShare}
-use Rattle.wbt_journal.specs.Told.{share}
-use Rattle.wbt_journal.specs.declared.entry.CpuJournal.{CpuJournal}
 use Rattle.wbt_journal.specs.declared.entry.Entry.TheVariants as entry
 use Rattle.wbt_run_laws.specs.Calls.{AreFound, NotesGrew}
-use Rattle.wbt_run_laws.specs.Log.{with_entry}
-use Rattle.wbt_run_laws.specs.Notes.{Longer, SharesGrew}
-use Rattle.wbt_run_laws.specs.Phases.{Flew, FliesInTurn, flusher_after}
-use Rattle.wbt_run_laws.specs.Worker.{Worker}
 use Rattle.wbt_run_laws.proofs.Calling.{add_is_noted}
-use Rattle.wbt_run_laws.proofs.Growing.{by_nothing}
-use Rattle.wbt_run_laws.proofs.Lists.{longer_none}
-use Rattle.wbt_run_laws.proofs.Logging.{logged_nothing, logged_entry}
 use Rattle.wbt_run_laws.proofs.Moving.{plain_estimates}
-use Rattle.wbt_run_laws.proofs.Walking.{walked_none, walked_silent}
-use Rattle.wbt_kit.specs.declared.kit.Kit.{Kit}
-use Rattle.wbt_kit.specs.declared.kit.Seats.{Seats}
-use Rattle.wbt_run_steps.proofs.Queues.{only_same}
-use Rattle.wbt_flusher.specs.Answers.{GoesQuiet, GoesKept, Goes}
-use Rattle.wbt_flusher.specs.Did.{AreCounted, Fits, HasRooms}
-use Rattle.wbt_flusher.specs.Plans.{Suits, IsWork}
-use Rattle.wbt_flusher.specs.Sights.{sight, flusher_in, phase_by, pages_by, notes_by, OwesRescan, OwesMark, tally_in, with_tally, tallies_of, all_completions, held_cpus, owing, owing_total, list_by}
-use Rattle.wbt_flusher.specs.Turns.{HasLists, IsPart, OnlyShare, OnlyTallies}
+use Rattle.wbt_flusher.specs.Turns.{IsPart, OnlyShare}
 use Rattle.wbt_flusher.specs.declared.plan.FlusherPlan.{FlusherPlan}
 use Rattle.wbt_flusher.specs.declared.tally.Tally.{Tally}
 use Rattle.wbt_flusher.proofs.Tallying.{own_tally, so_many, inside_part}
@@ -59,7 +34,6 @@ use Rattle.wbt_flusher.proofs.Noted.{did_noted}
 use Rattle.wbt_flusher.proofs.Noting.{grows_none, shares_by}
 use Rattle.wbt_flusher.proofs.Untold.{share_grows}
 use Rattle.wbt_flusher.proofs.Waiting.{list_kept}
-use Rattle.wbt_flusher.specs.Ages.{pairs_of}
 
 -- ---- rooms
 

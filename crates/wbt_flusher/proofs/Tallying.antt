@@ -2,20 +2,17 @@
 use Rattle.std.proofs.Common.{◌≡◌, ◌≢◌, ℕ, ◌+◌, ◌<◌, ◌≤◌, Bool, true, false, cond, eqb, List, All, length, get_or, set, sym, refl, ap, ◌∙◌, subst, arith, ⊎_elim, eq-eqb, ne_eqb, true≢false, get_or-set_same, get_or-set_other, length-set, ◌||◌, Option}
 use Rattle.std.proofs.lemmas.Bool.{cond-true, cond-false}
 use Rattle.std.proofs.lemmas.List.Elements.{All-set}
-use Rattle.wbt_counter.specs.Sums.{total}
-use Rattle.wbt_counter.proofs.Sums.{total_change}
+use Rattle.wbt_flusher.proofs.Common.{Waiting, first_tallies, is_inside, tally_in, with_tally, tallies_of, landed_in, owed_by, owing, owing_total, AreProper, ArePlaces, HasLists, OnlyTallies, HasWheel}
+use Rattle.wbt_kit.proofs.Common.{total, total_change}
 use mathlib.Core.Logic.{dite}
 use native.Mathlib.Decide.{ℕ_discrete}
 use Rattle.wbt_flusher.specs.Plans.{group_of}
-use Rattle.wbt_flusher.specs.Sights.{first_tallies, is_inside, tally_in, with_tally, tallies_of, landed_in, owed_by, owing, owing_total}
-use Rattle.wbt_flusher.specs.Turns.{IsPart, IsProper, AreProper, ArePlaces, HasLists, OnlyTallies, OwesNoMore}
+use Rattle.wbt_flusher.specs.Turns.{IsPart, IsProper, OwesNoMore}
 use Rattle.wbt_flusher.specs.declared.plan.FlusherPlan.{FlusherPlan}
 use Rattle.wbt_flusher.specs.declared.tally.Tallies.{Tallies}
 use Rattle.wbt_flusher.specs.declared.tally.Tally.{Tally}
 use Rattle.wbt_flusher.specs.declared.work.Phase.{Phase}
 use Rattle.wbt_flusher.specs.declared.work.FlusherWork.{FlusherWork}
-use Rattle.wbt_expiry.specs.Waiting.{Waiting}
-use Rattle.wbt_flusher.specs.Ages.{HasWheel}
 
 -- ---- one tally
 

@@ -3,18 +3,12 @@ use Rattle.std.proofs.Common.{◌≡◌, ℕ, true, List, [], ◌∷◌, refl, a
 use Rattle.std.specs.Prelude.{sum_by}
 use Rattle.std.proofs.lemmas.Bool.{lt-ltb}
 use Rattle.std.proofs.lemmas.List.Sums.{sum_by-cons}
-use Rattle.wbt_counter.specs.declared.counter.Counter.{Counter}
-use Rattle.wbt_counter.specs.declared.counter.Counter.TheVariants.{Domain, Context}
-use Rattle.wbt_counter.specs.declared.record.Fold.{Fold}
-use Rattle.wbt_table.specs.Layout.{HasCounter}
-use Rattle.wbt_trace.specs.declared.trace.Trace.{Trace}
-use Rattle.wbt_journal.specs.Machine.{has_counter, contexts, domains}
-use Rattle.wbt_journal.specs.Reads.{added_by, added_to}
-use Rattle.wbt_journal.specs.Told.{folded}
-use Rattle.wbt_kit.specs.declared.kit.Kit.{Kit}
+use Rattle.wbt_flusher.proofs.Common.{Counter, Domain, HasCounter, Trace, contexts, domains, added_to, Kit, handed, Suits, IsWork}
+use Rattle.wbt_kit.proofs.Common.{Fold, folded}
+use Rattle.wbt_counter.specs.declared.counter.Counter.TheVariants.{Context}
+use Rattle.wbt_journal.specs.Machine.{has_counter}
+use Rattle.wbt_journal.specs.Reads.{added_by}
 use Rattle.wbt_run_steps.specs.Steps.{tells_folds}
-use Rattle.wbt_flusher.specs.Did.{handed}
-use Rattle.wbt_flusher.specs.Plans.{Suits, IsWork}
 use Rattle.wbt_flusher.specs.declared.plan.FlusherPlan.{FlusherPlan}
 
 pub folds_add_none : (domain context : ℕ) (folds : List Fold) → added_to domain context (tells_folds folds) ≡ 0

@@ -1,20 +1,16 @@
 -- Words of steps: of calls that may be cut off, and of a flusher's turns.
 use Rattle.std.proofs.Common.{◌≡◌, ℕ, zero, suc, ◌+◌, ◌-◌, ◌<◌, ◌≤◌, inl, inr, List, [], ◌∷◌, ◌++◌, refl, sym, ap, ◌∙◌, subst, arith, append_assoc, append-nil, Option, Some, None, Bool}
 use Rattle.std.specs.Prelude.{IfNone, IfSome}
-use Rattle.wbt_grant.specs.Kinds.{claim, look}
-use Rattle.wbt_grant.specs.Setting.{Setting}
-use Rattle.wbt_grant.specs.declared.who.StepKind.{StepKind}
+use Rattle.wbt_flusher.proofs.Common.{claim, look, Setting, Seats, Turn, Stepped, Resting, Done, Halted, Faulted, Spent, NoMemory, Steps, none_as, IsSettled, MayTake, AreCounts}
+use Rattle.wbt_kit.proofs.Common.{StepKind, Halts}
 use Rattle.wbt_grant.specs.declared.who.StepKind.TheVariants as kind
-use Rattle.wbt_kit.specs.declared.kit.Seats.{Seats}
-use Rattle.wbt_kit.specs.declared.turn.Turn.{Turn}
-use Rattle.wbt_kit.specs.declared.turn.Turn.TheVariants.{Stepped, Resting, Done, Halted, Faulted, Spent, NoMemory}
-use Rattle.wbt_table.specs.Calls.{Halts, LogsLook, LogsTry}
+use Rattle.wbt_table.specs.Calls.{LogsLook, LogsTry}
 use Rattle.wbt_table.specs.Calls.Halts.{after_its_look, before_its_look}
-use Rattle.wbt_run_steps.specs.Kinds.{Steps, StepsAs, StepsInTurn, StepsPart, marking}
-use Rattle.wbt_run_steps.proofs.Logging.{as_more, cut_after, cut_whole, made_as, none_as, one_as, part_after, part_longer, steps_behind, steps_more, steps_so, steps_still, takes_none}
+use Rattle.wbt_run_steps.specs.Kinds.{StepsAs, StepsInTurn, StepsPart, marking}
+use Rattle.wbt_run_steps.proofs.Logging.{as_more, cut_after, cut_whole, made_as, one_as, part_after, part_longer, steps_behind, steps_more, steps_so, steps_still, takes_none}
 use Rattle.wbt_turns.specs.Words as turn
-use Rattle.wbt_turns.specs.Words.{IsCut, IsSettled, IsTurn, MayMark, MaySettle, MayTake, counts, loads}
-use Rattle.wbt_flusher.specs.Kinds.{AreCounts, ComesAfter, IsLook, StepsBy}
+use Rattle.wbt_turns.specs.Words.{IsCut, IsTurn, MayMark, MaySettle, counts, loads}
+use Rattle.wbt_flusher.specs.Kinds.{ComesAfter, IsLook, StepsBy}
 
 abbrev Words : Type 1
 Words = List StepKind → Type 0

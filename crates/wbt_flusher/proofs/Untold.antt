@@ -1,13 +1,9 @@
 -- Entries that tell no step of a CPU leave its record.
 use Rattle.std.proofs.Common.{ℕ, [], ◌∷◌, refl, arith}
-use Rattle.wbt_grant.specs.declared.record.CpuRecord.{CpuRecord}
+use Rattle.wbt_flusher.proofs.Common.{CpuRecord, share, EstEntry, Grew, items_told, gained_none, longer_none, walks_silent}
 use Rattle.wbt_journal.specs.Counts.{CountsAreFresh, versions_after}
-use Rattle.wbt_journal.specs.Told.{batch, share, estimated, fault}
-use Rattle.wbt_journal.specs.declared.entry.EstEntry.{EstEntry}
-use Rattle.wbt_run_laws.specs.Grew.{Grew, HasSeen}
-use Rattle.wbt_run_laws.specs.Walks.{items_told}
-use Rattle.wbt_run_laws.proofs.Lists.{gained_none, longer_none}
-use Rattle.wbt_run_laws.proofs.Walking.{walks_silent}
+use Rattle.wbt_journal.specs.Told.{batch, estimated, fault}
+use Rattle.wbt_run_laws.specs.Grew.{HasSeen}
 
 pub batch_grows : (flusher pages now until : ℕ) (r : CpuRecord) → Grew (batch flusher pages now until ∷ []) r r
 batch_grows flusher pages now until r = record {

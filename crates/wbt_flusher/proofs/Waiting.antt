@@ -1,16 +1,11 @@
 -- Entries that tell nothing of waiting lists leave the flusher's.
 use Rattle.std.proofs.Common.{◌≡◌, ℕ, cond, eqb, None, List}
-use Rattle.wbt_expiry.specs.declared.due.Due.{Due}
-use Rattle.wbt_trace.specs.declared.trace.Trace.{Trace}
-use Rattle.wbt_journal.specs.Each.{Each}
-use Rattle.wbt_journal.specs.Effects.{Wait, effect}
-use Rattle.wbt_journal.specs.Told.{Told}
-use Rattle.wbt_journal.specs.Waits.{MayWait, waited}
-use Rattle.wbt_run_laws.specs.Waits.{Waited, WaitsInTurn, list_after}
+use Rattle.wbt_flusher.proofs.Common.{Due, Trace, Each, effect, Told, Waited, IsSilent}
+use Rattle.wbt_kit.proofs.Common.{Wait, MayWait, waited}
+use Rattle.wbt_run_laws.specs.Waits.{WaitsInTurn, list_after}
 use Rattle.wbt_run_laws.proofs.Effects.{if_none, part_none}
 use Rattle.wbt_run_laws.proofs.Lists.{each_weaker}
 use Rattle.wbt_run_laws.proofs.Turning.{list_stays}
-use Rattle.wbt_run_laws.proofs.Walking.{IsSilent}
 
 abbrev pub TellsNoWait : (e : Told) → Type 0
 TellsNoWait e = (effect e).wait ≡ None

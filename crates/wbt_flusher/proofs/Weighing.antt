@@ -1,21 +1,9 @@
 -- Contexts of a strict device that are weighed.
 use Rattle.std.proofs.Common.{◌≡◌, ℕ, suc, ◌+◌, ◌||◌, Bool, true, false, ◌⊎◌, inl, inr, refl, sym, ap, ◌∙◌, subst, arith, true≢false, ⊎_elim, ◌↔◌, IsTrue}
-use Rattle.wbt_grant.specs.declared.record.CpuRecord.{CpuRecord}
-use Rattle.wbt_grant.specs.State.{held_of}
-use Rattle.wbt_journal.specs.declared.entry.CpuJournal.{CpuJournal}
-use Rattle.wbt_kit.specs.declared.kit.Kit.{Kit}
-use Rattle.wbt_kit.specs.declared.kit.Seats.{Seats}
-use Rattle.wbt_run_steps.specs.Records.{record_of}
-use Rattle.wbt_run_steps.proofs.Changing.{record_is}
+use Rattle.wbt_flusher.proofs.Common.{CpuRecord, CpuJournal, setting, Seated, Triple, Kit, Seats, record_of, record_is, GoesAt, GoesKept, Sight, sight, OnlyTallies, WeighsBefore}
+use Rattle.wbt_kit.proofs.Common.{held_of, Holds}
 use Rattle.wbt_table.specs.Held.{triple_of}
-use Rattle.wbt_table.specs.Layout.{setting}
-use Rattle.wbt_table.specs.Rule.{Holds}
-use Rattle.wbt_table.specs.Seat.{Seated}
-use Rattle.wbt_table.specs.declared.answer.Triple.{Triple}
-use Rattle.wbt_flusher.specs.Answers.{GoesAt, GoesKept}
-use Rattle.wbt_flusher.specs.Sights.{Sight, sight}
-use Rattle.wbt_flusher.specs.Turns.{OnlyTallies}
-use Rattle.wbt_flusher.specs.Weighs.{WeighsBefore, WeighsNext, limits_held}
+use Rattle.wbt_flusher.specs.Weighs.{WeighsNext, limits_held}
 use Rattle.wbt_flusher.specs.declared.plan.FlusherPlan.{FlusherPlan}
 use Rattle.wbt_flusher.specs.declared.work.FlusherWork.{FlusherWork}
 use Rattle.wbt_flusher.proofs.Going.{went_more}

@@ -2,17 +2,13 @@
 use Rattle.std.proofs.Common.{ℕ, zero, suc, ◌*◌, ◌^◌, ◌<◌, ◌≤◌, List, [], ◌∷◌, ◌++◌, count_by, get_or, arith, mul-le-mul}
 use Rattle.std.proofs.lemmas.List.{length-map}
 use Rattle.std.proofs.lemmas.List.Sums.{count_by-le-length}
-use Rattle.wbt_counter.specs.Batch.{domain_batch, context_batch, stat_error}
-use Rattle.wbt_counter.specs.declared.counter.Counter.TheVariants.{Domain, Context}
+use Rattle.wbt_replay_order.proofs.Common.{domain_batch, context_batch, Context, group_of, writers_of, Trace, setting_of, base_of, bases_of, writer_homes, Facts}
+use Rattle.wbt_counter.specs.Batch.{stat_error}
+use Rattle.wbt_counter.specs.declared.counter.Counter.TheVariants.{Domain}
 use Rattle.wbt_grant.proofs.Ranges.{batch_fits}
-use Rattle.wbt_rules.specs.Things.{group_of}
-use Rattle.wbt_trace.specs.Lawful.{writers_of}
-use Rattle.wbt_trace.specs.declared.trace.Trace.{Trace}
 use Rattle.wbt_trace.specs.declared.trace.Context.{Context as ContextValue}
 use Rattle.wbt_trace.specs.declared.writers.Writer.{Writer}
-use Rattle.wbt_replay_order.specs.Claims.Setting.{setting_of}
-use Rattle.wbt_replay_order.specs.Definition.Run.{base_of, bases_of, is_inside, writer_homes}
-use Rattle.wbt_replay_order.specs.Kept.Facts.{Facts}
+use Rattle.wbt_replay_order.specs.Definition.Run.{is_inside}
 
 module _ (trace : Trace) (facts : Facts trace) where
   domain_fits : domain_batch trace.cpus ≤ 128

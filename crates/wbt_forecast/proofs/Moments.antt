@@ -1,10 +1,7 @@
 -- The latest moment of a state in range.
 use Rattle.std.proofs.Common.{ℕ, suc, ◌+◌, ◌-◌, ◌≤◌, max, List, [], ◌∷◌, get_or, arith}
-use Rattle.wbt_replay_moves.specs.Definition.State.{State, no_flusher, no_task}
-use Rattle.wbt_replay_moves.specs.declared.state.Flusher.{Flusher}
-use Rattle.wbt_replay_moves.specs.declared.state.ReplayTask.{ReplayTask}
-use Rattle.wbt_replay_order.specs.Kept.Further.{after_rests, after_waits, latest_moment}
-use Rattle.wbt_replay_order.specs.Kept.Horizon.{horizon, latest, reserve, until_of}
+use Rattle.wbt_replay_order.proofs.Common.{State, no_flusher, no_task, Flusher, ReplayTask, after_rests, after_waits, latest_moment, latest, reserve, until_of}
+use Rattle.wbt_replay_order.specs.Kept.Horizon.{horizon}
 
 rests_within : (most moment : ℕ) (ts : List ReplayTask) → moment ≤ most → ((k : ℕ) → (get_or ts k no_task).rest ≤ most) → after_rests moment ts ≤ most
 rests_within most moment [] first each = first

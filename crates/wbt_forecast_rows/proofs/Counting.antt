@@ -3,12 +3,7 @@ use Rattle.std.proofs.Common.{◌≡◌, ℕ, ◌+◌, ◌<◌, ◌≤◌, max, 
 use Rattle.std.proofs.lemmas.List.{drop_all, drop_more}
 use Rattle.std.proofs.lemmas.List.Sums.{sum_by-append, sum_by-cons}
 use Rattle.std.specs.List.{sum_by, count_by}
-use Rattle.wbt_counter.specs.History.{at_least_zero}
-use Rattle.wbt_trace.specs.declared.trace.Trace.{Trace}
-use Rattle.wbt_journal.specs.Steps.{change_in}
-use Rattle.wbt_journal.specs.declared.entry.CheckEntry.{CheckEntry}
-use Rattle.wbt_journal.specs.declared.entry.Entry.{Entry}
-use Rattle.wbt_journal.specs.declared.step.StepEntry.{StepEntry}
+use Rattle.wbt_replay_order.proofs.Common.{at_least_zero, Trace, change_in, CheckEntry, Entry, StepEntry}
 use Rattle.wbt_forecast_rows.specs.Counts.{count_after, most_after, is_dirtied_in, is_written_in, is_write_by, is_check_of, is_pause_of, pause_after, longest_pause}
 use Rattle.wbt_forecast_rows.specs.Tally.{domain_after, domain_next, context_after, task_after_entries, task_after_checks}
 use Rattle.wbt_forecast_rows.specs.declared.tally.ContextTally.{ContextTally}

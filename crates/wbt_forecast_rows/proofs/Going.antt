@@ -3,20 +3,8 @@ use Rattle.std.proofs.Common.{◌≡◌, ℕ, zero, suc, ◌+◌, ◌<◌, max, 
 use Rattle.std.specs.List.{sum_by, count_by}
 use Rattle.std.proofs.lemmas.Bool.Decides.{nat_tests}
 use Rattle.std.proofs.lemmas.List.Sums.{sum_by-cons}
-use Rattle.wbt_counter.specs.History.{at_least_zero}
-use Rattle.wbt_book.specs.Book.{Book}
-use Rattle.wbt_grant.specs.State.{domain_count}
-use Rattle.wbt_trace.specs.declared.trace.Trace.{Trace}
-use Rattle.wbt_journal.specs.Machine.{domains, numbers}
-use Rattle.wbt_journal.specs.Steps.{change_in}
-use Rattle.wbt_journal.specs.Text.{is_fresh, is_done}
+use Rattle.wbt_replay_order.proofs.Common.{at_least_zero, Book, domain_count, Trace, domains, numbers, change_in, is_fresh, is_done, Entry, StepEntry, State, Cpu, setting_of, base_of, bases_of, part_of}
 use Rattle.wbt_journal.specs.declared.entry.CpuJournal.{CpuJournal}
-use Rattle.wbt_journal.specs.declared.entry.Entry.{Entry}
-use Rattle.wbt_journal.specs.declared.step.StepEntry.{StepEntry}
-use Rattle.wbt_replay_moves.specs.Definition.State.{State}
-use Rattle.wbt_replay_moves.specs.declared.state.Cpu.{Cpu}
-use Rattle.wbt_replay_order.specs.Claims.Setting.{setting_of}
-use Rattle.wbt_replay_order.specs.Definition.Run.{base_of, bases_of, part_of}
 use Rattle.wbt_forecast_rows.specs.Between.{IsAfter, HaveGrown, gained, all_gained, entries_of, steps_between, entries_between, checks_between}
 use Rattle.wbt_forecast_rows.specs.Counts.{homes_of, count_after, most_after}
 use Rattle.wbt_forecast_rows.specs.Forecast.{totals_of}

@@ -4,11 +4,7 @@ use Rattle.std.proofs.Math.ListN.{set}
 use Rattle.std.proofs.lemmas.Bool.Decides.{nat_tests}
 use Rattle.std.proofs.lemmas.List.{take_more, take_all, take_more_set, drop-set-lt, drop_more}
 use Rattle.std.proofs.lemmas.List.Elements.{All-append, All-cons}
-use Rattle.wbt_trace.specs.declared.trace.Trace.{Trace}
-use Rattle.wbt_journal.specs.Machine.{page_context}
-use Rattle.wbt_journal.specs.Steps.{is_some_of}
-use Rattle.wbt_journal.specs.declared.entry.CheckEntry.{CheckEntry}
-use Rattle.wbt_journal.specs.declared.entry.Entry.{Entry}
+use Rattle.wbt_replay_order.proofs.Common.{Trace, page_context, is_some_of, CheckEntry, Entry}
 use Rattle.wbt_journal.specs.declared.entry.Entry.TheVariants as entry
 use Rattle.wbt_forecast_rows.specs.Counts.{is_dirtied_in, is_written_in, is_write_by}
 use Rattle.wbt_forecast_rows.specs.Tally.{by_number, context_after, task_after_entries, task_after_checks}

@@ -4,8 +4,7 @@ use Rattle.std.proofs.Math.ListN.{set}
 use Rattle.std.proofs.lemmas.List.{take_more_set, drop-set-lt, drop_more, take_all, drop_all}
 use Rattle.std.proofs.lemmas.List.Elements.{All-head, All-tail, All-cons}
 use Rattle.std.proofs.lemmas.Bool.Decides.{nat_tests}
-use Rattle.wbt_journal.specs.Machine.{numbers}
-use Rattle.wbt_journal.specs.Steps.{is_some_of}
+use Rattle.wbt_replay_order.proofs.Common.{numbers, is_some_of}
 use Rattle.wbt_forecast_rows.specs.Tally.{by_number}
 
 pub length-by_number : {A B : Type 0} (f : ℕ → A → B) (n : ℕ) (xs : List A) → length (by_number f n xs) ≡ length xs

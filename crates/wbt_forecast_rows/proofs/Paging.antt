@@ -5,9 +5,7 @@ use Rattle.std.specs.List.Sorted.{IsPartitionedBy, IsPartitionPoint}
 use Rattle.std.proofs.lemmas.Bool.Decides.{nat_tests}
 use Rattle.std.proofs.lemmas.Grind.{common_steps}
 use Rattle.std.proofs.lemmas.Option.{slice_get_past, slice_get_read}
-use Rattle.wbt_trace.specs.Lawful.{AreFirsts}
-use Rattle.wbt_trace.specs.declared.trace.Inode.{Inode}
-use Rattle.wbt_journal.specs.Machine.{context_among}
+use Rattle.wbt_replay_order.proofs.Common.{AreFirsts, Inode, context_among}
 
 -- all pages of the inode are before this one
 abbrev pub ends_by : (page : ℕ) (inode : Inode) → Bool

@@ -3,12 +3,8 @@ use Rattle.std.proofs.Common.{◌≡◌, ◌≢◌, ⊎_elim, ℕ, zero, suc, �
 use mathlib.Core.Option.{some, some-ne-none}
 use lib.ListN.{get_elem?}
 use Rattle.std.proofs.lemmas.List.{length-replicate}
-use Rattle.wbt_grant.specs.declared.record.CpuRecord.{CpuRecord}
-use Rattle.wbt_table.specs.Calls.{left_seat, right_seat, joined_seat}
-use Rattle.wbt_table.specs.Rule.{Cpus, Has, or_else, merged, without_cpu, apart}
-use Rattle.wbt_table.specs.Seat.{Seated}
+use Rattle.wbt_kit.proofs.Common.{CpuRecord, left_seat, right_seat, joined_seat, Cpus, Has, or_else, merged, without_cpu, apart, Seated, at_less}
 use Rattle.wbt_table.proofs.Joining.{merged_there, merged_else, either_is, there}
-use Rattle.wbt_table.proofs.Lists.{at_less}
 use Rattle.wbt_kit.specs.Kit.{CpusSplit}
 
 module _ {A : Type 0} where

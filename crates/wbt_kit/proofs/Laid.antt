@@ -4,27 +4,20 @@ use Rattle.std.proofs.lemmas.List.{length-map}
 use Rattle.std.proofs.lemmas.List.Elements.{All-nil}
 use Rattle.std.proofs.lemmas.List.Sums.{sum_by-cons}
 use Rattle.wbt_num.specs.Limits.{IsLawful as AreLawful}
-use Rattle.wbt_num.specs.declared.most.TheConstants.{MOST_WRITERS, MOST_CONTEXTS, MOST_PAGES}
-use Rattle.wbt_rules.proofs.Firsts.{first_lawful}
-use Rattle.wbt_trace.specs.Lawful.{IsLawful, IsContext, IsInode, AreFirsts, writers_of}
+use Rattle.wbt_kit.proofs.Common.{MOST_PAGES, first_lawful, IsLawful, AreFirsts, Context, Inode, Trace, domains, first_estimates, first_limits, pages_in, Place, all_writers, place_of, homes_of, layout_of, few_writers}
+use Rattle.wbt_num.specs.declared.most.TheConstants.{MOST_WRITERS, MOST_CONTEXTS}
+use Rattle.wbt_trace.specs.Lawful.{IsContext, IsInode, writers_of}
 use Rattle.wbt_trace.specs.Sofar.{pages_in as trace_pages}
 use Rattle.wbt_trace.specs.WriterList.{is_writer}
-use Rattle.wbt_trace.specs.declared.trace.Context.{Context}
-use Rattle.wbt_trace.specs.declared.trace.Inode.{Inode}
-use Rattle.wbt_trace.specs.declared.trace.Trace.{Trace}
 use Rattle.wbt_trace.specs.declared.writers.Writer.{Writer}
-use Rattle.wbt_journal.specs.Machine.{domains}
 use Rattle.wbt_published.specs.Known.{IsFirst}
 use Rattle.wbt_rules.proofs.Openings.{by_version, by_sound}
-use Rattle.wbt_rules.specs.First.{first_by, first_estimates}
-use Rattle.wbt_rules.specs.Thresholds.{DomainFits, first_limits}
-use Rattle.wbt_table.specs.Layout.{IsLayout, AreInOrder, pages_in}
-use Rattle.wbt_table.specs.declared.layout.Place.{Place}
+use Rattle.wbt_rules.specs.First.{first_by}
+use Rattle.wbt_rules.specs.Thresholds.{DomainFits}
+use Rattle.wbt_table.specs.Layout.{IsLayout, AreInOrder}
 use Rattle.wbt_table.specs.declared.layout.Writer.{Writer as Seat}
-use Rattle.wbt_journal.specs.Side.{all_writers}
 use Rattle.wbt_trace.specs.WriterList.{writers_from, writers_of_task}
-use Rattle.wbt_kit.specs.Opening.{firsts_of, place_of, seated, homes_of, layout_of, sizes_of, inodes_on}
-use Rattle.wbt_journal.proofs.Few.{few_writers}
+use Rattle.wbt_kit.specs.Opening.{firsts_of, seated, sizes_of, inodes_on}
 
 -- ---- lists
 

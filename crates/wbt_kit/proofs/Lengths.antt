@@ -1,7 +1,6 @@
 -- Passes know as many contexts and devices after a split or a join as before.
 use Rattle.std.proofs.Common.{◌≡◌, ℕ, suc, List, [], ◌∷◌, length, refl, ap, arith}
-use Rattle.wbt_published.specs.declared.known.Known.{Known}
-use Rattle.wbt_published.specs.Passes.{all_left, all_handed, all_joined}
+use Rattle.wbt_kit.proofs.Common.{Known, all_left, all_handed, all_joined}
 use Rattle.wbt_queue.specs.declared.known.Known.{Known as Part}
 use Rattle.wbt_queue.specs.Passes.{all_joined as all_parts}
 

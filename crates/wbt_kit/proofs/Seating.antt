@@ -1,16 +1,10 @@
 -- Seats after a split and after a join are seats at the kit.
 use Rattle.std.proofs.Common.{◌≡◌, ℕ, Bool, true, false, cond, eqb, None, length, map, replicate, refl, ap, sym, ◌∙◌}
 use Rattle.std.proofs.lemmas.List.{length-map}
-use Rattle.wbt_fraction.specs.Several.{IsSeatOf, Seats as ShareSeats}
-use Rattle.wbt_published.specs.Passes.{all_left, all_handed, all_joined, Seats as EstPass}
-use Rattle.wbt_queue.specs.Known.{accompanied, newcomer}
+use Rattle.wbt_kit.proofs.Common.{IsSeatOf, all_left, all_handed, all_joined, accompanied, newcomer, left_seat, right_seat, joined_seat, Seated, without_cpu, apart, Layout, length-merged, AreSeatsOf, HasOwners}
+use Rattle.wbt_fraction.specs.Several.{Seats as ShareSeats}
+use Rattle.wbt_published.specs.Passes.{Seats as EstPass}
 use Rattle.wbt_queue.specs.Passes.{all_joined as all_parts, Seats as QueuePass}
-use Rattle.wbt_table.specs.Calls.{left_seat, right_seat, joined_seat}
-use Rattle.wbt_table.specs.Seat.{Seated}
-use Rattle.wbt_table.specs.Rule.{without_cpu, apart}
-use Rattle.wbt_table.specs.declared.layout.Layout.{Layout}
-use Rattle.wbt_table.proofs.Joining.{length-merged}
-use Rattle.wbt_kit.specs.Kit.{AreSeatsOf, HasOwners}
 use Rattle.wbt_kit.specs.declared.kit.Kit.{Kit}
 use Rattle.wbt_kit.specs.declared.kit.Seats.{Seats}
 use Rattle.wbt_kit.proofs.Joining as cpus

@@ -1,13 +1,11 @@
 -- What was split and is joined again is what it was, part by part.
 use Rattle.std.proofs.Common.{◌≡◌, ℕ, List, length, map, ap, ap₂, ◌∙◌, subst}
-use Rattle.wbt_fraction.specs.Several.{Shared, Seats as ShareSeats, IsSeatOf, HasRoom, HasTotalRoom, AllJoined, IsTotalJoined, left_of, right_of, total_left, total_right}
+use Rattle.wbt_kit.proofs.Common.{IsSeatOf, AllJoined, right_of, total_right, TotalSeated, all_left, all_handed, all_joined, left_seat, right_seat, joined_seat, Seated}
+use Rattle.wbt_fraction.specs.Several.{Shared, Seats as ShareSeats, HasRoom, HasTotalRoom, IsTotalJoined, left_of, total_left}
 use Rattle.wbt_fraction.specs.Seat.{Seated as ShareSeat}
-use Rattle.wbt_fraction.specs.Totals.{TotalSeated}
 use Rattle.wbt_fraction.proofs.Parting.{undone as shares_undone}
-use Rattle.wbt_published.specs.Passes.{Seats as EstPass, all_left, all_handed, all_joined}
+use Rattle.wbt_published.specs.Passes.{Seats as EstPass}
 use Rattle.wbt_published.proofs.Undoing.{undone as estimates_undone}
-use Rattle.wbt_table.specs.Calls.{left_seat, right_seat, joined_seat}
-use Rattle.wbt_table.specs.Seat.{Seated}
 use Rattle.wbt_kit.proofs.Joining.{split_is_undone}
 
 pub cpus_back : (cpu : ℕ) (old mid one new : Seated) → mid ≡ left_seat cpu old → one ≡ right_seat cpu old → new ≡ joined_seat mid one → new ≡ old

@@ -1,22 +1,10 @@
 -- What holds of the run of every lawful trace.
 use Rattle.std.proofs.Common.{◌≡◌, ℕ, length}
-use Rattle.wbt_trace.specs.Lawful.{IsLawful}
-use Rattle.wbt_trace.specs.declared.trace.Trace.{Trace}
+use Rattle.wbt_replay_order.proofs.Common.{IsLawful, Trace, FlushersAreInTurn, FoundWereDirtied, LedgerIsEven, LeftIsBounded, LeftPagesAreThere, WritesAreInOrder, WaitsAreOwn, IsBounded, IsBoundedCloser, IsCounted, PeaksArePrinted, PrintsBound, HasEnded, AreCleaned, AreDecided, TellsLeft, IsFollowed, NeverFails, IsWhole, most_moves, state_at, last_state, journal_of, Sound, HasRoom, ChecksFit, CompletesAll, AgedWereDue, StaysInRange}
 use Rattle.wbt_journal.specs.Lawful as law
-use Rattle.wbt_journal.specs.Lawful.{FlushersAreInTurn, FoundWereDirtied, LedgerIsEven, LeftIsBounded, LeftPagesAreThere, WritesAreInOrder, WaitsAreOwn}
 use Rattle.wbt_journal.specs.declared.journal.Ending.TheVariants as ending
-use Rattle.wbt_replay_order.specs.Claims.Bound.{IsBounded, IsBoundedCloser, IsCounted, PeaksArePrinted, PrintsBound, HasEnded}
-use Rattle.wbt_replay_order.specs.Claims.Cleaned.{AreCleaned}
-use Rattle.wbt_replay_order.specs.Claims.Decided.{AreDecided}
 use Rattle.wbt_replay_order.specs.Claims.Ending.{EndsSo}
-use Rattle.wbt_replay_order.specs.Claims.Left.{TellsLeft}
-use Rattle.wbt_replay_order.specs.Claims.Path.{IsFollowed}
 use Rattle.wbt_replay_order.specs.Claims.Strict.{StaysWithinStrict}
-use Rattle.wbt_replay_order.specs.Claims.Unfailing.{NeverFails}
-use Rattle.wbt_replay_order.specs.Claims.Whole.{IsWhole}
-use Rattle.wbt_replay_order.specs.Definition.Run.{most_moves, state_at, last_state, journal_of}
-use Rattle.wbt_replay_order.specs.Kept.Sound.{Sound, HasRoom}
-use Rattle.wbt_replay_order.specs.Kept.Strict.{ChecksFit}
 use Rattle.wbt_replay_points.proofs.Claims.Endings.{ends_so as so_ends}
 use Rattle.wbt_replay_points.proofs.Claims.Together as claims
 use Rattle.wbt_replay_order.proofs.Facts.Facts.{facts}
@@ -25,9 +13,6 @@ use Rattle.wbt_replay_points.proofs.Lawful.Journal as points
 use Rattle.wbt_replay_points.proofs.StrictLines.Fitting.{checks_fit as fit}
 use Rattle.wbt_replay_points.proofs.StrictLines.Within.{stays_within}
 use Rattle.wbt_replay.specs.Claims.{AreAccounted, EndsByItself, GoesInOrder, HasPoints, StaysWithin}
-use Rattle.wbt_replay_order.specs.Claims.Complete.{CompletesAll}
-use Rattle.wbt_replay_order.specs.Claims.Ages.{AgedWereDue}
-use Rattle.wbt_replay_order.specs.Kept.InRange.{StaysInRange}
 use Rattle.wbt_replay_ranges.proofs.InRange.{stays_in_range}
 use Rattle.wbt_replay_path.proofs.Following.{is_followed}
 use Rattle.wbt_replay_ends.proofs.Ended.{runs_end, ending_at, runs_complete}

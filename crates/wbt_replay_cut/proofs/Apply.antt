@@ -1,31 +1,12 @@
 -- A change makes of the cut state the cut of what it makes of the whole one.
 use Rattle.std.proofs.Common.{◌≡◌, ℕ, zero, suc, ◌+◌, ◌==◌, Bool, true, false, cond, ℤ, pos, ◌+ℤ◌, unsigned_abs, fold, List, [], ◌∷◌, set, refl, ap}
-use Rattle.wbt_trace.specs.declared.trace.Trace.{Trace}
-use Rattle.wbt_counter.specs.declared.counter.Count.{Count}
-use Rattle.wbt_counter.specs.declared.counter.Counter.{Counter}
-use Rattle.wbt_counter.specs.declared.counter.Counter.TheVariants.{Domain, Context}
+use Rattle.wbt_replay_order.proofs.Common.{Trace, Count, Counter, Context, batch_of, Entry, EstEntry, StepEntry, page_of, context_of, counted, fold_of, word_of, holds, count_kept, do_next, do_last, at_turn, logged, checked, estimated, own_of, with_own, added, State, cpu_of, with_cpu, task_of, domain_of, writeback_of, over_noted, counted_local, counted_page, leaked, Cpu, Todo, passes, apply, apply_all, Change, CpuChange, FlusherChange}
+use Rattle.wbt_counter.specs.declared.counter.Counter.TheVariants.{Domain}
 use Rattle.wbt_grant.specs.declared.who.StepKind.TheVariants as kind
-use Rattle.wbt_journal.specs.Machine.{batch_of}
-use Rattle.wbt_journal.specs.declared.entry.Entry.{Entry}
 use Rattle.wbt_journal.specs.declared.entry.Entry.TheVariants as entry
-use Rattle.wbt_journal.specs.declared.entry.EstEntry.{EstEntry}
-use Rattle.wbt_journal.specs.declared.step.StepEntry.{StepEntry}
 use Rattle.wbt_journal.specs.declared.timer.TimerEntry.TheVariants as timer_entry
-use Rattle.wbt_rules.specs.Places.{page_of}
-use Rattle.wbt_rules.specs.Things.{context_of}
-use Rattle.wbt_replay_moves.specs.Definition.Counters.{counted, fold_of, word_of, holds, count_kept}
-use Rattle.wbt_replay_moves.specs.Definition.Cpu.{do_next, do_last, at_turn, logged, checked, estimated, own_of, with_own, added}
-use Rattle.wbt_replay_moves.specs.Definition.State.{State, cpu_of, with_cpu, task_of, domain_of, writeback_of}
-use Rattle.wbt_replay_moves.specs.Definition.Weigh.{over_noted}
-use Rattle.wbt_replay_moves.specs.Definition.Writer.{counted_local, counted_page, leaked}
-use Rattle.wbt_replay_moves.specs.declared.state.Cpu.{Cpu}
-use Rattle.wbt_replay_moves.specs.declared.todo.Todo.{Todo}
-use Rattle.wbt_replay_changes.specs.Apply.{passes, apply, apply_all}
-use Rattle.wbt_replay_changes.specs.Change.{Change}
 use Rattle.wbt_replay_changes.specs.Change as change
-use Rattle.wbt_replay_changes.specs.Change.Cpu.{CpuChange}
 use Rattle.wbt_replay_changes.specs.Change.Cpu as cpu_change
-use Rattle.wbt_replay_changes.specs.Change.Flusher.{FlusherChange}
 use Rattle.wbt_replay_changes.specs.Change.Flusher as flusher_change
 use Rattle.wbt_replay_changes.specs.Change.Timer.{TimerChange}
 use Rattle.wbt_replay_changes.specs.Change.Timer as timer_change

@@ -1,10 +1,7 @@
 -- Lists that are cut, and CPUs by their numbers in such a list.
 use Rattle.std.proofs.Common.{◌≡◌, ℕ, zero, suc, ◌≤◌, List, [], ◌∷◌, ◌++◌, map, length, get_or, drop, set, replicate, refl, sym, ◌∙◌, ap, append_assoc, length-append, length-drop, arith}
 use Rattle.std.proofs.lemmas.List.{length-replicate, drop_all, drop-append-le, length_push, map_push}
-use Rattle.wbt_journal.specs.declared.entry.Entry.{Entry}
-use Rattle.wbt_journal.specs.declared.step.StepEntry.{StepEntry}
-use Rattle.wbt_replay_moves.specs.Definition.State.{no_cpu, no_step}
-use Rattle.wbt_replay_moves.specs.declared.state.Cpu.{Cpu}
+use Rattle.wbt_replay_order.proofs.Common.{Entry, StepEntry, no_cpu, no_step, Cpu}
 use Rattle.wbt_replay_cut.specs.Cut.{Told, of_others, cut_steps, renamed, cut_cpu, cut_cpus}
 
 -- ---- a list that grows

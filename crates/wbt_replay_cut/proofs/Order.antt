@@ -1,24 +1,13 @@
 -- Who makes the next move, and when the run ends, is the same in the cut state.
 use Rattle.std.proofs.Common.{◌≡◌, ℕ, zero, suc, ◌+◌, ◌-◌, ◌==◌, ◌&&◌, ◌||◌, Bool, true, false, cond, if◌then◌else◌, nat_lt, List, [], ◌∷◌, length, get_or, count_by, Option, Some, None, refl, sym, ◌∙◌, ap, subst, subst₂}
-use Rattle.wbt_trace.specs.declared.trace.Trace.{Trace}
-use Rattle.wbt_replay_moves.specs.Definition.Perform.{make_step, make_move, make_timer_step, make_timer_move, begin_turn}
-use Rattle.wbt_replay_moves.specs.Definition.State.{State, cpu_of, with_cpu}
-use Rattle.wbt_replay_moves.specs.Definition.Timer.{with_timer}
-use Rattle.wbt_replay_moves.specs.declared.state.Actor.{Actor}
+use Rattle.wbt_replay_order.proofs.Common.{Trace, make_step, make_move, make_timer_step, make_timer_move, begin_turn, State, cpu_of, with_cpu, with_timer, Actor, Cpu, ReplayJob, Stretch, Whose, Step, TimerTodo, Todo, after, cpu_ahead, ahead_of, task_turn, is_nothing, seek_job, cpu_turn, turn_at, job_at, is_full, is_halted, stop, step_or_stop, cpu_on, timer_on, go_on, begin_job, begin, with_orders, begin_or_drop, follow, next_moment, at_moment, actor_at, place_after, chance_by, chance_of, take, take_turn, seek_turn, next_turn, finish_turn, rotate_from, advance_by, advance, is_ended, run}
 use Rattle.wbt_replay_moves.specs.declared.state.Actor.TheVariants as actor
-use Rattle.wbt_replay_moves.specs.declared.state.Cpu.{Cpu}
-use Rattle.wbt_replay_moves.specs.declared.state.ReplayJob.{ReplayJob}
 use Rattle.wbt_replay_moves.specs.declared.state.ReplayJob.TheVariants as job
-use Rattle.wbt_replay_moves.specs.declared.state.Stretch.{Stretch}
 use Rattle.wbt_replay_moves.specs.declared.state.Stretch.TheVariants as stretch
-use Rattle.wbt_replay_moves.specs.declared.state.Whose.{Whose}
 use Rattle.wbt_replay_moves.specs.declared.state.Whose.TheVariants as whose
-use Rattle.wbt_replay_moves.specs.declared.todo.Step.{Step}
-use Rattle.wbt_replay_moves.specs.declared.todo.TimerTodo.{TimerTodo}
 use Rattle.wbt_replay_moves.specs.declared.todo.TimerTodo.TheVariants as timer_todo
-use Rattle.wbt_replay_moves.specs.declared.todo.Todo.{Todo}
 use Rattle.wbt_replay_moves.specs.declared.todo.Todo.TheVariants as todo
-use Rattle.wbt_replay_order.specs.Definition.Order.{after, cpu_ahead, ahead_of, task_turn, is_nothing, seek_job, cpu_turn, turn_at, job_at, is_full, is_halted, is_working, stop, step_or_stop, cpu_on, timer_on, go_on, begin_job, begin, with_orders, begin_or_drop, follow, next_moment, at_moment, actor_at, place_after, chance_by, chance_of, take, take_turn, seek_turn, next_turn, finish_turn, rotate_from, advance_by, advance, is_ended, run}
+use Rattle.wbt_replay_order.specs.Definition.Order.{is_working}
 use Rattle.wbt_replay_order.specs.declared.chance.Ahead.{Ahead}
 use Rattle.wbt_replay_order.specs.declared.chance.Ahead.TheVariants as ahead
 use Rattle.wbt_replay_order.specs.declared.chance.Chance.{Chance}

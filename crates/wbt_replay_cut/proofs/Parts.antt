@@ -1,17 +1,9 @@
 -- Each part of a state that is the cut of another one: its steps, its CPUs and its timer; and the state, which is made of them.
 use Rattle.std.proofs.Common.{◌≡◌, ℕ, ◌≤◌, List, [], ◌∷◌, ◌++◌, length, get_or, set, refl, sym, ◌∙◌, ap, ap₂, subst}
 use Rattle.std.proofs.lemmas.List.{drop-append-le, length-drop}
-use Rattle.wbt_journal.specs.declared.entry.CheckEntry.{CheckEntry}
-use Rattle.wbt_journal.specs.declared.entry.Entry.{Entry}
+use Rattle.wbt_replay_order.proofs.Common.{CheckEntry, Entry, EstEntry, StepEntry, TimerEntry, logged, checked, estimated, State, no_cpu, cpu_of, Cpu, Timer}
 use Rattle.wbt_journal.specs.declared.entry.Entry.TheVariants as entry
-use Rattle.wbt_journal.specs.declared.entry.EstEntry.{EstEntry}
-use Rattle.wbt_journal.specs.declared.step.StepEntry.{StepEntry}
-use Rattle.wbt_journal.specs.declared.timer.TimerEntry.{TimerEntry}
-use Rattle.wbt_replay_moves.specs.Definition.Cpu.{logged, checked, estimated}
-use Rattle.wbt_replay_moves.specs.Definition.State.{State, no_cpu, cpu_of}
 use Rattle.wbt_replay_moves.specs.Definition.Timer.{timer_logged}
-use Rattle.wbt_replay_moves.specs.declared.state.Cpu.{Cpu}
-use Rattle.wbt_replay_moves.specs.declared.state.Timer.{Timer}
 use Rattle.wbt_replay_cut.specs.Cut.{Told, cut_steps, renamed, cut_cpu, cut_cpus, cut_timer, cut, CpuIsWithin, IsWithin}
 use Rattle.wbt_replay_cut.proofs.Lists.{longer, steps_grow, entries_grow, cut_at, cut_set, each_set}
 

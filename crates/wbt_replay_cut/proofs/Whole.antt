@@ -1,11 +1,9 @@
 -- What is cut, and what stands.
 use Rattle.std.proofs.Common.{◌≡◌, ℕ, ◌-◌, ◌≤◌, List, [], ◌∷◌, ◌++◌, map, length, get_or, drop, replicate, refl, sym, ◌∙◌, ap, ap₂, append-nil, get_or-drop, arith}
 use Rattle.std.proofs.lemmas.List.{length-replicate, drop_all, drop_at}
-use Rattle.wbt_journal.specs.declared.step.StepEntry.{StepEntry}
-use Rattle.wbt_replay_moves.specs.Definition.State.{State, no_step, cpu_of}
-use Rattle.wbt_replay_moves.specs.declared.state.Cpu.{Cpu}
+use Rattle.wbt_replay_order.proofs.Common.{StepEntry, State, no_step, cpu_of, Cpu, forgotten}
 use Rattle.wbt_replay_cut.specs.Cut.{Told, of_others, all_of, renamed, cut_cpu, cut_cpus, cut, IsWithin}
-use Rattle.wbt_replay_moves.specs.Definition.Forget.{bare, forgotten}
+use Rattle.wbt_replay_moves.specs.Definition.Forget.{bare}
 use Rattle.wbt_replay_cut.specs.Laws.{ForgottenIsCut, CpuStands, OthersStand}
 use Rattle.wbt_replay_cut.proofs.Lists.{steps_stay, cut_at, cpus_stay}
 

@@ -1,12 +1,6 @@
 -- How a run whose states are in range ends.
 use Rattle.std.proofs.Common.{ℕ}
-use Rattle.wbt_trace.specs.Lawful.{IsLawful}
-use Rattle.wbt_trace.specs.declared.trace.Trace.{Trace}
-use Rattle.wbt_replay_order.specs.Claims.Bound.{HasEnded}
-use Rattle.wbt_replay_order.specs.Claims.Complete.{CompletesAll}
-use Rattle.wbt_replay_order.specs.Definition.Run.{state_at}
-use Rattle.wbt_replay_order.specs.Kept.Ending.{Ending}
-use Rattle.wbt_replay_order.specs.Kept.InRange.{IsInRange, StaysInRange}
+use Rattle.wbt_replay_order.proofs.Common.{IsLawful, Trace, HasEnded, CompletesAll, state_at, Ending, IsInRange, StaysInRange}
 use Rattle.wbt_replay_order.proofs.Facts.Facts.{facts}
 use Rattle.wbt_replay_ends.proofs.Ends.Runs as ends
 use Rattle.wbt_replay_ends.proofs.Waiting.Over.{completes_all}

@@ -1,9 +1,5 @@
 -- A run whose states are in range follows the step relation.
-use Rattle.wbt_trace.specs.Lawful.{IsLawful}
-use Rattle.wbt_trace.specs.declared.trace.Trace.{Trace}
-use Rattle.wbt_replay_order.specs.Claims.Bound.{HasEnded}
-use Rattle.wbt_replay_order.specs.Claims.Path.{IsFollowed}
-use Rattle.wbt_replay_order.specs.Kept.InRange.{IsInRange, StaysInRange}
+use Rattle.wbt_replay_order.proofs.Common.{IsLawful, Trace, HasEnded, IsFollowed, IsInRange, StaysInRange}
 use Rattle.wbt_replay_order.proofs.Facts.Facts.{facts}
 use Rattle.wbt_replay_order.proofs.Facts.Settings.{setting_is, pair_of}
 use Rattle.wbt_replay_path.proofs.Follow.Whole as path

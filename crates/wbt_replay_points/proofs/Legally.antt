@@ -1,17 +1,8 @@
 -- The journal of a run that is in range, follows the step relation and ends is legal, and lawful where the run isn't spent.
 use Rattle.std.proofs.Common.{◌≡◌, ℕ}
-use Rattle.wbt_trace.specs.Lawful.{IsLawful}
-use Rattle.wbt_trace.specs.declared.trace.Trace.{Trace}
+use Rattle.wbt_replay_order.proofs.Common.{IsLawful, Trace, HasEnded, AreCleaned, CompletesAll, AreDecided, IsFollowed, IsWhole, state_at, journal_of, Sound}
 use Rattle.wbt_journal.specs.Lawful as law
 use Rattle.wbt_journal.specs.declared.journal.Ending.TheVariants as ending
-use Rattle.wbt_replay_order.specs.Claims.Bound.{HasEnded}
-use Rattle.wbt_replay_order.specs.Claims.Cleaned.{AreCleaned}
-use Rattle.wbt_replay_order.specs.Claims.Complete.{CompletesAll}
-use Rattle.wbt_replay_order.specs.Claims.Decided.{AreDecided}
-use Rattle.wbt_replay_order.specs.Claims.Path.{IsFollowed}
-use Rattle.wbt_replay_order.specs.Claims.Whole.{IsWhole}
-use Rattle.wbt_replay_order.specs.Definition.Run.{state_at, journal_of}
-use Rattle.wbt_replay_order.specs.Kept.Sound.{Sound}
 use Rattle.wbt_replay_points.proofs.Claims.Together as claims
 use Rattle.wbt_replay_points.proofs.Lawful.Journal as points
 

@@ -1,10 +1,6 @@
 -- Each state of a run is in range.
 use Rattle.std.proofs.Common.{ℕ}
-use Rattle.wbt_trace.specs.Lawful.{IsLawful}
-use Rattle.wbt_trace.specs.declared.trace.Trace.{Trace}
-use Rattle.wbt_replay_order.specs.Definition.Opening.{opening}
-use Rattle.wbt_replay_order.specs.Definition.Run.{state_at}
-use Rattle.wbt_replay_order.specs.Kept.InRange.{IsInRange, StaysInRange}
+use Rattle.wbt_replay_order.proofs.Common.{IsLawful, Trace, opening, state_at, IsInRange, StaysInRange}
 use Rattle.wbt_replay_order.proofs.Facts.Facts.{facts}
 use Rattle.wbt_replay_order.proofs.Outset.Sound.{opening_sound, opening_room}
 use Rattle.wbt_replay_ranges.proofs.Sound.Advances.{sound_kept, state_sound}

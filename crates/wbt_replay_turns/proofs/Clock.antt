@@ -1,22 +1,13 @@
 -- The clock moves by tick lines, and where nobody can do anything, and at no other time.
 use Rattle.std.proofs.Common.{◌≡◌, ◌⊎◌, inl, inr, ℕ, zero, suc, ◌+◌, ◌≤◌, false, true≢false, List, [], ◌∷◌, length, Option, Some, None, ⊎_elim, refl, sym, ◌∙◌, ap, subst, arith}
 use Rattle.std.proofs.lemmas.Bool.{cases_Bool, cases_eq}
-use Rattle.wbt_trace.specs.Lawful.{IsLawful}
-use Rattle.wbt_trace.specs.declared.trace.Trace.{Trace}
-use Rattle.wbt_replay_moves.specs.Definition.State.{State}
-use Rattle.wbt_replay_moves.specs.declared.state.Actor.{Actor}
-use Rattle.wbt_replay_moves.specs.declared.state.Stretch.{Stretch}
+use Rattle.wbt_replay_order.proofs.Common.{IsLawful, Trace, State, Actor, Stretch, HasEnded, opening, opening_moment, actor_at, ahead_of, chance_by, chance_of, turn_at, is_nothing, with_orders, begin_or_drop, follow, next_moment, at_moment, move_clock, place_after, take_turn, next_turn, finish_turn, rotate_from, advance_by, advance, is_ended, state_at, StaysInRange}
 use Rattle.wbt_replay_moves.specs.declared.state.Stretch.TheVariants as stretch
-use Rattle.wbt_replay_order.specs.Claims.Bound.{HasEnded}
-use Rattle.wbt_replay_order.specs.Definition.Opening.{opening, opening_moment}
 use Rattle.wbt_replay_order.specs.Definition.Order as order
-use Rattle.wbt_replay_order.specs.Definition.Order.{actor_at, ahead_of, chance_by, chance_of, turn_at, is_nothing, with_orders, begin_or_drop, follow, next_moment, at_moment, move_clock, place_after, take_turn, next_turn, finish_turn, rotate_from, advance_by, advance, is_ended}
-use Rattle.wbt_replay_order.specs.Definition.Run.{state_at}
 use Rattle.wbt_replay_order.specs.declared.chance.Ahead.{Ahead}
 use Rattle.wbt_replay_order.specs.declared.chance.Ahead.TheVariants as ahead
 use Rattle.wbt_replay_order.specs.declared.chance.Chance.{Chance}
 use Rattle.wbt_replay_order.specs.declared.chance.Chance.TheVariants as chance
-use Rattle.wbt_replay_order.specs.Kept.InRange.{StaysInRange}
 use Rattle.wbt_replay_order.proofs.Facts.Actors.{place_below}
 use Rattle.wbt_replay_order.proofs.Facts.Facts.{facts}
 use Rattle.wbt_replay_order.proofs.Growth.Runs.{run_last, run_stays}

@@ -2,12 +2,9 @@
 use Rattle.std.proofs.Common.{◌≡◌, ℕ, zero, suc, ◌<◌, ◌≤◌, min, false, ltb, List, [], ◌∷◌, length, get_or, Option, Some, None, ⊎_elim, refl, sym, subst, arith}
 use Rattle.std.proofs.lemmas.Bool.{cases_lt, cond-false}
 use Rattle.std.proofs.lemmas.Bool.Decides.{nat_tests}
-use Rattle.wbt_replay_moves.specs.Definition.State.{State, no_task, no_flusher, is_drained}
-use Rattle.wbt_replay_moves.specs.declared.state.Flusher.{Flusher}
-use Rattle.wbt_replay_moves.specs.declared.state.ReplayPhase.{ReplayPhase}
+use Rattle.wbt_replay_order.proofs.Common.{State, no_task, no_flusher, is_drained, Flusher, ReplayPhase, ReplayTask, sooner, task_sooner, phase_sooner, tasks_sooner, flushers_sooner, next_moment}
 use Rattle.wbt_replay_moves.specs.declared.state.ReplayPhase.TheVariants as phase
-use Rattle.wbt_replay_moves.specs.declared.state.ReplayTask.{ReplayTask}
-use Rattle.wbt_replay_order.specs.Definition.Order.{sooner, task_sooner, phase_sooner, tasks_sooner, flushers_sooner, timer_sooner, next_moment}
+use Rattle.wbt_replay_order.specs.Definition.Order.{timer_sooner}
 use Rattle.wbt_replay_order.proofs.Facts.Lists.{either}
 use Rattle.wbt_replay_turns.specs.Clock.{EndsAt, IsNextMoment, rest, idle, flight, wait}
 

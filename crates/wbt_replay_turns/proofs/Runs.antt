@@ -1,11 +1,7 @@
 -- A run that ends makes no move that changes nothing.
 use Rattle.std.proofs.Common.{◌≡◌, ℕ, zero, suc, ◌+◌, ◌-◌, true, false, refl, sym, ◌∙◌, ap, arith, ⊎_elim}
 use Rattle.std.proofs.lemmas.Bool.{cases_Bool, cases_lt}
-use Rattle.wbt_trace.specs.declared.trace.Trace.{Trace}
-use Rattle.wbt_replay_moves.specs.Definition.State.{State}
-use Rattle.wbt_replay_order.specs.Definition.Opening.{opening}
-use Rattle.wbt_replay_order.specs.Definition.Order.{advance, is_ended, run}
-use Rattle.wbt_replay_order.specs.Definition.Run.{most_moves, state_at}
+use Rattle.wbt_replay_order.proofs.Common.{Trace, State, opening, advance, is_ended, run, most_moves, state_at}
 use Rattle.wbt_replay_order.proofs.Growth.Runs.{run_none, run_ended, run_more}
 
 -- so many moves, and then so many more

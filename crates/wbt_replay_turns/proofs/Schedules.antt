@@ -3,9 +3,8 @@ use Rattle.std.proofs.Common.{◌≡◌, ◌⊎◌, inl, inr, ℕ, ◌+◌, List
 use Rattle.std.proofs.lemmas.Bool.{cases_lt}
 use Rattle.std.proofs.lemmas.List.{length-map}
 use Rattle.std.proofs.lemmas.List.Elements.{All-nil, All-cons, All-head, All-tail}
-use Rattle.wbt_trace.specs.Lawful.{IsOrder, IsLawful}
-use Rattle.wbt_trace.specs.declared.trace.Trace.{Trace}
-use Rattle.wbt_replay_moves.specs.declared.state.Actor.{Actor}
+use Rattle.wbt_replay_order.proofs.Common.{IsLawful, Trace, Actor}
+use Rattle.wbt_trace.specs.Lawful.{IsOrder}
 use Rattle.wbt_replay_moves.specs.declared.state.Actor.TheVariants as who
 use Rattle.wbt_replay_turns.specs.Lines.{IsMadeBy, Stops, Fulfils, Obeys, ObeysOrder}
 use Rattle.wbt_replay_turns.specs.Schedules.{Choice, step, tick, IsChoice, IsSchedule, line_of, scheduled, lines_of, MakesSteps, IsShown}

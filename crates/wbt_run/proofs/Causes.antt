@@ -4,34 +4,17 @@ use Rattle.std.proofs.lemmas.Bool.{lt-ltb}
 use Rattle.std.specs.List.{count_by}
 use Rattle.std.proofs.lemmas.List.Sums.{sum_by-cons}
 use Rattle.wbt_flusher.specs.Plans.{IsPlanOf}
-use Rattle.wbt_flusher.specs.Sights.{phase_by, shown_by}
-use Rattle.wbt_flusher.specs.declared.work.Phase.{Phase}
-use Rattle.wbt_flusher.specs.declared.work.Phase.TheVariants.{Failed, Idle, Scanning, Flying, Returning}
-use Rattle.wbt_grant.specs.declared.record.CpuRecord.{CpuRecord}
-use Rattle.wbt_io.specs.Faults.{HasRisenBy}
-use Rattle.wbt_journal.specs.Each.{Each}
+use Rattle.wbt_run_worker.proofs.Common.{phase_by, shown_by, Phase, Failed, CpuRecord, HasRisenBy, Each, is_fault, CpuJournal, MOST_PAGE_STEPS, HasNoPageSteps, setting, FlusherLine, Trace, Kit, Seats, IsPost, AnyOf, AreApart, Seen, Team, failed_in, faults_in, flusher_at, seen, team_of, record_is, Shown, ShownFlusher, none_shown}
+use Rattle.wbt_flusher.specs.declared.work.Phase.TheVariants.{Idle, Scanning, Flying, Returning}
+use Rattle.wbt_kit.proofs.Common.{MOST_FAULTS}
 use Rattle.wbt_journal.specs.Flights as flights
-use Rattle.wbt_journal.specs.Leaves.{is_fault}
 use Rattle.wbt_journal.specs.Told.{told as told_by}
-use Rattle.wbt_journal.specs.declared.entry.CpuJournal.{CpuJournal}
-use Rattle.wbt_kit.specs.declared.kit.Kit.{Kit}
-use Rattle.wbt_kit.specs.declared.kit.Seats.{Seats}
-use Rattle.wbt_num.specs.declared.most.TheConstants.{MOST_PAGE_STEPS}
-use Rattle.wbt_rules.specs.declared.moments.TheConstants.{MOST_FAULTS}
-use Rattle.wbt_run_worker.specs.Side.{IsPost}
-use Rattle.wbt_run_worker.specs.Team.{AnyOf, AreApart, Seen, Team, failed_in, faults_in, flusher_at, seen, team_of}
 use Rattle.wbt_run_worker.specs.declared.side.CpuSide.{CpuSide}
 use Rattle.wbt_run_worker.specs.declared.side.End.{End}
 use Rattle.wbt_run_worker.specs.declared.side.End.TheVariants.{Ended, Halted, Faulted, Spent, Refused, Stopped}
 use Rattle.wbt_run_worker.specs.declared.side.Post.{Post}
 use Rattle.wbt_run_worker.specs.declared.side.Stand.TheVariants.{Out}
-use Rattle.wbt_run_steps.proofs.Changing.{record_is}
-use Rattle.wbt_table.specs.Calls.{HasNoPageSteps}
-use Rattle.wbt_table.specs.Layout.{setting}
-use Rattle.wbt_trace.specs.declared.trace.FlusherLine.{FlusherLine}
-use Rattle.wbt_trace.specs.declared.trace.Trace.{Trace}
 use Rattle.wbt_run_laws.specs.Phases.{is_failed}
-use Rattle.wbt_run_laws.specs.Shown.{Shown, ShownFlusher, none_shown}
 use Rattle.wbt_run_laws.specs.Worked.{NoneFailed, SomeFailed, SomeSpent}
 use Rattle.wbt_run_drain.specs.Ends.{Any, EndsSo, GoesOn as PostGoesOn, HasEnded, HaveEnded, IsOut, NoneEnds, SomeEnds}
 use Rattle.wbt_run_drain.specs.Standing.{AreStanding, EndsBy, HasFailed, OutBy, SideStands}

@@ -1,17 +1,12 @@
 -- Who was told to stop, from the end of the workers to that of the run.
 use Rattle.std.proofs.Common.{◌≡◌, ◌⊎◌, ⊎_elim, ℕ, suc, ◌<◌, Bool, true, false, true≢false, List, [], ◌∷◌, length, get_or, Option, sym, ◌∙◌, subst, arith}
-use Rattle.wbt_journal.specs.Each.{Each}
-use Rattle.wbt_kit.specs.declared.kit.Kit.{Kit}
-use Rattle.wbt_kit.specs.declared.kit.Seats.{Seats}
-use Rattle.wbt_run_laws.proofs.Lists.{each_weaker}
-use Rattle.wbt_run_worker.specs.Team.{seen}
+use Rattle.wbt_run_worker.proofs.Common.{Each, Trace, Kit, Seats, each_weaker, seen}
 use Rattle.wbt_run_worker.specs.declared.side.CpuSide.{CpuSide}
 use Rattle.wbt_run_worker.specs.declared.side.End.{End}
 use Rattle.wbt_run_worker.specs.declared.side.End.TheVariants.{Ended, Faulted, Spent, Refused, Stopped}
 use Rattle.wbt_run_worker.specs.declared.side.Post.{Post}
 use Rattle.wbt_run_worker.specs.declared.side.Stand.TheVariants.{Out}
 use Rattle.wbt_run_worker.proofs.Lists.{each_at}
-use Rattle.wbt_trace.specs.declared.trace.Trace.{Trace}
 use Rattle.wbt_run_drain.specs.Ends.{Any, EndsSo, HasCauseToStop, HasEnded, HaveEnded, IsOut, SomeEnds}
 use Rattle.wbt_run_drain.specs.Standing.{AreStanding, NoneStopped, OutBy}
 use Rattle.wbt_run_first.specs.Voiced.{OutForCause, StopsForCause}

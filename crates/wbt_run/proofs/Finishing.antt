@@ -1,44 +1,19 @@
 -- From where the sides of all CPUs stand, with all notes together: the workers have worked as a lawful journal asks.
 use Rattle.std.proofs.Common.{◌≡◌, ℕ, zero, suc, ◌<◌, ◌≤◌, min, Bool, true, false, List, [], ◌∷◌, ◌++◌, get_or, Option, Ok, sym, ap, ◌∙◌, subst}
 use Rattle.std.proofs.Math.Path.{fun_ext}
-use Rattle.wbt_run_seats.specs.Gathered.{AreGathered, no_notes}
-use Rattle.wbt_run_seats.specs.Parts.{noted, owner_of}
-use Rattle.wbt_fraction.specs.Several.{AllJoined, KeepsStakes, Seats as ShareSeats}
-use Rattle.wbt_fraction.specs.declared.domain.note.Note.{Note}
+use Rattle.wbt_run_worker.proofs.Common.{AreGathered, noted, owner_of, Each, contexts, domains, CpuJournal, Ending, TimerEntry, AreSeatsOf, IsKitOf, Limits, known_of, setting, Has, HasLog, Logged, Seated, Layout, IsLawful, Trace, Kit, Seats, IsTold, record_of, kit_is_opened, kinds_in, IsCutOff, IsTimerTurn, Notes, Shown}
+use Rattle.wbt_run_seats.specs.Gathered.{no_notes}
+use Rattle.wbt_kit.proofs.Common.{AllJoined, KeepsStakes, Note, first_limits, AreAllTaken}
+use Rattle.wbt_fraction.specs.Several.{Seats as ShareSeats}
 use Rattle.wbt_io.specs.Faults.{last_count}
-use Rattle.wbt_journal.specs.Each.{Each}
-use Rattle.wbt_journal.specs.Machine.{contexts, domains}
 use Rattle.wbt_journal.specs.Told.{told as told_by}
-use Rattle.wbt_journal.specs.declared.entry.CpuJournal.{CpuJournal}
-use Rattle.wbt_journal.specs.declared.journal.Ending.{Ending}
 use Rattle.wbt_journal.specs.declared.journal.Ending.TheVariants as ending
-use Rattle.wbt_journal.specs.declared.timer.TimerEntry.{TimerEntry}
-use Rattle.wbt_kit.specs.Kit.{AreSeatsOf, IsKitOf}
-use Rattle.wbt_rules.specs.Thresholds.{first_limits}
-use Rattle.wbt_kit.specs.declared.kit.Kit.{Kit}
-use Rattle.wbt_kit.specs.declared.kit.Seats.{Seats}
-use Rattle.wbt_num.specs.declared.limits.Limits.{Limits}
-use Rattle.wbt_published.specs.Passes.{known_of}
 use Rattle.wbt_published.specs.Publishing.{IsComplete as KnowsAll}
 use Rattle.wbt_queue.specs.Passes as queue
-use Rattle.wbt_queue.specs.Passes.{AreAllTaken}
 use Rattle.wbt_run_worker.specs.Ticking.{LimitsAreTold as IsToldLine}
-use Rattle.wbt_run_worker.specs.Went.{IsTold}
 use Rattle.wbt_run_worker.specs.declared.side.CpuSide.{CpuSide}
-use Rattle.wbt_run_steps.specs.Records.{record_of}
-use Rattle.wbt_run_seats.proofs.Opening.{kit_is_opened}
-use Rattle.wbt_run_steps.specs.Kinds.{kinds_in}
-use Rattle.wbt_table.specs.Layout.{setting, domains as limits_of}
-use Rattle.wbt_table.specs.Rule.{Has, HasLog}
-use Rattle.wbt_table.specs.declared.rule.Logged.{Logged}
-use Rattle.wbt_turns.specs.Words.{IsCutOff, IsTimerTurn}
-use Rattle.wbt_table.specs.Seat.{Seated}
-use Rattle.wbt_table.specs.declared.layout.Layout.{Layout}
-use Rattle.wbt_trace.specs.Lawful.{IsLawful}
-use Rattle.wbt_trace.specs.declared.trace.Trace.{Trace}
+use Rattle.wbt_table.specs.Layout.{domains as limits_of}
 use Rattle.wbt_run_laws.specs.Closed.{first_lines, opening_lines}
-use Rattle.wbt_run_laws.specs.Notes.{Notes}
-use Rattle.wbt_run_laws.specs.Shown.{Shown}
 use Rattle.wbt_run_drain.specs.Whole.{CpusWorked, EndingHasCause, HaveWorked, NoneIsDue, NotesTogether, TimerWorked}
 use Rattle.wbt_run_drain.specs.Ends.{EndingIs, HaveEnded}
 use Rattle.wbt_run_drain.specs.Standing.{AreAllCleaned, AreAllDone, AreStanding, WasStopped}

@@ -2,13 +2,9 @@
 use Rattle.std.proofs.Common.{◌≡◌, ℕ, ◌≤◌, Bool, false, List, Option, Some, None, Result, Ok, Err, refl, sym, subst, arith}
 use Rattle.std.specs.Option.{IfSome}
 use Rattle.std.specs.Result.{IfOk}
-use Rattle.wbt_io.specs.Faults.{HasRisenBy}
-use Rattle.wbt_io.specs.Pages.{Grows}
-use Rattle.wbt_journal.specs.declared.entry.CpuJournal.{CpuJournal}
-use Rattle.wbt_journal.specs.declared.journal.Ending.{Ending}
+use Rattle.wbt_run_worker.proofs.Common.{HasRisenBy, Grows, CpuJournal, Ending, TimerEntry}
+use Rattle.wbt_kit.proofs.Common.{MOST_FAULTS}
 use Rattle.wbt_journal.specs.declared.journal.Ending.TheVariants as ending
-use Rattle.wbt_journal.specs.declared.timer.TimerEntry.{TimerEntry}
-use Rattle.wbt_rules.specs.declared.moments.TheConstants.{MOST_FAULTS}
 use Rattle.wbt_run_worker.specs.declared.side.CpuSide.{CpuSide}
 use Rattle.wbt_run_drain.specs.Ends.{EndingIs}
 use Rattle.wbt_run_drain.specs.Teams.{faults_told, handed_over}

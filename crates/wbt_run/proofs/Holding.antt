@@ -2,16 +2,8 @@
 use Rattle.std.proofs.Common.{◌≡◌, ℕ, ◌<◌, ◌++◌, List, drop, length, take, ap, ◌∙◌, subst, sym}
 use Rattle.std.proofs.Math.Seq.{take-append_seam}
 use Rattle.wbt_run_seats.specs.Parts.{AreBack}
-use Rattle.wbt_run_seats.proofs.Firsts.{first_held}
-use Rattle.wbt_grant.specs.State.{no_record, opening}
-use Rattle.wbt_kit.specs.Kit.{AreFirst, AreSeatsOf, IsKitOf}
-use Rattle.wbt_kit.specs.declared.kit.Kit.{Kit}
-use Rattle.wbt_kit.specs.declared.kit.Seats.{Seats}
-use Rattle.wbt_table.specs.Calls.{HoldsAll}
-use Rattle.wbt_table.specs.Layout.{setting}
-use Rattle.wbt_table.specs.Seat.{Seated}
-use Rattle.wbt_table.specs.declared.layout.Layout.{Layout}
-use Rattle.wbt_trace.specs.declared.trace.Trace.{Trace}
+use Rattle.wbt_run_worker.proofs.Common.{first_held, no_record, AreFirst, AreSeatsOf, IsKitOf, HoldsAll, setting, Seated, Layout, Trace, Kit, Seats}
+use Rattle.wbt_grant.specs.State.{opening}
 
 pub first_holds : (trace : Trace) (now : ℕ) (kit : Kit) (seats : Seats) → IsKitOf trace now kit → AreSeatsOf kit seats → AreFirst kit seats → HoldsAll seats.cpu
 first_holds trace now kit seats is at are = record {

@@ -1,31 +1,16 @@
 -- No check that a CPU tells pauses longer than a pause may be.
 use Rattle.std.proofs.Common.{ℕ, ◌<◌, ◌≤◌, List, [], ◌∷◌, sym, subst, arith}
-use Rattle.wbt_estimate.specs.declared.estimate.Estimate.{Estimate}
+use Rattle.wbt_run_worker.proofs.Common.{Each, effect, Told, CheckEntry, CpuJournal, Trace, first_notes, Kit, Seats, NotedSince, Notes, Shown, first_shown, empty_log, if_weaker, firsts_of}
+use Rattle.wbt_kit.proofs.Common.{Estimate, tells, Side, item, side_after, Decision, Known, is_strict}
 use Rattle.wbt_journal.specs.Checks.{asked_by, reads_by, task_numbers}
-use Rattle.wbt_journal.specs.Each.{Each}
-use Rattle.wbt_journal.specs.Effects.{effect}
-use Rattle.wbt_journal.specs.Items.{Item, begins, tells}
+use Rattle.wbt_journal.specs.Items.{Item, begins}
 use Rattle.wbt_journal.specs.Lawful.{items_among}
-use Rattle.wbt_journal.specs.Side.{Event, Side, ends, item, side_after}
-use Rattle.wbt_journal.specs.Told.{Told, told as told_by}
-use Rattle.wbt_journal.specs.declared.entry.CheckEntry.{CheckEntry}
-use Rattle.wbt_journal.specs.declared.entry.CpuJournal.{CpuJournal}
-use Rattle.wbt_run_seats.specs.Opened.{first_notes}
-use Rattle.wbt_kit.specs.declared.kit.Kit.{Kit}
-use Rattle.wbt_kit.specs.declared.kit.Seats.{Seats}
+use Rattle.wbt_journal.specs.Side.{Event, ends}
+use Rattle.wbt_journal.specs.Told.{told as told_by}
 use Rattle.wbt_pause.proofs.Deciding.{longest_within_200}
-use Rattle.wbt_pause.specs.declared.decision.Decision.{Decision}
-use Rattle.wbt_published.specs.declared.known.Known.{Known}
-use Rattle.wbt_rules.specs.Strict.{is_strict}
 use Rattle.wbt_strict.proofs.Deciding.{pauses_within_longest}
-use Rattle.wbt_trace.specs.declared.trace.Trace.{Trace}
-use Rattle.wbt_run_laws.specs.Noted.{AreDecided, DecidesByRead, DecidesItem, NotedSince}
-use Rattle.wbt_run_laws.specs.Notes.{Notes}
-use Rattle.wbt_run_laws.specs.Shown.{Shown, first_shown}
+use Rattle.wbt_run_laws.specs.Noted.{AreDecided, DecidesByRead, DecidesItem}
 use Rattle.wbt_run_laws.specs.Walks.{items_told}
-use Rattle.wbt_run_laws.specs.Worker.{empty_log}
-use Rattle.wbt_run_laws.proofs.Effects.{if_weaker}
-use Rattle.wbt_run_steps.specs.Records.{firsts_of}
 use Rattle.wbt_run_drain.specs.Whole.{CpusWorked, log_at}
 use Rattle.wbt_run.specs.Running.{IsShort, IsShortCheck, PauseShortly}
 use Rattle.wbt_run.proofs.Causes.{each_of}

@@ -1,36 +1,19 @@
 -- What the workers of a run told, wrote and cleaned, by where their sides stand.
 use Rattle.std.proofs.Common.{◌≡◌, inl, ⊎_elim, ℕ, zero, suc, ◌+◌, ◌<◌, ◌≤◌, Bool, true, false, cond, List, [], ◌∷◌, length, count_by, slice_get, nat_lt, ◌==◌, if◌then◌else◌, Option, Some, None, Ok, All, refl, sym, ap, ◌∙◌, subst, arith, eq-eqb, eqb}
 use Rattle.std.proofs.lemmas.List.Sums.{sum_by-cons}
-use Rattle.wbt_book.specs.Ledger.{absorbs, completes, dirties, times}
-use Rattle.wbt_book.specs.declared.event.Event.{Event}
-use Rattle.wbt_counter.specs.Sums.{total}
-use Rattle.wbt_counter.proofs.Sums.{total_same}
-use Rattle.wbt_flusher.specs.Sights.{list_by, shown_by}
-use Rattle.wbt_grant.specs.State.{deeds_of}
+use Rattle.wbt_run_worker.proofs.Common.{absorbs, completes, dirties, times, total, total_same, deeds_of, Each, effect, Told, after, IsLawful, Trace, Event, list_by, shown_by, Write, Kit, Seats, flusher_at, seen, record_of, Shown, ShownFlusher, none_shown}
+use Rattle.wbt_kit.proofs.Common.{of_part, tells, cpu_of_task, pages_of_task, writes_after, is_on, TaskLine}
 use Rattle.wbt_journal.specs.Checks.{NoneDue}
-use Rattle.wbt_journal.specs.Each.{Each}
-use Rattle.wbt_journal.specs.Effects.{Write, effect, of_part}
-use Rattle.wbt_journal.specs.Items.{tells}
 use Rattle.wbt_journal.specs.Leaves.{writes_of}
-use Rattle.wbt_journal.specs.Machine.{cpu_of_task, pages_of_task, task_cpu}
-use Rattle.wbt_journal.specs.Pages.{writes_after}
-use Rattle.wbt_journal.specs.Side.{is_on}
-use Rattle.wbt_journal.specs.Told.{Told, told as told_by}
-use Rattle.wbt_journal.specs.Walk.{after}
+use Rattle.wbt_journal.specs.Machine.{task_cpu}
+use Rattle.wbt_journal.specs.Told.{told as told_by}
 use Rattle.wbt_journal.specs.declared.journal.Ending.TheVariants as ending
-use Rattle.wbt_kit.specs.declared.kit.Kit.{Kit}
-use Rattle.wbt_kit.specs.declared.kit.Seats.{Seats}
-use Rattle.wbt_run_worker.specs.Team.{flusher_at, seen}
 use Rattle.wbt_run_worker.specs.declared.side.CpuSide.{CpuSide}
 use Rattle.wbt_run_worker.specs.declared.side.End.{End}
 use Rattle.wbt_run_worker.specs.declared.side.End.TheVariants.{Ended, Halted, Faulted, Spent, Refused, Stopped}
 use Rattle.wbt_run_worker.specs.declared.side.Post.{Post}
 use Rattle.wbt_run_worker.specs.declared.side.Stand.TheVariants.{Out}
-use Rattle.wbt_run_steps.specs.Records.{record_of}
-use Rattle.wbt_trace.specs.Lawful.{IsLawful, IsTask}
-use Rattle.wbt_trace.specs.declared.trace.TaskLine.{TaskLine}
-use Rattle.wbt_trace.specs.declared.trace.Trace.{Trace}
-use Rattle.wbt_run_laws.specs.Shown.{Shown, ShownFlusher, none_shown}
+use Rattle.wbt_trace.specs.Lawful.{IsTask}
 use Rattle.wbt_run_laws.specs.Walks.{items_told}
 use Rattle.wbt_run_laws.specs.Worked.{AllWritten, NoneWaits}
 use Rattle.wbt_run_drain.specs.Whole.{AreCleaned, log_at}

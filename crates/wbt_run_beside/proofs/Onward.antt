@@ -1,22 +1,16 @@
 -- Workers that go on, one time after another.
 use Rattle.std.proofs.Common.{◌≡◌, ℕ, ◌<◌, Bool, true, false, cond, List, length, get_or, Option, Some, None, refl, sym, ap, subst, arith}
-use Rattle.atomic_table.specs.Seated.{TableId}
-use Rattle.wbt_kit.specs.declared.kit.Kit.{Kit}
-use Rattle.wbt_kit.specs.declared.kit.Seats.{Seats}
-use Rattle.wbt_run_worker.specs.Answers.{ComesOut, Goes}
-use Rattle.wbt_run_worker.specs.Course.{HasRun, end_of}
-use Rattle.wbt_run_worker.specs.Team.{Team}
-use Rattle.wbt_run_worker.specs.Voices.{HasSpoken}
+use Rattle.wbt_run_worker.proofs.Common.{TableId, Each, Trace, Kit, Seats, Goes, HasRun, Team, HasSpoken}
+use Rattle.wbt_run_worker.specs.Answers.{ComesOut}
+use Rattle.wbt_run_worker.specs.Course.{end_of}
 use Rattle.wbt_run_worker.specs.declared.side.End.{End}
 use Rattle.wbt_run_worker.specs.declared.side.End.TheVariants.{Ended, Halted, Faulted, Spent, Refused, Stopped}
 use Rattle.wbt_run_worker.specs.declared.worker.Worker.{Worker}
-use Rattle.wbt_journal.specs.Each.{Each}
 use Rattle.wbt_run_worker.proofs.Coursing.{run_on}
 use Rattle.wbt_run_worker.proofs.Lists.{each_at}
 use Rattle.wbt_run_worker.proofs.Going.{as_named, goes_more, own_side, stands_more}
 use Rattle.wbt_run_worker.proofs.Posts.{faulted_since}
 use Rattle.wbt_run_worker.proofs.Speaking.{spoke_still, spoken_more}
-use Rattle.wbt_trace.specs.declared.trace.Trace.{Trace}
 use Rattle.wbt_run_beside.specs.Beside.{AllDid, AllHaveGone, AllHaveWorked, AllMay, AllMayWork, HasEnded, HasGone, HasGoneOn, HasWorked, MayGoOn, cpu_in, stance_in, team_in, trace_in}
 
 -- why it ended, since an earlier moment too

@@ -1,11 +1,9 @@
 -- A journal whose parts are known.
 use Rattle.std.proofs.Common.{◌≡◌, List, Result, Ok, sym, subst}
 use Rattle.std.specs.Result.{IfOk}
-use Rattle.wbt_journal.specs.declared.entry.CpuJournal.{CpuJournal}
-use Rattle.wbt_journal.specs.declared.journal.Ending.{Ending}
+use Rattle.wbt_run_worker.proofs.Common.{CpuJournal, Ending, TimerEntry}
+use Rattle.wbt_kit.proofs.Common.{Left}
 use Rattle.wbt_journal.specs.declared.journal.Journal.{Journal}
-use Rattle.wbt_journal.specs.declared.journal.Left.{Left}
-use Rattle.wbt_journal.specs.declared.timer.TimerEntry.{TimerEntry}
 use Rattle.wbt_run_drain.specs.Laws.{journal_of}
 
 pub of_parts : {E : Type 0} (P : Journal → Type 0) (result : Result Journal E) (logs logs' : List CpuJournal) (timer timer' : List TimerEntry) (left left' : List Left) (ended : Ending)

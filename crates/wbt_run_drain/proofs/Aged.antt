@@ -1,17 +1,12 @@
 -- Where each flusher is done no inode waits for its age.
 use Rattle.std.proofs.Common.{◌≡◌, ℕ, suc, ◌<◌, Bool, List, [], ◌∷◌, length, get_or, Option, subst, arith}
-use Rattle.wbt_flusher.specs.Sights.{list_by}
-use Rattle.wbt_journal.specs.Each.{Each}
-use Rattle.wbt_kit.specs.declared.kit.Kit.{Kit}
-use Rattle.wbt_kit.specs.declared.kit.Seats.{Seats}
-use Rattle.wbt_run_worker.specs.Team.{seen}
+use Rattle.wbt_run_worker.proofs.Common.{list_by, Each, Trace, Kit, Seats, seen}
 use Rattle.wbt_run_worker.specs.declared.side.CpuSide.{CpuSide}
 use Rattle.wbt_run_worker.specs.declared.side.End.{End}
 use Rattle.wbt_run_worker.specs.declared.side.Post.{Post}
 use Rattle.wbt_run_worker.specs.declared.side.Stand.{Stand}
 use Rattle.wbt_run_worker.specs.declared.side.Stand.TheVariants.{Done}
 use Rattle.wbt_run_worker.proofs.Lists.{each_at}
-use Rattle.wbt_trace.specs.declared.trace.Trace.{Trace}
 use Rattle.wbt_run_drain.specs.Ends.{HasEnded, HaveEnded}
 use Rattle.wbt_run_drain.specs.Standing.{AreAllDone, AreStanding, EndsBy, NoneWaitsForAge, StandsSo}
 

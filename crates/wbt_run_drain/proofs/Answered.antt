@@ -1,18 +1,12 @@
 -- What a flusher's turn in the drain did, whatever it answered.
 use Rattle.std.proofs.Common.{◌≡◌, ℕ, Bool, true, false, [], length, get_or, All, refl, sym, ap, ◌∙◌, subst, arith}
 use Rattle.wbt_flusher.specs.Ages.{HasWheel}
-use Rattle.wbt_flusher.specs.Answers.{AreTold, FlusherAnswers, IsReady, IsUntouched, Went}
-use Rattle.wbt_flusher.specs.Did.{Moments, no_moments, OwesNothing}
-use Rattle.wbt_flusher.specs.Sights.{Sight, sight}
-use Rattle.wbt_flusher.specs.Turns.{AreProper, ArePlaces, IsPhase, IsSteady}
-use Rattle.wbt_flusher.specs.declared.plan.FlusherPlan.{FlusherPlan}
-use Rattle.wbt_flusher.specs.declared.work.Phase.{Phase}
-use Rattle.wbt_flusher.specs.declared.work.Phase.TheVariants.{Failed}
+use Rattle.wbt_run_worker.proofs.Common.{FlusherAnswers, IsReady, IsUntouched, Went, Moments, no_moments, Sight, sight, IsPhase, IsSteady, FlusherPlan, Phase, Failed, Kit, Seats, Turn}
+use Rattle.wbt_flusher.specs.Answers.{AreTold}
+use Rattle.wbt_flusher.specs.Did.{OwesNothing}
+use Rattle.wbt_flusher.specs.Turns.{AreProper, ArePlaces}
 use Rattle.wbt_flusher.proofs.Going.{goes_kept, ready_went}
 use Rattle.wbt_flusher.proofs.Keeping.{kept_by}
-use Rattle.wbt_kit.specs.declared.kit.Kit.{Kit}
-use Rattle.wbt_kit.specs.declared.kit.Seats.{Seats}
-use Rattle.wbt_kit.specs.declared.turn.Turn.{Turn}
 use Rattle.wbt_kit.specs.declared.turn.Turn.TheVariants as turn
 use Rattle.wbt_run_worker.specs.Answers.{WaitsOn}
 

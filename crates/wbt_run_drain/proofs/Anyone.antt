@@ -1,6 +1,6 @@
 -- One of a list's items, where one item changes.
 use Rattle.std.proofs.Common.{◌⊎◌, inl, inr, ⊎_elim, ℕ, zero, suc, ◌<◌, List, [], ◌∷◌, length, get_or, set, arith}
-use Rattle.wbt_run_worker.specs.Team.{AnyOf, Seen}
+use Rattle.wbt_run_worker.proofs.Common.{AnyOf, Seen}
 use Rattle.wbt_run_drain.specs.Ends.{Any}
 
 module _ {A : Type 0} where

@@ -2,36 +2,19 @@
 use Rattle.std.proofs.Common.{◌≡◌, ⊎_elim, ℕ, ◌<◌, ◌≤◌, Bool, List, [], ◌∷◌, length, map, get_or, Option, Some, refl, sym, ap, ◌∙◌, subst, arith}
 use Rattle.std.proofs.lemmas.Bool.{cases_lt}
 use Rattle.std.proofs.lemmas.List.Sums.{sum_by-cons}
-use Rattle.wbt_book.specs.Ledger.{times_in}
+use Rattle.wbt_run_worker.proofs.Common.{times_in, CpuRecord, Each, HasCpu, IsKitOf, setting, Has, Layout, IsLawful, Trace, OwesMark, OwesRescan, pages_by, Phase, Kit, Seats, ArePosted, AnyOf, Seen, claimed_by, seen, firsts_of, record_of, record_is, Shown, first_shown}
+use Rattle.wbt_kit.proofs.Common.{pages, at_less}
 use Rattle.wbt_run_seats.proofs.Opening.{is_throttle}
 use Rattle.wbt_run_seats.proofs.Plans.{page_lies}
-use Rattle.wbt_flusher.specs.Sights.{OwesMark, OwesRescan, pages_by}
 use Rattle.wbt_flusher.specs.Turns.{IsIdle}
-use Rattle.wbt_flusher.specs.declared.work.Phase.{Phase}
-use Rattle.wbt_grant.specs.declared.record.CpuRecord.{CpuRecord}
-use Rattle.wbt_journal.specs.Each.{Each}
-use Rattle.wbt_journal.specs.Machine.{pages}
-use Rattle.wbt_kit.specs.Kit.{HasCpu, IsKitOf}
-use Rattle.wbt_kit.specs.declared.kit.Kit.{Kit}
-use Rattle.wbt_kit.specs.declared.kit.Seats.{Seats}
-use Rattle.wbt_run_worker.specs.Side.{ArePosted}
-use Rattle.wbt_run_worker.specs.Team.{AnyOf, Seen, claimed_by, claimed_in, seen}
+use Rattle.wbt_run_worker.specs.Team.{claimed_in}
 use Rattle.wbt_run_worker.specs.declared.side.CpuSide.{CpuSide}
 use Rattle.wbt_run_worker.specs.declared.side.End.{End}
 use Rattle.wbt_run_worker.specs.declared.side.Post.{Post}
 use Rattle.wbt_run_worker.specs.declared.side.Stand.{Stand}
 use Rattle.wbt_run_worker.specs.declared.side.Stand.TheVariants.{Done}
 use Rattle.wbt_run_worker.proofs.Lists.{each_at}
-use Rattle.wbt_run_steps.specs.Records.{firsts_of, record_of}
-use Rattle.wbt_run_steps.proofs.Changing.{record_is}
 use Rattle.wbt_table.specs.Calls.{HasNoDirtyPage, OwesInodeNothing}
-use Rattle.wbt_table.specs.Layout.{setting}
-use Rattle.wbt_table.specs.Rule.{Has}
-use Rattle.wbt_table.specs.declared.layout.Layout.{Layout}
-use Rattle.wbt_table.proofs.Lists.{at_less}
-use Rattle.wbt_trace.specs.Lawful.{IsLawful}
-use Rattle.wbt_trace.specs.declared.trace.Trace.{Trace}
-use Rattle.wbt_run_laws.specs.Shown.{Shown, first_shown}
 use Rattle.wbt_run_laws.specs.Throttle.{IsThrottleOf}
 use Rattle.wbt_run_drain.proofs.Sweeping.{clean_is_cleaned}
 use Rattle.wbt_run_drain.specs.Ends.{HasEnded, HaveEnded}

@@ -3,47 +3,19 @@ use Rattle.std.proofs.Common.{◌≡◌, ◌≢◌, ℕ, zero, suc, ◌<◌, ◌
 use Rattle.std.proofs.lemmas.List.{length-set}
 use mathlib.Core.Logic.{dite}
 use native.Mathlib.Decide.{ℕ_discrete}
-use Rattle.wbt_book.specs.Ledger.{absorbs, all_times, completes, dirties, times}
-use Rattle.wbt_book.specs.declared.event.Event.{Event}
+use Rattle.wbt_run_worker.proofs.Common.{absorbs, all_times, completes, dirties, times, total_same, deeds_of, CpuRecord, Each, Flight, effect, Told, CheckEntry, CpuJournal, HasCpu, first_estimates, Cpus, Has, Trace, Event, Write, Kit, Seats, firsts_of, record_of, record_is, Grew, NotedFlusherTurn, NotedSince, Notes, IsOfFlusher, Flew, Waited, Shown, ShownFlusher, first_shown, Worker, each_weaker, noted_more, Went, Moments, Sight, shown_by, FlusherPlan, AreGathered, first_notes, owner_of}
+use Rattle.wbt_kit.proofs.Common.{put, Note}
 use Rattle.wbt_book.specs.declared.event.Event.TheVariants.{Absorb, Redirty}
-use Rattle.wbt_counter.specs.Sums.{put}
-use Rattle.wbt_counter.proofs.Sums.{total_le, total_same}
-use Rattle.wbt_grant.specs.State.{deeds_of}
-use Rattle.wbt_fraction.specs.declared.domain.note.Note.{Note}
-use Rattle.wbt_grant.specs.declared.record.CpuRecord.{CpuRecord}
-use Rattle.wbt_journal.specs.Each.{Each}
-use Rattle.wbt_journal.specs.Effects.{Flight, Move, Write, takes, flies, lands, fails, gives_back, effect, event_by, event_of, event_of_flight, event_of_move, listed}
-use Rattle.wbt_journal.specs.Told.{Told, told as told_by}
-use Rattle.wbt_journal.specs.declared.entry.CheckEntry.{CheckEntry}
-use Rattle.wbt_journal.specs.declared.entry.CpuJournal.{CpuJournal}
-use Rattle.wbt_kit.specs.Kit.{HasCpu}
-use Rattle.wbt_kit.specs.declared.kit.Kit.{Kit}
-use Rattle.wbt_kit.specs.declared.kit.Seats.{Seats}
-use Rattle.wbt_rules.specs.First.{first_estimates}
-use Rattle.wbt_table.specs.Rule.{Cpus, Has}
-use Rattle.wbt_trace.specs.declared.trace.Trace.{Trace}
-use Rattle.wbt_run_steps.specs.Records.{firsts_of, record_of}
-use Rattle.wbt_run_steps.proofs.Changing.{record_is}
+use Rattle.wbt_counter.proofs.Sums.{total_le}
+use Rattle.wbt_journal.specs.Effects.{Move, takes, flies, lands, fails, gives_back, event_by, event_of, event_of_flight, event_of_move, listed}
+use Rattle.wbt_journal.specs.Told.{told as told_by}
 use Rattle.wbt_run_laws.specs.Elsewhere.{IsPlain, with_shares}
 use Rattle.wbt_run_laws.specs.Entries.{is_check}
-use Rattle.wbt_run_laws.specs.Grew.{Grew, event_in, onto}
-use Rattle.wbt_run_laws.specs.Noted.{NotedFlusherTurn, NotedSince}
-use Rattle.wbt_run_laws.specs.Notes.{Notes}
-use Rattle.wbt_run_laws.specs.Owns.{IsOfFlusher}
-use Rattle.wbt_run_laws.specs.Phases.{Flew}
-use Rattle.wbt_run_laws.specs.Waits.{Waited}
-use Rattle.wbt_run_laws.specs.Shown.{FlusherTurn, Shown, ShownFlusher, first_shown}
-use Rattle.wbt_run_laws.specs.Worker.{Worker}
-use Rattle.wbt_run_laws.proofs.Lists.{each_weaker}
+use Rattle.wbt_run_laws.specs.Grew.{event_in, onto}
+use Rattle.wbt_run_laws.specs.Shown.{FlusherTurn}
 use Rattle.wbt_run_laws.proofs.Moving.{shares_may_move, plain_estimates}
-use Rattle.wbt_run_laws.proofs.Noting.{noted_of_flusher, noted_more}
-use Rattle.wbt_flusher.specs.Answers.{Went}
-use Rattle.wbt_flusher.specs.Did.{Moments}
-use Rattle.wbt_flusher.specs.Sights.{Sight, notes_of, record_in, shown_by, shown_of}
-use Rattle.wbt_flusher.specs.declared.plan.FlusherPlan.{FlusherPlan}
-use Rattle.wbt_run_seats.specs.Gathered.{AreGathered}
-use Rattle.wbt_run_seats.specs.Opened.{first_notes}
-use Rattle.wbt_run_seats.specs.Parts.{owner_of}
+use Rattle.wbt_run_laws.proofs.Noting.{noted_of_flusher}
+use Rattle.wbt_flusher.specs.Sights.{notes_of, record_in, shown_of}
 use Rattle.wbt_run_seats.proofs.Gathering.{moved_are_gathered}
 use Rattle.wbt_run_drain.specs.Drained.{AreTogether, DrainGoesOn, IsThere}
 use Rattle.wbt_run_drain.specs.Whole.{CpuWorked, CpusWorked, log_at}

@@ -1,13 +1,7 @@
 -- Sides of CPUs of which the seats keep what they have.
 use Rattle.std.proofs.Common.{◌≡◌, ℕ, ◌≤◌, Bool, List, Option, min, refl, ap, ◌∙◌, subst, arith}
-use Rattle.wbt_book.specs.Ledger.{times_in}
-use Rattle.wbt_grant.specs.declared.record.CpuRecord.{CpuRecord}
+use Rattle.wbt_run_worker.proofs.Common.{times_in, CpuRecord, known_of, HasNoPageSteps, setting, Trace, Kit, Seats, ArePosted, Seen, seen, record_of, each_weaker}
 use Rattle.wbt_io.specs.Faults.{last_count}
-use Rattle.wbt_kit.specs.declared.kit.Kit.{Kit}
-use Rattle.wbt_kit.specs.declared.kit.Seats.{Seats}
-use Rattle.wbt_published.specs.Passes.{known_of}
-use Rattle.wbt_run_worker.specs.Side.{ArePosted}
-use Rattle.wbt_run_worker.specs.Team.{Seen, seen}
 use Rattle.wbt_run_worker.specs.declared.side.CpuSide.{CpuSide}
 use Rattle.wbt_run_worker.specs.declared.side.End.{End}
 use Rattle.wbt_run_worker.specs.declared.side.End.TheVariants.{Ended, Halted, Faulted, Spent, Refused, Stopped}
@@ -15,11 +9,6 @@ use Rattle.wbt_run_worker.specs.declared.side.Post.{Post}
 use Rattle.wbt_run_worker.specs.declared.side.Stand.{Stand}
 use Rattle.wbt_run_worker.specs.declared.side.Stand.TheVariants.{Open, Done, Out}
 use Rattle.wbt_run_worker.proofs.Writing.{posts_still}
-use Rattle.wbt_run_steps.specs.Records.{record_of}
-use Rattle.wbt_table.specs.Calls.{HasNoPageSteps}
-use Rattle.wbt_table.specs.Layout.{setting}
-use Rattle.wbt_trace.specs.declared.trace.Trace.{Trace}
-use Rattle.wbt_run_laws.proofs.Lists.{each_weaker}
 use Rattle.wbt_run_drain.specs.Standing.{EndsBy, SideGoesOn, OutBy, SideStands, StandsSo, WasStopped}
 use Rattle.wbt_run_drain.specs.Teams.{posts_of}
 

@@ -1,6 +1,6 @@
 -- What is found of the items of a list, one after another.
 use Rattle.std.proofs.Common.{◌≡◌, inl, inr, ⊎_elim, ℕ, zero, suc, ◌+◌, ◌<◌, ◌≤◌, List, [], ◌∷◌, length, get_or, drop, refl, sym, ap, subst, arith, add-one}
-use Rattle.wbt_journal.specs.Each.{Each}
+use Rattle.wbt_run_worker.proofs.Common.{Each}
 use Rattle.wbt_run_drain.specs.Ends.{Any}
 
 module _ {A : Type 0} where

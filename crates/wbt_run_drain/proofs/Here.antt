@@ -1,22 +1,9 @@
 -- The side whose flusher took a turn, after it.
 use Rattle.std.proofs.Common.{◌≡◌, ◌⊎◌, inl, inr, ⊎_elim, ℕ, ◌≤◌, Bool, true, false, List, [], ◌∷◌, get_or, set, Option, refl, sym, ap, ◌∙◌, subst, arith}
-use Rattle.wbt_book.specs.Ledger.{times_in}
-use Rattle.wbt_flusher.specs.Answers.{FlusherAnswers}
+use Rattle.wbt_run_worker.proofs.Common.{times_in, CpuRecord, HasRisen, Each, HasNoPageSteps, setting, Has, Trace, FlusherAnswers, OwesMark, OwesRescan, IsSteady, FlusherPlan, Failed, Kit, Seats, Turn, job_by, IsDesk, AnyOf, Seen, seen, record_of, IsStopped, record_is, each_weaker, Desk}
 use Rattle.wbt_flusher.specs.Did.{OwesNothing}
-use Rattle.wbt_flusher.specs.Sights.{OwesMark, OwesRescan}
-use Rattle.wbt_flusher.specs.Turns.{IsSteady}
-use Rattle.wbt_flusher.specs.declared.plan.FlusherPlan.{FlusherPlan}
-use Rattle.wbt_flusher.specs.declared.work.Phase.TheVariants.{Failed}
-use Rattle.wbt_grant.specs.declared.record.CpuRecord.{CpuRecord}
-use Rattle.wbt_io.specs.Faults.{HasRisen}
-use Rattle.wbt_journal.specs.Each.{Each}
-use Rattle.wbt_kit.specs.declared.kit.Kit.{Kit}
-use Rattle.wbt_kit.specs.declared.kit.Seats.{Seats}
-use Rattle.wbt_kit.specs.declared.turn.Turn.{Turn}
 use Rattle.wbt_kit.specs.declared.turn.Turn.TheVariants as turn
-use Rattle.wbt_run_worker.specs.Answers.{job_by}
-use Rattle.wbt_run_worker.specs.Side.{HasEnded as HasTeamEnded, IsDesk}
-use Rattle.wbt_run_worker.specs.Team.{AnyOf, Seen, seen}
+use Rattle.wbt_run_worker.specs.Side.{HasEnded as HasTeamEnded}
 use Rattle.wbt_run_worker.specs.declared.round.JobOutcome.{JobOutcome}
 use Rattle.wbt_run_worker.specs.declared.side.CpuSide.{CpuSide}
 use Rattle.wbt_run_worker.specs.declared.side.End.{End}
@@ -26,15 +13,6 @@ use Rattle.wbt_run_worker.specs.declared.side.Stand.{Stand}
 use Rattle.wbt_run_worker.specs.declared.side.Stand.TheVariants.{Open, Out}
 use Rattle.wbt_run_worker.proofs.Lists.{each_set}
 use Rattle.wbt_run_worker.proofs.Posts.{any_here as seen_here, any_still as seen_still}
-use Rattle.wbt_run_steps.specs.Records.{record_of}
-use Rattle.wbt_run_steps.specs.Steps.{IsStopped}
-use Rattle.wbt_run_steps.proofs.Changing.{record_is}
-use Rattle.wbt_table.specs.Calls.{HasNoPageSteps}
-use Rattle.wbt_table.specs.Layout.{setting}
-use Rattle.wbt_table.specs.Rule.{Has}
-use Rattle.wbt_trace.specs.declared.trace.Trace.{Trace}
-use Rattle.wbt_run_laws.proofs.Lists.{each_weaker}
-use Rattle.wbt_writer.specs.Desk.{Desk}
 use Rattle.wbt_run_drain.specs.Ends.{Any, EndsSo, IsOut}
 use Rattle.wbt_run_drain.specs.Standing.{EndsBy, SideGoesOn, NotHalted, OutBy, SideStands, StandsSo, WasStopped}
 use Rattle.wbt_run_drain.specs.Teams.{posts_of}

@@ -1,30 +1,16 @@
 -- A look at an inode: its mark is set, or was set, and then it goes into its device's queue.
 use Rattle.std.proofs.Common.{◌≡◌, ◌⊎◌, inl, inr, ℕ, ◌<◌, not, ◌==◌, [], length, set, Result, Ok, Err, refl, sym, ap, ◌∙◌, subst, arith, length-set}
 use Rattle.std.specs.Prelude.{IfErr, IfOk, None}
-use Rattle.wbt_run_seats.proofs.Opening.{kit_is_opened}
-use Rattle.wbt_grant.specs.Kinds.{mark}
-use Rattle.wbt_grant.specs.Seats.{record_after}
-use Rattle.wbt_grant.specs.Setting.{Setting}
-use Rattle.wbt_grant.specs.declared.record.CpuRecord.{CpuRecord}
+use Rattle.wbt_run_worker.proofs.Common.{kit_is_opened, CpuRecord, AreSeatsOf, HasCpu, IsKitOf, HoldsAll, setting, Layout, Has, IsLawful, Trace, Kit, Seats, record_of, record_is}
+use Rattle.wbt_kit.proofs.Common.{mark, record_after, Setting, Makes, has_changed}
 use Rattle.wbt_flusher.proofs.Listing.{passed}
-use Rattle.wbt_kit.specs.Kit.{AreSeatsOf, HasCpu, IsKitOf}
-use Rattle.wbt_kit.specs.declared.kit.Kit.{Kit}
-use Rattle.wbt_kit.specs.declared.kit.Seats.{Seats}
 use Rattle.wbt_rules.specs.Things.{context_of, device_of}
 use Rattle.wbt_queue.specs.Known.{after_put}
 use Rattle.wbt_queue.specs.Passes as queue
 use Rattle.wbt_run_steps.specs.Kinds.{marking}
-use Rattle.wbt_run_steps.specs.Records.{OnlyCpu, record_of}
+use Rattle.wbt_run_steps.specs.Records.{OnlyCpu}
 use Rattle.wbt_run_steps.proofs.Logging.{makes_as}
-use Rattle.wbt_run_steps.proofs.Changing.{apart_changed, record_is, seats_stay}
-use Rattle.wbt_table.specs.Calls.{HoldsAll}
-use Rattle.wbt_table.specs.Layout.{setting}
-use Rattle.wbt_table.specs.declared.layout.Layout.{Layout}
-use Rattle.wbt_table.specs.Rule.{Has}
-use Rattle.wbt_table.specs.Seat.{Makes}
-use Rattle.wbt_table.proofs.Seating.{has_changed}
-use Rattle.wbt_trace.specs.Lawful.{IsLawful}
-use Rattle.wbt_trace.specs.declared.trace.Trace.{Trace}
+use Rattle.wbt_run_steps.proofs.Changing.{apart_changed, seats_stay}
 use Rattle.wbt_run_laws.proofs.Stepping.{steps_grow, untold_grows}
 use Rattle.wbt_run_drain.specs.Swept.{IsUntold, StepsUntold}
 

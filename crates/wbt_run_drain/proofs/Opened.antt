@@ -5,7 +5,7 @@ use native.Mathlib.Decide.{ℕ_discrete}
 use Rattle.wbt_run_worker.specs.declared.side.CpuSide.{CpuSide}
 use Rattle.wbt_run_worker.specs.declared.side.Post.{Post}
 use Rattle.wbt_run_worker.specs.declared.side.Stand.TheVariants.{Open}
-use Rattle.wbt_table.proofs.Lists.{same_default}
+use Rattle.wbt_kit.proofs.Common.{same_default}
 use Rattle.wbt_run_drain.specs.Swept.{AreReopened, IsReopened, reopened}
 use Rattle.wbt_run_drain.proofs.Reopening.{reopens, stays_so}
 use Rattle.wbt_run_drain.proofs.Sofar.{sofar, sofar_at, sofar_set, sofar_skip}

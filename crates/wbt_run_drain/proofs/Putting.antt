@@ -1,12 +1,11 @@
 -- Which inodes the sweep puts into queues, one after another.
 use Rattle.std.proofs.Common.{◌≡◌, ◌⊎◌, inl, inr, ⊎_elim, ℕ, suc, ◌+◌, [], ◌∷◌, ◌++◌, refl, sym, ap, ◌∙◌, subst, append_assoc, arith}
-use Rattle.wbt_kit.specs.declared.kit.Kit.{Kit}
-use Rattle.wbt_queue.specs.Order.{HasPut}
-use Rattle.wbt_queue.specs.Passes.{Held, Seats as Passes, known_of, size_of}
+use Rattle.wbt_run_worker.proofs.Common.{Kit, Trace}
+use Rattle.wbt_kit.proofs.Common.{HasPut, Held, size_of}
+use Rattle.wbt_queue.specs.Passes.{Seats as Passes, known_of}
 use Rattle.wbt_queue.specs.declared.known.Known.{Known}
 use Rattle.wbt_rules.specs.Things.{device_of}
 use Rattle.wbt_run_steps.specs.Queues.{PutsMore}
-use Rattle.wbt_trace.specs.declared.trace.Trace.{Trace}
 use Rattle.wbt_run_drain.specs.Swept.{IsNextPut, WasPut, WasPutTimes, WerePut}
 
 module _ (kit : Kit) (device inode : ℕ) where

@@ -3,20 +3,12 @@ use Rattle.std.proofs.Common.{◌≡◌, inl, inr, ⊎_elim, ℕ, zero, suc, ◌
 use Rattle.std.proofs.lemmas.List.{map-set}
 use mathlib.Core.Logic.{dite}
 use native.Mathlib.Decide.{ℕ_discrete}
-use Rattle.wbt_flusher.specs.Answers.{FlusherAnswers}
-use Rattle.wbt_flusher.specs.Sights.{Sight}
-use Rattle.wbt_flusher.specs.declared.plan.FlusherPlan.{FlusherPlan}
-use Rattle.wbt_io.specs.Faults.{HasRisen}
-use Rattle.wbt_journal.specs.Each.{Each}
-use Rattle.wbt_kit.specs.declared.kit.Kit.{Kit}
-use Rattle.wbt_kit.specs.declared.kit.Seats.{Seats}
-use Rattle.wbt_kit.specs.declared.turn.Turn.{Turn}
+use Rattle.wbt_run_worker.proofs.Common.{FlusherAnswers, Sight, FlusherPlan, HasRisen, Each, Trace, Kit, Seats, Turn, job_by, AnyOf, Seen, Team, team_of}
+use Rattle.wbt_kit.proofs.Common.{AreAllTaken}
 use Rattle.wbt_kit.specs.declared.turn.Turn.TheVariants as turn
 use Rattle.wbt_queue.specs.Passes as queue
-use Rattle.wbt_queue.specs.Passes.{AreAllTaken, known_of}
+use Rattle.wbt_queue.specs.Passes.{known_of}
 use Rattle.wbt_run_steps.specs.Queues.{OnlyDevice}
-use Rattle.wbt_run_worker.specs.Answers.{job_by}
-use Rattle.wbt_run_worker.specs.Team.{AnyOf, Seen, Team, team_of}
 use Rattle.wbt_run_worker.specs.declared.round.JobOutcome.{JobOutcome}
 use Rattle.wbt_run_worker.specs.declared.side.CpuSide.{CpuSide}
 use Rattle.wbt_run_worker.specs.declared.side.End.{End}
@@ -24,7 +16,6 @@ use Rattle.wbt_run_worker.specs.declared.side.Post.{Post}
 use Rattle.wbt_run_worker.specs.declared.side.Stand.{Stand}
 use Rattle.wbt_run_worker.specs.declared.side.Stand.TheVariants.{Open, Done, Out}
 use Rattle.wbt_run_worker.proofs.Lists.{map_at}
-use Rattle.wbt_trace.specs.declared.trace.Trace.{Trace}
 use Rattle.wbt_run_drain.specs.Ends.{Any}
 use Rattle.wbt_run_drain.specs.Standing.{AreAllDone, AreDoneAt, AreQueued, AreStanding, HasFlusher, NothingWaits}
 use Rattle.wbt_run_drain.specs.Teams.{teams_of}

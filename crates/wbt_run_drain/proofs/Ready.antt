@@ -1,14 +1,6 @@
 -- A flusher may take a turn where the sides of all CPUs stand.
 use Rattle.std.proofs.Common.{◌≡◌, ℕ, ◌<◌, Bool, List, length, get_or, Option, sym, ap, ◌∙◌, subst, arith}
-use Rattle.wbt_run_seats.specs.Rooms.{AreBacked}
-use Rattle.wbt_flusher.specs.Answers.{IsReady}
-use Rattle.wbt_flusher.specs.Turns.{IsSteady}
-use Rattle.wbt_grant.specs.declared.record.CpuRecord.{CpuRecord}
-use Rattle.wbt_journal.specs.Machine.{contexts, domains}
-use Rattle.wbt_kit.specs.declared.kit.Kit.{Kit}
-use Rattle.wbt_kit.specs.declared.kit.Seats.{Seats}
-use Rattle.wbt_run_worker.specs.Side.{IsPost}
-use Rattle.wbt_run_worker.specs.Team.{Seen, Team, owed_in, owed_totals, seen, team_of}
+use Rattle.wbt_run_worker.proofs.Common.{AreBacked, IsReady, IsSteady, CpuRecord, contexts, domains, Has, Trace, Kit, Seats, IsPost, Seen, Team, owed_in, owed_totals, seen, team_of}
 use Rattle.wbt_run_worker.specs.declared.side.CpuSide.{CpuSide}
 use Rattle.wbt_run_worker.specs.declared.side.End.{End}
 use Rattle.wbt_run_worker.specs.declared.side.End.TheVariants.{Ended}
@@ -17,8 +9,6 @@ use Rattle.wbt_run_worker.specs.declared.side.Stand.{Stand}
 use Rattle.wbt_run_worker.specs.declared.side.Stand.TheVariants.{Open}
 use Rattle.wbt_run_worker.proofs.Flushing.{post_at, ready_at}
 use Rattle.wbt_run_worker.proofs.Lists.{at_most, each_at, long_map, map_at}
-use Rattle.wbt_table.specs.Rule.{Has}
-use Rattle.wbt_trace.specs.declared.trace.Trace.{Trace}
 use Rattle.wbt_run_drain.specs.Standing.{AreStanding, EndsBy, SideGoesOn, SideStands, StandsSo}
 use Rattle.wbt_run_drain.specs.Teams.{posts_of, teams_of}
 use Rattle.wbt_run_drain.specs.Turned.{MayTurn}

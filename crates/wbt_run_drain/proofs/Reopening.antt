@@ -4,20 +4,10 @@ use mathlib.Core.Logic.{dite}
 use native.Mathlib.Decide.{ℕ_discrete}
 use Rattle.std.specs.List.{sum_by}
 use Rattle.std.specs.Prelude.{IfSome}
-use Rattle.wbt_journal.specs.Each.{Each}
-use Rattle.wbt_journal.specs.Machine.{contexts, domains}
+use Rattle.wbt_run_worker.proofs.Common.{Each, contexts, domains, CpuJournal, Trace, AreBacked, Failed, Kit, Seats, OwesMark, OwesRescan, puts_none, ArePosted, IsDesk, AnyOf, Seen, Team, owed_in, owed_totals, seen, team_of, IsTold, Desk}
 use Rattle.wbt_journal.specs.Told.{told as told_by}
-use Rattle.wbt_journal.specs.declared.entry.CpuJournal.{CpuJournal}
-use Rattle.wbt_run_seats.specs.Rooms.{AreBacked}
-use Rattle.wbt_flusher.specs.declared.work.Phase.TheVariants.{Failed}
-use Rattle.wbt_kit.specs.declared.kit.Kit.{Kit}
-use Rattle.wbt_kit.specs.declared.kit.Seats.{Seats}
-use Rattle.wbt_flusher.specs.Sights.{OwesMark, OwesRescan}
 use Rattle.wbt_queue.specs.Passes.{known_of}
-use Rattle.wbt_run_steps.proofs.Queues.{puts_none}
-use Rattle.wbt_run_worker.specs.Side.{ArePosted, HaveEnded as TeamHasEnded, IsDesk}
-use Rattle.wbt_run_worker.specs.Team.{AnyOf, Seen, Team, owed_in, owed_totals, seen, team_of}
-use Rattle.wbt_run_worker.specs.Went.{IsTold}
+use Rattle.wbt_run_worker.specs.Side.{HaveEnded as TeamHasEnded}
 use Rattle.wbt_run_worker.specs.declared.side.CpuSide.{CpuSide}
 use Rattle.wbt_run_worker.specs.declared.side.End.{End}
 use Rattle.wbt_run_worker.specs.declared.side.End.TheVariants.{Faulted}
@@ -26,8 +16,6 @@ use Rattle.wbt_run_worker.specs.declared.side.Stand.{Stand}
 use Rattle.wbt_run_worker.specs.declared.side.Stand.TheVariants.{Open, Done, Out}
 use Rattle.wbt_run_worker.proofs.Lists.{each_at}
 use Rattle.wbt_table.specs.Layout.{domains as limits_of}
-use Rattle.wbt_trace.specs.declared.trace.Trace.{Trace}
-use Rattle.wbt_writer.specs.Desk.{Desk}
 use Rattle.wbt_run_drain.specs.Ends.{Any, EndsSo, HasEnded, HaveEnded, IsOut}
 use Rattle.wbt_run_drain.specs.Standing.{AreAllDone, AreDoneAt, AreQueued, AreStanding, HasFlusher, EndsBy, FaultsAreTold, SideGoesOn, HaveTold, NotHalted, OutBy, SideStands, StandsSo, WentOn}
 use Rattle.wbt_run_drain.specs.Swept.{AreReopened, IsReopened, reopened}

@@ -5,33 +5,16 @@ use Rattle.std.proofs.lemmas.List.{get_or-map, get_or-set_other, get_or-set_same
 use Rattle.std.proofs.lemmas.Option.{slice_get_within}
 use mathlib.Core.Logic.{dite}
 use native.Mathlib.Decide.{ℕ_discrete}
-use Rattle.wbt_book.specs.Ledger.{absorbs, all_times, completes, dirties, times}
-use Rattle.wbt_book.specs.declared.event.Event.{Event}
-use Rattle.wbt_counter.specs.Sums.{put}
-use Rattle.wbt_counter.proofs.Sums.{put_each, total_same}
-use Rattle.wbt_flusher.specs.Sights.{shown_by}
-use Rattle.wbt_grant.specs.State.{deeds_of}
-use Rattle.wbt_grant.specs.declared.record.CpuRecord.{CpuRecord}
-use Rattle.wbt_journal.specs.declared.entry.CpuJournal.{CpuJournal}
-use Rattle.wbt_kit.specs.Kit.{HasCpu}
-use Rattle.wbt_kit.specs.declared.kit.Kit.{Kit}
-use Rattle.wbt_kit.specs.declared.kit.Seats.{Seats}
-use Rattle.wbt_run_worker.specs.Team.{Seen, Team, flusher_at, team_of}
+use Rattle.wbt_run_worker.proofs.Common.{absorbs, all_times, completes, dirties, times, total_same, deeds_of, CpuRecord, CpuJournal, HasCpu, setting, Layout, Trace, Event, shown_by, Kit, Seats, Seen, Team, flusher_at, team_of, record_of, record_is, Shown, ShownFlusher, none_shown, empty_log, Desk}
+use Rattle.wbt_kit.proofs.Common.{put}
+use Rattle.wbt_counter.proofs.Sums.{put_each}
 use Rattle.wbt_run_worker.specs.declared.round.JobOutcome.{JobOutcome}
 use Rattle.wbt_run_worker.specs.declared.side.CpuSide.{CpuSide}
 use Rattle.wbt_run_worker.proofs.Posts.{chosen, other, stand_at, flushers_own, flushers_now, flushers_other}
-use Rattle.wbt_run_steps.specs.Records.{record_of}
-use Rattle.wbt_run_steps.proofs.Changing.{record_is}
-use Rattle.wbt_table.specs.Layout.{setting}
-use Rattle.wbt_table.specs.declared.layout.Layout.{Layout}
-use Rattle.wbt_trace.specs.declared.trace.Trace.{Trace}
-use Rattle.wbt_run_laws.specs.Shown.{Shown, ShownFlusher, none_shown}
-use Rattle.wbt_run_laws.specs.Worker.{empty_log}
 use Rattle.wbt_run_drain.specs.Drained.{AreTogether, TurnGoesOn as DrainGoesOn, IsThere, shown_behind}
 use Rattle.wbt_run_drain.specs.Whole.{IsCleaned, log_at}
 use Rattle.wbt_run_drain.proofs.Draining.{drain_goes_on}
 use Rattle.wbt_writer.specs.Counted.{side_of, written_of}
-use Rattle.wbt_writer.specs.Desk.{Desk}
 use Rattle.wbt_run_drain.specs.Standing.{HaveTold, IsCleanedIn}
 use Rattle.wbt_run_drain.specs.Teams.{logs_of, posts_of, shown_at, teams_of}
 use Rattle.wbt_run_drain.proofs.Ready.{team_is}

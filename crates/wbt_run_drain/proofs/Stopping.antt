@@ -1,7 +1,7 @@
 -- A side that was told to stop has another's cause.
 use Rattle.std.proofs.Common.{◌⊎◌, ⊎_elim, List}
 use Rattle.std.specs.Prelude.{Result, Ok, Err}
-use Rattle.wbt_journal.specs.declared.journal.Ending.{Ending}
+use Rattle.wbt_run_worker.proofs.Common.{Ending}
 use Rattle.wbt_journal.specs.declared.journal.Ending.TheVariants as ending
 use Rattle.wbt_num.specs.declared.no_memory.NoMemory.{NoMemory}
 use Rattle.wbt_run_worker.specs.declared.side.CpuSide.{CpuSide}

@@ -3,30 +3,14 @@ use Rattle.std.proofs.Common.{◌≡◌, ℕ, zero, suc, ◌+◌, ◌<◌, ◌==
 use Rattle.std.specs.List.{count_by, sum_by}
 use Rattle.std.proofs.lemmas.List.{get_or-map, map-set}
 use Rattle.std.proofs.lemmas.List.Sums.{sum_by-append, sum_by-set}
-use Rattle.wbt_run_seats.specs.Rooms.{AreBacked}
-use Rattle.wbt_flusher.specs.Did.{handed}
-use Rattle.wbt_flusher.specs.Sights.{held_cpus, owing, owing_total, shown_by}
-use Rattle.wbt_flusher.specs.declared.plan.FlusherPlan.{FlusherPlan}
-use Rattle.wbt_io.specs.Faults.{HasRisenBy}
-use Rattle.wbt_io.specs.Pages.{Grows}
-use Rattle.wbt_journal.specs.Each.{Each}
-use Rattle.wbt_journal.specs.Leaves.{is_fault}
-use Rattle.wbt_journal.specs.Machine.{contexts, domains}
-use Rattle.wbt_journal.specs.Told.{NamesInOrder, Told, told as told_by}
-use Rattle.wbt_journal.specs.declared.entry.CpuJournal.{CpuJournal}
-use Rattle.wbt_kit.specs.declared.kit.Kit.{Kit}
-use Rattle.wbt_kit.specs.declared.kit.Seats.{Seats}
-use Rattle.wbt_run_worker.specs.Team.{Seen, Team, flusher_at, owed_by, owed_in, owed_total, owed_totals, team_of, written_by}
-use Rattle.wbt_run_worker.specs.Went.{IsTold}
+use Rattle.wbt_run_worker.proofs.Common.{AreBacked, handed, owing, owing_total, shown_by, FlusherPlan, HasRisenBy, Grows, Each, is_fault, contexts, domains, NamesInOrder, Told, CpuJournal, Trace, Kit, Seats, Seen, Team, flusher_at, owed_by, owed_in, owed_total, owed_totals, team_of, written_by, IsTold, each_append, ShownFlusher, empty_log}
+use Rattle.wbt_flusher.specs.Sights.{held_cpus}
+use Rattle.wbt_journal.specs.Told.{told as told_by}
 use Rattle.wbt_run_worker.specs.declared.round.JobOutcome.{JobOutcome}
 use Rattle.wbt_run_worker.specs.declared.side.CpuSide.{CpuSide}
 use Rattle.wbt_run_worker.proofs.Lists.{each_at, each_set}
 use Rattle.wbt_run_worker.proofs.Posts.{chosen, counted_on, failed_set, grows_left, grows_right, written_set}
-use Rattle.wbt_trace.specs.declared.trace.Trace.{Trace}
 use Rattle.wbt_run_laws.proofs.Faulting.{faults_counted, own_faults}
-use Rattle.wbt_run_laws.proofs.Lists.{each_append}
-use Rattle.wbt_run_laws.specs.Shown.{ShownFlusher}
-use Rattle.wbt_run_laws.specs.Worker.{empty_log}
 use Rattle.wbt_run_drain.specs.Standing.{FaultsAreTold}
 use Rattle.wbt_run_drain.specs.Teams.{handed_over, logs_of, posts_of, teams_of, written_by_all}
 use Rattle.wbt_run_drain.proofs.Ready.{in_teams, team_is}

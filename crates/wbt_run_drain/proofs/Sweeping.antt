@@ -1,10 +1,7 @@
 -- What the sweep finds.
 use Rattle.std.proofs.Common.{◌≡◌, ℕ, zero, suc, ◌<◌, ap, ◌∙◌, refl, subst, arith}
-use Rattle.wbt_book.specs.Ledger.{absorbs, completes, dirties, times, times_in, PageLedger}
-use Rattle.wbt_counter.specs.Sums.{one_if, total}
-use Rattle.wbt_counter.proofs.Sums.{total_same}
-use Rattle.wbt_grant.specs.State.{deeds_of}
-use Rattle.wbt_grant.specs.declared.record.CpuRecord.{CpuRecord}
+use Rattle.wbt_run_worker.proofs.Common.{absorbs, completes, dirties, times, times_in, one_if, total, total_same, deeds_of, CpuRecord}
+use Rattle.wbt_book.specs.Ledger.{PageLedger}
 use Rattle.wbt_run_drain.specs.Cleaned.{CleanIsCleaned}
 
 none_in_all : (n : ℕ) (f : ℕ → ℕ) → ((i : ℕ) → i < n → f i ≡ 0) → total n f ≡ 0

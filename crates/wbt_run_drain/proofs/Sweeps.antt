@@ -1,17 +1,10 @@
 -- A sweep on its way: inode after inode is looked at and cleaned.
 use Rattle.std.proofs.Common.{◌≡◌, ℕ, ◌+◌, ◌<◌, ◌≤◌, Bool, List, length, Option, ⊎_elim, refl, ap, subst, arith}
 use Rattle.std.proofs.lemmas.Bool.{cases_lt}
-use Rattle.wbt_kit.specs.Kit.{IsKitOf}
-use Rattle.wbt_kit.specs.declared.kit.Kit.{Kit}
-use Rattle.wbt_kit.specs.declared.kit.Seats.{Seats}
+use Rattle.wbt_run_worker.proofs.Common.{IsKitOf, setting, Layout, IsLawful, Trace, Kit, Seats, puts_none}
 use Rattle.wbt_queue.specs.Passes.{known_of}
-use Rattle.wbt_run_steps.proofs.Queues.{puts_none}
 use Rattle.wbt_run_worker.specs.declared.side.CpuSide.{CpuSide}
 use Rattle.wbt_table.specs.Calls.{HasNoDirtyPage, OwesInodeNothing}
-use Rattle.wbt_table.specs.Layout.{setting}
-use Rattle.wbt_table.specs.declared.layout.Layout.{Layout}
-use Rattle.wbt_trace.specs.Lawful.{IsLawful}
-use Rattle.wbt_trace.specs.declared.trace.Trace.{Trace}
 use Rattle.wbt_run_drain.specs.Ends.{HaveEnded}
 use Rattle.wbt_run_drain.specs.Standing.{AreAllCleaned, AreAllDone, AreStanding, WentOn}
 use Rattle.wbt_run_drain.specs.Swept.{IsInodeCleaned, StepsUntold, WasPut, WerePut}

@@ -1,32 +1,14 @@
 -- A flusher of one of all sides takes a turn: what it is to the side's flushers and to the seats.
 use Rattle.std.proofs.Common.{◌≡◌, ℕ, ◌<◌, Bool, List, length, get_or, map, set, Option, sym, ap, ◌∙◌, subst, arith}
 use Rattle.std.proofs.lemmas.List.{map-set}
-use Rattle.wbt_flusher.specs.Answers.{IsReady, Went}
+use Rattle.wbt_run_worker.proofs.Common.{IsReady, Went, Sight, sight, CpuRecord, HasRisen, Told, known_of, HasNoPageSteps, setting, Has, Trace, Kit, Seats, ArePosted, IsPost, Seen, seen, team_of, worker_of, record_of, record_is, Grew, NotedFlusherTurn, Worker}
 use Rattle.wbt_flusher.specs.Sights as sights
-use Rattle.wbt_flusher.specs.Sights.{Sight, sight}
-use Rattle.wbt_grant.specs.declared.record.CpuRecord.{CpuRecord}
-use Rattle.wbt_io.specs.Faults.{HasRisen}
-use Rattle.wbt_journal.specs.Told.{Told}
-use Rattle.wbt_kit.specs.declared.kit.Kit.{Kit}
-use Rattle.wbt_kit.specs.declared.kit.Seats.{Seats}
-use Rattle.wbt_published.specs.Passes.{known_of}
-use Rattle.wbt_run_worker.specs.Side.{ArePosted, IsPost}
-use Rattle.wbt_run_worker.specs.Team.{Seen, seen, team_of, worker_of}
 use Rattle.wbt_run_worker.specs.declared.round.JobOutcome.{JobOutcome}
 use Rattle.wbt_run_worker.specs.declared.side.CpuSide.{CpuSide}
 use Rattle.wbt_run_worker.specs.declared.side.End.TheVariants.{Ended}
 use Rattle.wbt_run_worker.specs.declared.side.Post.{Post}
 use Rattle.wbt_run_worker.specs.declared.side.Stand.TheVariants.{Open}
 use Rattle.wbt_run_worker.proofs.Flushing.{posted_after}
-use Rattle.wbt_run_steps.specs.Records.{record_of}
-use Rattle.wbt_run_steps.proofs.Changing.{record_is}
-use Rattle.wbt_table.specs.Calls.{HasNoPageSteps}
-use Rattle.wbt_table.specs.Layout.{setting}
-use Rattle.wbt_table.specs.Rule.{Has}
-use Rattle.wbt_trace.specs.declared.trace.Trace.{Trace}
-use Rattle.wbt_run_laws.specs.Grew.{Grew}
-use Rattle.wbt_run_laws.specs.Noted.{NotedFlusherTurn}
-use Rattle.wbt_run_laws.specs.Worker.{Worker}
 use Rattle.wbt_run_drain.specs.Standing.{AreStanding, SideGoesOn, SideStands}
 use Rattle.wbt_run_drain.specs.Teams.{posts_of}
 use Rattle.wbt_run_drain.specs.Turned.{HasTurned}

@@ -1,16 +1,9 @@
 -- What a flusher tells in the drain: no check and no estimate, at moments that were told.
 use Rattle.std.proofs.Common.{◌≡◌, ℕ, List, [], Contains, Option, Some, None, IfSome, refl, subst, arith}
 use Rattle.wbt_flusher.specs.Answers.{AreTold}
-use Rattle.wbt_flusher.specs.Did.{IsTimed, Moments, waited_at}
-use Rattle.wbt_journal.specs.Each.{Each}
-use Rattle.wbt_journal.specs.Effects.{Flight, Wait, effect, moment_of}
-use Rattle.wbt_journal.specs.Told.{Told}
-use Rattle.wbt_journal.specs.declared.entry.CheckEntry.{CheckEntry}
-use Rattle.wbt_journal.specs.declared.entry.EstEntry.{EstEntry}
+use Rattle.wbt_run_worker.proofs.Common.{Moments, waited_at, Each, Flight, Wait, effect, moment_of, Told, CheckEntry, EstEntry, IsOfFlusher, if_none, if_weaker, IsTold}
+use Rattle.wbt_flusher.specs.Did.{IsTimed}
 use Rattle.wbt_run_laws.specs.Elsewhere.{IsPlain}
-use Rattle.wbt_run_laws.specs.Owns.{IsOfFlusher}
-use Rattle.wbt_run_laws.proofs.Effects.{if_none, if_weaker}
-use Rattle.wbt_run_worker.specs.Went.{IsTold}
 use Rattle.wbt_run_worker.proofs.Lists.{each_and, has_it}
 
 -- nothing is among none

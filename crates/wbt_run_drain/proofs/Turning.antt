@@ -3,23 +3,16 @@ use Rattle.std.proofs.Common.{◌≡◌, ℕ, ◌<◌, Bool, List, get_or, set, 
 use Rattle.std.proofs.lemmas.List.{get_or-set_other, get_or-set_same, map-set, set-get_or}
 use mathlib.Core.Logic.{dite}
 use native.Mathlib.Decide.{ℕ_discrete}
-use Rattle.wbt_kit.specs.declared.kit.Kit.{Kit}
-use Rattle.wbt_kit.specs.declared.kit.Seats.{Seats}
+use Rattle.wbt_run_worker.proofs.Common.{Kit, Seats, puts_none, StepsInTurn, job_by, HoldsAll, Has, Trace, Desk}
 use Rattle.wbt_queue.specs.Passes.{known_of}
-use Rattle.wbt_run_steps.proofs.Queues.{puts_each, puts_none, puts_then}
-use Rattle.wbt_run_steps.specs.Kinds.{StepsInTurn}
-use Rattle.wbt_run_worker.specs.Answers.{job_by}
+use Rattle.wbt_run_steps.proofs.Queues.{puts_each, puts_then}
 use Rattle.wbt_run_worker.specs.declared.round.JobOutcome.{JobOutcome}
 use Rattle.wbt_run_worker.specs.declared.round.JobOutcome.TheVariants as job
 use Rattle.wbt_run_worker.specs.declared.side.CpuSide.{CpuSide}
 use Rattle.wbt_run_worker.specs.declared.side.End.{End}
 use Rattle.wbt_run_worker.specs.declared.side.End.TheVariants.{Ended, Halted, Faulted, Spent, Refused, Stopped}
 use Rattle.wbt_run_worker.proofs.Lists.{map_at}
-use Rattle.wbt_table.specs.Calls.{HoldsAll}
 use Rattle.wbt_table.specs.Layout.{domains as limits_of}
-use Rattle.wbt_table.specs.Rule.{Has}
-use Rattle.wbt_trace.specs.declared.trace.Trace.{Trace}
-use Rattle.wbt_writer.specs.Desk.{Desk}
 use Rattle.wbt_run_drain.specs.Standing.{AreStanding, NoneStopped, SideStands, TellTurns, WentOn}
 use Rattle.wbt_run_drain.specs.Teams.{desks_of}
 use Rattle.wbt_run_drain.specs.Turned.{end_by}

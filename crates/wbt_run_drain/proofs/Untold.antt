@@ -3,20 +3,11 @@ use Rattle.std.proofs.Common.{◌≡◌, inl, ℕ, ◌<◌, ◌≤◌, Bool, Lis
 use mathlib.Core.Logic.{dite}
 use lib.ListN.{get_elem?}
 use native.Mathlib.Decide.{ℕ_discrete}
-use Rattle.wbt_book.specs.Ledger.{absorbs, completes, dirties, times}
-use Rattle.wbt_counter.proofs.Sums.{total_same}
+use Rattle.wbt_run_worker.proofs.Common.{absorbs, completes, dirties, times, total_same, CpuRecord, contexts, domains, Told, AreSeatsOf, HasCpu, HasNoPageSteps, HoldsAll, setting, Layout, Has, Seated, Trace, first_notes, owner_of, Kit, Seats, Team, owed_in, owed_totals, IsApart, firsts_of, record_of, record_is, Grew, NotedSince, Shown, first_shown, noted_more, noted_now}
 use Rattle.wbt_run_seats.specs.Gathered.{AreGatheredIn}
-use Rattle.wbt_run_seats.specs.Opened.{first_notes}
-use Rattle.wbt_run_seats.specs.Parts.{owner_of}
 use Rattle.wbt_fraction.specs.Several as fraction
-use Rattle.wbt_grant.specs.declared.record.CpuRecord.{CpuRecord}
-use Rattle.wbt_journal.specs.Machine.{contexts, domains}
-use Rattle.wbt_journal.specs.Told.{Told, told as told_by}
-use Rattle.wbt_kit.specs.Kit.{AreSeatsOf, HasCpu}
-use Rattle.wbt_kit.specs.declared.kit.Kit.{Kit}
-use Rattle.wbt_kit.specs.declared.kit.Seats.{Seats}
+use Rattle.wbt_journal.specs.Told.{told as told_by}
 use Rattle.wbt_published.specs.Passes as est
-use Rattle.wbt_run_worker.specs.Team.{Team, owed_in, owed_totals}
 use Rattle.wbt_run_worker.specs.declared.side.CpuSide.{CpuSide}
 use Rattle.wbt_run_worker.specs.declared.side.End.{End}
 use Rattle.wbt_run_worker.specs.declared.side.End.TheVariants.{Ended}
@@ -26,20 +17,9 @@ use Rattle.std.specs.List.{sum_by}
 use Rattle.wbt_run_steps.specs.Inodes.{OnlyQueue}
 use Rattle.wbt_queue.specs.Passes.{known_of}
 use Rattle.wbt_run_steps.specs.Queues.{PutsMore}
-use Rattle.wbt_run_steps.specs.Records.{IsApart, firsts_of, record_of}
-use Rattle.wbt_run_steps.proofs.Changing.{record_is}
 use Rattle.wbt_run_steps.proofs.Logging.{none_as}
-use Rattle.wbt_table.specs.Calls.{HasNoPageSteps, HoldsAll}
-use Rattle.wbt_table.specs.Layout.{setting, domains as limits_of}
-use Rattle.wbt_table.specs.declared.layout.Layout.{Layout}
-use Rattle.wbt_table.specs.Rule.{Has}
-use Rattle.wbt_table.specs.Seat.{Seated}
-use Rattle.wbt_trace.specs.declared.trace.Trace.{Trace}
-use Rattle.wbt_run_laws.specs.Grew.{Grew}
-use Rattle.wbt_run_laws.specs.Noted.{NotedSince}
-use Rattle.wbt_run_laws.specs.Shown.{Shown, first_shown}
+use Rattle.wbt_table.specs.Layout.{domains as limits_of}
 use Rattle.wbt_run_laws.proofs.Growing.{by_nothing}
-use Rattle.wbt_run_laws.proofs.Noting.{noted_more, noted_now}
 use Rattle.wbt_run_drain.specs.Whole.{CpuWorked, log_at}
 use Rattle.wbt_run_drain.specs.Standing.{AreQueued, AreStanding, HaveTold, IsCleanedIn, TellTurns, WentOn}
 use Rattle.wbt_run_drain.specs.Ends.{HasEnded, HaveEnded}

@@ -1,45 +1,24 @@
 -- A run whose workers have worked is one of which the laws of turns speak, and so its journal is lawful.
 use Rattle.std.proofs.Common.{◌≡◌, ℕ, zero, suc, ◌+◌, ◌<◌, ◌≤◌, Bool, true, false, List, [], ◌∷◌, ◌++◌, length, get_or, refl, sym, ap, ◌∙◌, subst, arith}
 use Rattle.wbt_book.specs.Book.{Bits, Book, page_word}
-use Rattle.wbt_book.specs.Ledger.{absorbs, all_times, completes, dirties, PageLedger, times}
-use Rattle.wbt_counter.specs.Sums.{one_if}
-use Rattle.wbt_counter.proofs.Sums.{total_same}
-use Rattle.wbt_grant.specs.State.{deeds_of}
-use Rattle.wbt_grant.specs.declared.record.CpuRecord.{CpuRecord}
+use Rattle.wbt_run_worker.proofs.Common.{absorbs, all_times, completes, dirties, times, one_if, total_same, deeds_of, CpuRecord, Trace, setting, Layout, Each, Told, NamesInOrder, CpuJournal, Ending, TimerEntry, AreSeatsOf, IsKitOf, known_of, Kit, Seats, NotedSince, first_shown, empty_log, first_notes, noted, owner_of, kit_is_opened}
+use Rattle.wbt_kit.proofs.Common.{pages, Left, first_limits}
+use Rattle.wbt_book.specs.Ledger.{PageLedger}
 use Rattle.wbt_trace.specs.Lawful.{IsLawful as IsLawfulTrace}
-use Rattle.wbt_trace.specs.declared.trace.Trace.{Trace}
 use Rattle.wbt_table.specs.Census.{Closes, Counted}
-use Rattle.wbt_table.specs.Layout.{setting}
-use Rattle.wbt_table.specs.declared.layout.Layout.{Layout}
-use Rattle.wbt_journal.specs.Each.{Each}
-use Rattle.wbt_journal.specs.Machine.{pages}
-use Rattle.wbt_journal.specs.Told.{Told, NamesInOrder, told}
-use Rattle.wbt_journal.specs.declared.entry.CpuJournal.{CpuJournal}
-use Rattle.wbt_journal.specs.declared.journal.Ending.{Ending}
+use Rattle.wbt_journal.specs.Told.{told}
 use Rattle.wbt_journal.specs.declared.journal.Ending.TheVariants as ending
-use Rattle.wbt_journal.specs.declared.journal.Left.{Left}
-use Rattle.wbt_journal.specs.declared.timer.TimerEntry.{TimerEntry}
-use Rattle.wbt_kit.specs.Kit.{AreSeatsOf, IsKitOf}
-use Rattle.wbt_rules.specs.Thresholds.{first_limits}
-use Rattle.wbt_kit.specs.declared.kit.Kit.{Kit}
-use Rattle.wbt_kit.specs.declared.kit.Seats.{Seats}
 use Rattle.wbt_run_laws.specs.Closed.{Closed, OpensWith, opening_lines}
-use Rattle.wbt_run_laws.specs.Noted.{NotedSince}
-use Rattle.wbt_run_laws.specs.Shown.{first_shown}
 use Rattle.wbt_run_laws.specs.Throttle.{IsThrottleOf, left_from, with_left}
 use Rattle.wbt_run_laws.specs.Worked.{EndedBy, Run, Worked, part_at}
-use Rattle.wbt_run_laws.specs.Worker.{empty_log}
 use Rattle.wbt_run_laws.proofs.Lawfully.{is_lawful}
 use Rattle.wbt_run_laws.proofs.Ledger.{dirtied_were_completed, found_were_dirtied}
 use Rattle.wbt_run_laws.proofs.Owning.{none_waits_when_done}
 use Rattle.wbt_run_seats.specs.Left.{book_of}
-use Rattle.wbt_run_seats.specs.Opened.{IsOpened, first_notes}
-use Rattle.wbt_run_seats.specs.Parts.{noted, owner_of}
+use Rattle.wbt_run_seats.specs.Opened.{IsOpened}
 use Rattle.wbt_run_seats.proofs.Firsts.{timer_opens}
 use Rattle.wbt_run_seats.proofs.Lefts.{closes_run}
-use Rattle.wbt_run_seats.proofs.Opening.{kit_is_opened}
 use Rattle.wbt_run_seats.proofs.Telling.{gathered_tell}
-use Rattle.wbt_published.specs.Passes.{known_of}
 use Rattle.wbt_timer.specs.Side.{ticked}
 use Rattle.wbt_run_drain.specs.Laws.{WorkDirtiedCompleted, WorkFoundDirtied, WorkIsLawful, WorkNoneWaits, journal_of}
 use Rattle.wbt_run_drain.specs.Whole.{AreCleaned, EndingHasCause, HaveWorked, log_at}

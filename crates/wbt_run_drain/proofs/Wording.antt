@@ -1,16 +1,12 @@
 -- What a CPU's log tells of its steps, after more of them.
 use Rattle.std.proofs.Common.{◌≡◌, inl, inr, ℕ, List, [], ◌∷◌, refl, sym, ◌∙◌, subst}
 use lib.ListN.{get_elem?}
-use Rattle.wbt_grant.specs.declared.who.StepKind.{StepKind}
-use Rattle.wbt_kit.specs.declared.kit.Seats.{Seats}
-use Rattle.wbt_kit.specs.declared.turn.Turn.{Turn}
+use Rattle.wbt_run_worker.proofs.Common.{StepKind, Seats, Turn, Steps, StepsInTurn, kinds_in, job_by, AreWordsBy, IsCutOff, IsTurn, IsWhole}
 use Rattle.wbt_kit.specs.declared.turn.Turn.TheVariants as turn
-use Rattle.wbt_run_steps.specs.Kinds.{CutsTurn, Steps, StepsInTurn, TakesTurn, kinds_in}
-use Rattle.wbt_run_worker.specs.Answers.{job_by}
-use Rattle.wbt_run_worker.specs.Words.{AreWordsBy}
+use Rattle.wbt_run_steps.specs.Kinds.{CutsTurn, TakesTurn}
 use Rattle.wbt_run_worker.specs.declared.side.End.{End}
 use Rattle.wbt_run_worker.specs.declared.side.End.TheVariants.{Ended, Halted, Faulted, Spent, Refused, Stopped}
-use Rattle.wbt_turns.specs.Words.{AreCut, AreWhole, IsCut, IsCutOff, IsTurn, IsWhole}
+use Rattle.wbt_turns.specs.Words.{AreCut, AreWhole, IsCut}
 use Rattle.wbt_turns.specs.Words.IsTurn.{rests}
 use Rattle.wbt_turns.proofs.Following.{cut_more, cut_none, whole_more}
 use Rattle.wbt_run_drain.specs.Turned.{end_by}

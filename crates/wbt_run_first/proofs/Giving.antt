@@ -1,13 +1,10 @@
 -- Pages and faults of a rack that takes disks back one after another.
 use Rattle.std.proofs.Common.{◌≡◌, ℕ, ◌+◌, ◌≤◌, List, [], ◌∷◌, length, Option, Some, None, refl, sym, ap, ◌∙◌, subst, arith}
-use Rattle.wbt_io.specs.Faults.{HasRisenBy, more}
-use Rattle.wbt_io.specs.Pages.{Grows}
+use Rattle.wbt_run_worker.proofs.Common.{HasRisenBy, Grows, Each, Trace, Seen, Team, both_told, faults_in, seen, team_of, written_by}
+use Rattle.wbt_io.specs.Faults.{more}
 use Rattle.std.proofs.lemmas.List.Sums.{sum_by-cons}
-use Rattle.wbt_journal.specs.Each.{Each}
-use Rattle.wbt_run_worker.specs.Team.{Seen, Team, both_told, faults_in, seen, team_of, written_by}
 use Rattle.wbt_run_worker.specs.declared.side.CpuSide.{CpuSide}
 use Rattle.wbt_run_worker.specs.declared.side.Post.{Post}
-use Rattle.wbt_trace.specs.declared.trace.Trace.{Trace}
 use Rattle.wbt_run_drain.specs.Teams.{faults_by_all, posts_of, teams_of, written_by_all}
 use Rattle.wbt_run_first.specs.Back.{IsNothing, NotFallen, WereGiven}
 use Rattle.wbt_run_first.specs.Lent.{IsFirstPost}

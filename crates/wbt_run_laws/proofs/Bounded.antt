@@ -4,31 +4,22 @@ use Rattle.std.proofs.lemmas.Bool.{cond_both, cond-true, eqb-true}
 use Rattle.std.proofs.lemmas.List.Sums.{sum_by-cons}
 use Rattle.wbt_book.specs.Book.{Bits, Book, page_word, bits_in}
 use Rattle.wbt_book.specs.Counts.{places}
-use Rattle.wbt_book.proofs.Words.{words_follow}
-use Rattle.wbt_counter.specs.Sums.{total, one_if}
-use Rattle.wbt_counter.proofs.Sums.{total_same, total_sum, total_change, total_nothing}
+use Rattle.wbt_run_laws.proofs.Common.{words_follow, total, one_if, total_same, Setting, DomainLimits, Limits, Trace, Each, domains, contexts, pages, Journal, TimerEntry, left_from, Run, Worked}
+use Rattle.wbt_counter.proofs.Sums.{total_sum, total_change, total_nothing}
 use Rattle.wbt_grant.specs.Bound.{greatest_hard}
 use Rattle.wbt_grant.specs.Formula.{fixed_bound}
 use Rattle.wbt_grant.specs.Setting as setting
-use Rattle.wbt_grant.specs.Setting.{Setting}
 use Rattle.wbt_grant.specs.State.{domain_count}
-use Rattle.wbt_grant.specs.declared.record.DomainLimits.{DomainLimits}
 use Rattle.wbt_grant.proofs.Bounding.{if_nothing, if_sum}
-use Rattle.wbt_num.specs.declared.limits.Limits.{Limits}
 use Rattle.wbt_trace.specs.declared.trace.Context.{Context}
-use Rattle.wbt_trace.specs.declared.trace.Trace.{Trace}
 use Rattle.wbt_trace.specs.declared.writers.Writer.{Writer}
-use Rattle.wbt_journal.specs.Each.{Each}
 use Rattle.wbt_journal.specs.Leaves.{is_inside, page_inside, pages_of_left, count_of, peak_of, writers_in, contexts_in}
-use Rattle.wbt_journal.specs.Machine.{domains, contexts, pages, page_context, context_domain}
+use Rattle.wbt_journal.specs.Machine.{page_context, context_domain}
 use Rattle.wbt_journal.specs.Reads.{triple_in, triples_of}
 use Rattle.wbt_journal.specs.Side.{all_writers}
-use Rattle.wbt_journal.specs.declared.journal.Journal.{Journal}
-use Rattle.wbt_journal.specs.declared.timer.TimerEntry.{TimerEntry}
 use Rattle.wbt_journal.specs.declared.timer.TimerEntry.TheVariants as timer
 use Rattle.wbt_run_laws.specs.Laws.{WorkedLeftIsBounded}
-use Rattle.wbt_run_laws.specs.Throttle.{writer_at, IsThrottleOf, left_from}
-use Rattle.wbt_run_laws.specs.Worked.{Run, Worked}
+use Rattle.wbt_run_laws.specs.Throttle.{writer_at, IsThrottleOf}
 use Rattle.wbt_run_laws.proofs.Lefts.{eqb_turned, left_sum}
 use Rattle.wbt_run_laws.proofs.Lists.{each_append, each_weaker}
 use Rattle.wbt_run_laws.proofs.Triples.{IsLine, first_is, published_are}

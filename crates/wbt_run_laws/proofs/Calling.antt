@@ -4,24 +4,15 @@ use Rattle.std.proofs.lemmas.Bool.{cond_both, cond-true, cond-false, eqb-true, e
 use Rattle.std.proofs.lemmas.List.Elements.{Contains-append_left}
 use mathlib.Core.Option.{some, some-injective}
 use lib.ListN.{get_elem?}
-use Rattle.wbt_estimate.specs.declared.estimate.Estimate.{Estimate}
-use Rattle.wbt_flex.specs.declared.share.Fraction.{Fraction}
-use Rattle.wbt_fraction.specs.Laws.{begun, AllBelow, Falls}
-use Rattle.wbt_fraction.specs.Notes.{added_at, reach_of, NoneAfter}
+use Rattle.wbt_run_laws.proofs.Common.{Estimate, Fraction, begun, Falls, added_at, Note, Found, Added, Period, first_one, Known, first_version, Each, Follows, after, IsKept, newer, IsNewest, begun_at_once, AreInOrder}
+use Rattle.wbt_fraction.specs.Laws.{AllBelow}
+use Rattle.wbt_fraction.specs.Notes.{reach_of, NoneAfter}
 use Rattle.wbt_fraction.specs.Sums.{total as weigh}
 use Rattle.wbt_fraction.specs.Seat.{Ready}
 use Rattle.wbt_fraction.specs.Words.{period_of}
-use Rattle.wbt_fraction.specs.declared.domain.note.Note.{Note}
-use Rattle.wbt_fraction.specs.declared.domain.note.Note.TheVariants.{Found, Added, Period}
-use Rattle.wbt_published.specs.Known.{first_one, note_of}
-use Rattle.wbt_published.specs.declared.known.Known.{Known}
-use Rattle.wbt_published.proofs.Places.{first_version, note_other}
-use Rattle.wbt_journal.specs.Each.{Each}
-use Rattle.wbt_journal.specs.Estimates.{Follows}
-use Rattle.wbt_journal.specs.Walk.{after}
+use Rattle.wbt_published.specs.Known.{note_of}
+use Rattle.wbt_published.proofs.Places.{note_other}
 use Rattle.wbt_run_laws.specs.Calls.{AreFound, LooksAddNone, AddIsNoted, ReadMayBeKept, BeginIsNoted, ReadTellsNothing, PublishIsTold, ReadIsNewest}
-use Rattle.wbt_run_laws.specs.Notes.{IsKept, newer, IsNewest}
-use Rattle.wbt_run_laws.specs.Ticks.{begun_at_once, AreInOrder}
 use Rattle.wbt_run_laws.proofs.Lists.{here, there}
 use Rattle.wbt_run_laws.proofs.Walking.{after_append}
 

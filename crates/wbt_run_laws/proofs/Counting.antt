@@ -1,33 +1,17 @@
 -- The points of folds and of counts.
 use Rattle.std.proofs.Common.{◌≡◌, ℕ, ◌<◌, true, nat_lt, List, [], ◌∷◌, ◌++◌, length, flat_map, unsigned_abs, sym, ap, ◌∙◌, subst, arith}
 use Rattle.std.proofs.lemmas.List.{length-map}
-use Rattle.wbt_counter.specs.Batch.{domain_batch, context_batch}
-use Rattle.wbt_counter.specs.declared.counter.Counter.{Counter}
+use Rattle.wbt_run_laws.proofs.Common.{domain_batch, context_batch, Counter, Fold, Reading, Setting, no_record, CpuRecord, Trace, fold_in, reads_of, Each, effect, tells, items_from, parts_of, all_told, Told, told, CheckEntry, DomainLine, Journal, onto, Grew, limits_in, WereHeld, IsOwn, IsOwnCheck, part_at, Run, Worked}
 use Rattle.wbt_counter.specs.declared.counter.Counter.TheVariants as counter
-use Rattle.wbt_counter.specs.declared.record.Fold.{Fold}
-use Rattle.wbt_counter.specs.declared.record.Reading.{Reading}
 use Rattle.wbt_grant.specs.SeatLaws.{IsRecordedSum}
-use Rattle.wbt_grant.specs.Setting.{Setting, batch_of}
-use Rattle.wbt_grant.specs.State.{no_record}
-use Rattle.wbt_grant.specs.declared.record.CpuRecord.{CpuRecord}
+use Rattle.wbt_grant.specs.Setting.{batch_of}
 use Rattle.wbt_grant.proofs.Seats.{readings_are_sums}
-use Rattle.wbt_trace.specs.declared.trace.Trace.{Trace}
-use Rattle.wbt_journal.specs.Counts.{Load, fold_in, folds_in, loads_in, loads_of, read_loads, reads_of, IsSum, CountsAreSums}
-use Rattle.wbt_journal.specs.Each.{Each}
-use Rattle.wbt_journal.specs.Effects.{effect}
-use Rattle.wbt_journal.specs.Items.{tells, items_from, parts_of, all_told}
+use Rattle.wbt_journal.specs.Counts.{Load, folds_in, loads_in, loads_of, read_loads, IsSum, CountsAreSums}
 use Rattle.wbt_journal.specs.Laws.{IsFullFold, VersionsAreOnce}
 use Rattle.wbt_journal.specs.Machine as machine
-use Rattle.wbt_journal.specs.Told.{Told, told}
-use Rattle.wbt_journal.specs.declared.entry.CheckEntry.{CheckEntry}
-use Rattle.wbt_journal.specs.declared.entry.DomainLine.{DomainLine}
-use Rattle.wbt_journal.specs.declared.journal.Journal.{Journal}
 use Rattle.wbt_journal.proofs.Folding.{once_is_up}
-use Rattle.wbt_run_laws.specs.Grew.{onto, reading_of, readings_in, Grew}
-use Rattle.wbt_run_laws.specs.Held.{limits_in, WereHeld}
+use Rattle.wbt_run_laws.specs.Grew.{reading_of, readings_in}
 use Rattle.wbt_run_laws.specs.Laws.{WorkedFoldsAreUp, WorkedCountsSumFolds}
-use Rattle.wbt_run_laws.specs.Owns.{IsOwn, IsOwnCheck}
-use Rattle.wbt_run_laws.specs.Worked.{part_at, Run, Worked}
 use Rattle.wbt_run_laws.proofs.Effects.{each_listed, each_told, if_weaker}
 use Rattle.wbt_run_laws.proofs.Folding.{record_full, many_folds, versions_once, sums_are}
 use Rattle.wbt_run_laws.proofs.Lists.{each_append, each_weaker, each_both, each_unmap, each_flat, each_into, gained_each, each_front, each_rest}

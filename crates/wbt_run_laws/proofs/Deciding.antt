@@ -1,26 +1,14 @@
 -- Checks stand where they are due, and decide by an estimate of the journal.
 use Rattle.std.proofs.Common.{◌≡◌, ℕ, ◌<◌, true, Some, Option, List, [], ◌∷◌, sym, subst}
 use Rattle.std.proofs.lemmas.Bool.{ltb-true}
-use Rattle.wbt_estimate.specs.declared.estimate.Estimate.{Estimate}
+use Rattle.wbt_run_laws.proofs.Common.{Estimate, Trace, Each, effect, estimates_of, Item, begins, tells, parts_of, all_told, contexts, Event, item, Side, first_side, is_own_task, side_after, Told, Along, CheckEntry, Journal, IsOwn, IsOwnCheck, items_told, part_at, Run, Worked}
 use Rattle.wbt_rules.specs.First.{first_estimate}
-use Rattle.wbt_trace.specs.declared.trace.Trace.{Trace}
 use Rattle.wbt_journal.specs.Checks.{named_estimate, nth_estimate, DecidesBy, NoneDue}
-use Rattle.wbt_journal.specs.Each.{Each}
-use Rattle.wbt_journal.specs.Effects.{effect}
-use Rattle.wbt_journal.specs.Estimates.{opened_at, estimates_of, NamesEstimate, ChecksNameEstimates}
-use Rattle.wbt_journal.specs.Items.{Item, begins, tells, parts_of, all_told}
+use Rattle.wbt_journal.specs.Estimates.{opened_at, NamesEstimate, ChecksNameEstimates}
 use Rattle.wbt_journal.specs.Lawful.{item_of_event, items_among, DecidesEvent, HasChecks}
-use Rattle.wbt_journal.specs.Machine.{contexts}
-use Rattle.wbt_journal.specs.Side.{Event, item, ends, Side, first_side, is_own_task, side_after}
-use Rattle.wbt_journal.specs.Told.{Told}
-use Rattle.wbt_journal.specs.Walk.{Along}
-use Rattle.wbt_journal.specs.declared.entry.CheckEntry.{CheckEntry}
-use Rattle.wbt_journal.specs.declared.journal.Journal.{Journal}
+use Rattle.wbt_journal.specs.Side.{ends}
 use Rattle.wbt_run_laws.specs.Laws.{WorkedChecksAreRight, WorkedNamesAreOfEstimates}
 use Rattle.wbt_run_laws.specs.Noted.{DecidesByRead, DecidesAlong}
-use Rattle.wbt_run_laws.specs.Owns.{IsOwn, IsOwnCheck}
-use Rattle.wbt_run_laws.specs.Walks.{items_told}
-use Rattle.wbt_run_laws.specs.Worked.{part_at, Run, Worked}
 use Rattle.wbt_run_laws.proofs.Counting.{in_parts, own_part}
 use Rattle.wbt_run_laws.proofs.Effects.{if_both, if_weaker}
 use Rattle.wbt_run_laws.proofs.Estimating.{read_is_told, nth_within}

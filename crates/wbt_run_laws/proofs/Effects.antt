@@ -1,7 +1,7 @@
 -- Parts of an entry's effect, which are there or not.
 use Rattle.std.proofs.Common.{◌≡◌, false, List, [], Option, Some, None, is_some, IfSome, sym, refl, ap, subst, true≢false}
-use Rattle.wbt_journal.specs.Each.{Each}
-use Rattle.wbt_journal.specs.Effects.{listed, of_part}
+use Rattle.wbt_run_laws.proofs.Common.{Each, of_part}
+use Rattle.wbt_journal.specs.Effects.{listed}
 
 -- ---- parts that aren't there
 

@@ -3,56 +3,29 @@ use Rattle.std.proofs.Common.{◌≡◌, ℕ, zero, suc, ◌+◌, ◌^◌, ◌<�
 use Rattle.std.specs.List.{list_all}
 use Rattle.std.proofs.lemmas.Bool.{ltb-true}
 use Rattle.std.proofs.lemmas.List.Elements.{All-head}
-use Rattle.wbt_counter.specs.Batch.{domain_batch, context_batch}
-use Rattle.wbt_counter.specs.Counters.{is_same}
+use Rattle.wbt_run_laws.proofs.Common.{domain_batch, context_batch, is_same, Fold, Reading, first_at, Estimate, total, Note, no_record, global_threshold, threshold, background_below, thresholds_of, halvings, log2, IsCounted, Task, first_in, first_one, IsAmong, first_version, first_estimates, first, page_after, ended, new_writer, new_cpu, cpu_step, cpu_after, CountsAreFresh, versions_after, is_behind, effect, pages_of_task, Side, first_side, side_after, TimerGoesOn, lines_after, after, HasSeen, Grew, limits_in, WereHeld, NotedSince, SharesGrew, IsTold, EstimatesGrew, IsOwn, first_shown, HaveWritten, SideWalked, of_first, knows, knows_nothing, TimerSince, items_told, Walks, part_at, NoneFailed}
 use Rattle.wbt_counter.specs.declared.counter.Counter.TheVariants.{Context, Domain}
-use Rattle.wbt_counter.specs.declared.record.Fold.{Fold}
-use Rattle.wbt_counter.specs.declared.record.Reading.{Reading}
-use Rattle.wbt_estimate.specs.Estimate.{first_at}
-use Rattle.wbt_estimate.specs.declared.estimate.Estimate.{Estimate}
-use Rattle.wbt_counter.specs.Sums.{total}
 use Rattle.wbt_fraction.specs.Notes.{IsHistory}
 use Rattle.wbt_fraction.specs.Sums.{total as weigh}
-use Rattle.wbt_fraction.specs.declared.domain.note.Note.{Note}
 use Rattle.wbt_grant.specs.Kinds.{AreAllowed}
 use Rattle.wbt_grant.specs.Laws.{Holds}
-use Rattle.wbt_grant.specs.State.{no_record, opening}
+use Rattle.wbt_grant.specs.State.{opening}
 use Rattle.wbt_grant.proofs.Tests.{tests_are_right}
 use Rattle.wbt_grant.proofs.Whole.{always_holds}
-use Rattle.wbt_limits.specs.Thresholds.{global_threshold, threshold, background_below, thresholds_of}
-use Rattle.wbt_num.specs.Arithmetic.{halvings, log2}
 use Rattle.wbt_pause.specs.Decision.{decided, decision_of}
-use Rattle.wbt_pause.specs.Reads.{IsCounted}
-use Rattle.wbt_pause.specs.declared.reads.Task.{Task}
-use Rattle.wbt_published.specs.Known.{first_in, first_one}
-use Rattle.wbt_published.specs.Publishing.{IsAmong, IsComplete as KnowsAll}
-use Rattle.wbt_published.proofs.Places.{first_version, note_first}
-use Rattle.wbt_rules.specs.First.{first_estimates}
+use Rattle.wbt_published.specs.Publishing.{IsComplete as KnowsAll}
+use Rattle.wbt_published.proofs.Places.{note_first}
 use Rattle.wbt_rules.specs.Strict.{is_strict}
 use Rattle.wbt_strict.specs.Decision.{decision_for}
-use Rattle.wbt_task.specs.Allowance.{first, page_after, ended}
-use Rattle.wbt_task.specs.History.{new_writer, new_cpu, cpu_step, cpu_after}
 use Rattle.wbt_journal.specs.Checks.{IsQuiet, StandsTold, task_numbers}
-use Rattle.wbt_journal.specs.Counts.{CountsAreFresh, versions_after, is_behind}
-use Rattle.wbt_journal.specs.Effects.{effect}
-use Rattle.wbt_journal.specs.Machine.{pages_of_task}
 use Rattle.wbt_journal.specs.Pages.{NamesPages, next_page}
-use Rattle.wbt_journal.specs.Side.{Side, first_side, side_after}
-use Rattle.wbt_journal.specs.Timer.{TimerGoesOn, lines_after}
 use Rattle.wbt_journal.specs.Told.{folded, checked}
-use Rattle.wbt_journal.specs.Walk.{after}
 use Rattle.wbt_run_laws.specs.Closed.{Closed, SharesTell, PassesTell}
 use Rattle.wbt_run_laws.specs.EightPages.{eight_trace, eight_setting, eight_steps, eight_end, eight_check, eight_fold, eight_numbers, wrote_page, eight_told, told_event, eight_events, eight_journal, eight_last, eight_timer, eight_run, EightPagesAreWorked}
-use Rattle.wbt_run_laws.specs.Grew.{HasSeen, Grew}
-use Rattle.wbt_run_laws.specs.Held.{limits_in, WereHeld}
-use Rattle.wbt_run_laws.specs.Noted.{NotedSince}
-use Rattle.wbt_run_laws.specs.Notes.{SharesGrew, IsTold, EstimatesGrew}
-use Rattle.wbt_run_laws.specs.Owns.{IsOwn, IsOfWriters}
-use Rattle.wbt_run_laws.specs.Shown.{first_shown, HaveWritten, Wrote, SideWalked}
-use Rattle.wbt_run_laws.specs.Small.{of_first, knows, knows_nothing, timer_opened}
-use Rattle.wbt_run_laws.specs.Ticks.{gate_stopped, TimerSince}
-use Rattle.wbt_run_laws.specs.Walks.{items_told, Walks}
-use Rattle.wbt_run_laws.specs.Worked.{part_at, NoneFailed}
+use Rattle.wbt_run_laws.specs.Owns.{IsOfWriters}
+use Rattle.wbt_run_laws.specs.Shown.{Wrote}
+use Rattle.wbt_run_laws.specs.Small.{timer_opened}
+use Rattle.wbt_run_laws.specs.Ticks.{gate_stopped}
 use Rattle.wbt_run_laws.proofs.Lists.{and_both, here, not_ahead}
 use Rattle.wbt_run_laws.proofs.Noting.{noted_of_writers}
 use Rattle.wbt_run_laws.proofs.Small.{one_of, free_in_range, small_is_lawful, small_is_throttle, small_is_setting, small_opens, none_in, zero_is_behind, zeros, own_zeros, other_zeros, first_rises, no_notes}

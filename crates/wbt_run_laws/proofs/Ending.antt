@@ -6,32 +6,22 @@ use Rattle.std.proofs.lemmas.List.Folds.{list_any_at}
 use Rattle.std.proofs.lemmas.List.Sums.{sum_by-cons, sum_by-append}
 use mathlib.Core.Logic.{dite}
 use native.Mathlib.Decide.{ℕ_discrete}
-use Rattle.wbt_counter.specs.Sums.{one_if}
+use Rattle.wbt_run_laws.proofs.Common.{one_if, Trace, Each, Flight, Write, effect, of_part, ToldFlusher, parts_of, all_told, pages_of_task, writes_after, Told, after, Journal, IsOwn, IsOwnFlight, items_told, part_at, NoneFailed, Run, Worked}
 use Rattle.wbt_num.specs.declared.most.TheConstants.{MOST_PAGE_STEPS}
 use Rattle.wbt_rules.specs.declared.moments.TheConstants.{MOST_FAULTS}
 use Rattle.wbt_trace.specs.Lawful as trace_law
 use Rattle.wbt_trace.specs.declared.trace.FlusherLine.{FlusherLine}
 use Rattle.wbt_trace.specs.declared.trace.TaskLine.{TaskLine}
-use Rattle.wbt_trace.specs.declared.trace.Trace.{Trace}
-use Rattle.wbt_journal.specs.Each.{Each}
-use Rattle.wbt_journal.specs.Effects.{Flight, Write, effect, of_part}
-use Rattle.wbt_journal.specs.Flights.{ToldFlusher, new_flusher, flusher_of, first_flushers, is_own_flusher}
-use Rattle.wbt_journal.specs.Items.{parts_of, all_told}
+use Rattle.wbt_journal.specs.Flights.{new_flusher, flusher_of, first_flushers, is_own_flusher}
 use Rattle.wbt_journal.specs.Leaves.{is_failure, is_fault_of, has_failed, some_failed, a_flusher_failed, is_page_step, has_all_steps, writes_of, WroteAll, EndsBy}
-use Rattle.wbt_journal.specs.Machine.{cpu_of_task, pages_of_task}
-use Rattle.wbt_journal.specs.Pages.{writes_after}
+use Rattle.wbt_journal.specs.Machine.{cpu_of_task}
 use Rattle.wbt_journal.specs.Side.{is_on}
 use Rattle.wbt_rules.specs.Things.{flusher_cpu}
-use Rattle.wbt_journal.specs.Told.{Told}
-use Rattle.wbt_journal.specs.Walk.{after}
 use Rattle.wbt_journal.specs.declared.journal.Ending.{Ending}
 use Rattle.wbt_journal.specs.declared.journal.Ending.TheVariants as ending
-use Rattle.wbt_journal.specs.declared.journal.Journal.{Journal}
 use Rattle.wbt_run_laws.specs.Laws.{WorkedEndingIsRight}
-use Rattle.wbt_run_laws.specs.Owns.{IsOwn, IsOwnFlight}
 use Rattle.wbt_run_laws.specs.Phases.{FailsWithItsLast}
-use Rattle.wbt_run_laws.specs.Walks.{items_told}
-use Rattle.wbt_run_laws.specs.Worked.{part_at, NoneFailed, AllWritten, SomeFailed, SomeSpent, EndedBy, Run, Worked}
+use Rattle.wbt_run_laws.specs.Worked.{AllWritten, SomeFailed, SomeSpent, EndedBy}
 use Rattle.wbt_run_laws.proofs.Counting.{many, set_cpus, in_parts, all_is, own_part}
 use Rattle.wbt_run_laws.proofs.Faulting.{and_false, faults_counted, fault_shows}
 use Rattle.wbt_run_laws.proofs.Parts.{joined, part_at_most}

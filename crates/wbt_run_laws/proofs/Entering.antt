@@ -5,30 +5,14 @@ use Rattle.std.proofs.lemmas.Bool.{cond-true, cond-false, eqb-true}
 use Rattle.std.proofs.lemmas.List.Sums.{sum_by-cons}
 use mathlib.Core.Logic.{dite}
 use native.Mathlib.Decide.{ℕ_discrete}
-use Rattle.wbt_counter.specs.Sums.{one_if}
+use Rattle.wbt_run_laws.proofs.Common.{one_if, Fraction, CpuRecord, Known, Trace, reads_of, Each, Flight, Write, effect, NamesGoOn, names_after, tells, writes_after, PeriodsGoOn, periods_after, is_own_task, Told, CheckEntry, DomainLine, HasNamed, KeepsPeriods, IsOwn, IsOwnCheck, IsOwnFlight, HaveWritten, items_told}
 use Rattle.wbt_counter.proofs.Sums.{put_same}
-use Rattle.wbt_flex.specs.declared.share.Fraction.{Fraction}
 use Rattle.wbt_grant.specs.Seats.{maker_of, found_by, record_after}
-use Rattle.wbt_grant.specs.declared.record.CpuRecord.{CpuRecord}
 use Rattle.wbt_grant.proofs.Seats.{record_is_known}
-use Rattle.wbt_published.specs.declared.known.Known.{Known}
-use Rattle.wbt_trace.specs.declared.trace.Trace.{Trace}
-use Rattle.wbt_journal.specs.Counts.{reads_of}
-use Rattle.wbt_journal.specs.Each.{Each}
-use Rattle.wbt_journal.specs.Effects.{Flight, Write, effect}
-use Rattle.wbt_journal.specs.Estimates.{Named, is_no_newer, NamesGoOn, names_after}
-use Rattle.wbt_journal.specs.Items.{tells}
-use Rattle.wbt_journal.specs.Pages.{NamesPage, PagesAreNext, Writes, writes_after}
-use Rattle.wbt_journal.specs.Reads.{Period, PeriodsGoOn, periods_after, periods_read, is_no_later, is_new_enough}
-use Rattle.wbt_journal.specs.Side.{is_own_task}
-use Rattle.wbt_journal.specs.Told.{Told}
-use Rattle.wbt_journal.specs.declared.entry.CheckEntry.{CheckEntry}
-use Rattle.wbt_journal.specs.declared.entry.DomainLine.{DomainLine}
+use Rattle.wbt_journal.specs.Estimates.{Named, is_no_newer}
+use Rattle.wbt_journal.specs.Pages.{NamesPage, PagesAreNext, Writes}
+use Rattle.wbt_journal.specs.Reads.{Period, periods_read, is_no_later, is_new_enough}
 use Rattle.wbt_run_laws.specs.Entries.{RecordBecomes, WriteIsNext, OthersWriteNone, NoneFalls, CheckNamesSeen, OthersNameNone, CheckReadsKept, OthersReadNone}
-use Rattle.wbt_run_laws.specs.Notes.{HasNamed, KeepsPeriods}
-use Rattle.wbt_run_laws.specs.Owns.{IsOwn, IsOwnCheck, IsOwnFlight}
-use Rattle.wbt_run_laws.specs.Shown.{HaveWritten}
-use Rattle.wbt_run_laws.specs.Walks.{items_told}
 use Rattle.wbt_run_laws.proofs.Effects.{none_of, if_none, if_weaker, part_none}
 use Rattle.wbt_run_laws.proofs.Lists.{and_both, list_all_append, each_weaker, both_true, not_ahead}
 use Rattle.wbt_run_laws.proofs.Walking.{IsSilent, walks_silent}

@@ -4,27 +4,14 @@ use Rattle.std.proofs.lemmas.Bool.{cond-true, ltb-true}
 use Rattle.std.proofs.lemmas.List.Elements.{All-contains}
 use mathlib.Core.Option.{some, some-injective, some-ne-none}
 use lib.ListN.{get_elem?}
-use Rattle.wbt_estimate.specs.declared.estimate.Estimate.{Estimate}
-use Rattle.wbt_published.specs.Known.{first_in, first_one, note_of}
-use Rattle.wbt_published.specs.Publishing.{IsAmong}
+use Rattle.wbt_run_laws.proofs.Common.{Estimate, first_in, first_one, IsAmong, first_estimates, Trace, Each, effect, of_part, estimates_of, Follows, Item, begins, tells, items_from, parts_of, all_told, contexts, Told, Along, EstEntry, Journal, newer, IsOwn, part_at, Run, Worked}
+use Rattle.wbt_published.specs.Known.{note_of}
 use Rattle.wbt_published.proofs.Places.{note_other}
-use Rattle.wbt_rules.specs.First.{first_estimate, first_estimates}
+use Rattle.wbt_rules.specs.First.{first_estimate}
 use Rattle.wbt_rules.proofs.Openings.{first_in_range}
-use Rattle.wbt_trace.specs.declared.trace.Trace.{Trace}
 use Rattle.wbt_journal.specs.Checks.{nth_estimate}
-use Rattle.wbt_journal.specs.Each.{Each}
-use Rattle.wbt_journal.specs.Effects.{effect, of_part}
-use Rattle.wbt_journal.specs.Estimates.{estimate_in, estimates_of, Follows, newest_of, IsNext, EstimatesFollow, estimates_after}
-use Rattle.wbt_journal.specs.Items.{Item, begins, tells, items_from, parts_of, all_told}
-use Rattle.wbt_journal.specs.Machine.{contexts}
-use Rattle.wbt_journal.specs.Told.{Told}
-use Rattle.wbt_journal.specs.Walk.{Along}
-use Rattle.wbt_journal.specs.declared.entry.EstEntry.{EstEntry}
-use Rattle.wbt_journal.specs.declared.journal.Journal.{Journal}
+use Rattle.wbt_journal.specs.Estimates.{estimate_in, newest_of, IsNext, EstimatesFollow, estimates_after}
 use Rattle.wbt_run_laws.specs.Laws.{WorkedEstimatesAreUp}
-use Rattle.wbt_run_laws.specs.Notes.{newer}
-use Rattle.wbt_run_laws.specs.Owns.{IsOwn}
-use Rattle.wbt_run_laws.specs.Worked.{part_at, Run, Worked}
 use Rattle.wbt_run_laws.proofs.Counting.{many, set_cpus, in_parts, all_is, own_part}
 use Rattle.wbt_run_laws.proofs.Lists.{flat_append, each_weaker}
 use Rattle.wbt_run_laws.proofs.Parts.{joined, each_cpu, each_item}

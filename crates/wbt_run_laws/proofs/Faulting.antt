@@ -2,14 +2,12 @@
 use Rattle.std.proofs.Common.{◌≡◌, ℕ, ◌+◌, Bool, true, false, ◌&&◌, cond, eqb, nat_le, Option, None, Some, IfSome, List, [], ◌∷◌, count_by, sym, refl, ap, ◌∙◌, subst, arith, eqb-true, eq-eqb}
 use Rattle.std.proofs.lemmas.Bool.{cond_both}
 use Rattle.std.proofs.lemmas.List.Sums.{sum_by-cons}
-use Rattle.wbt_counter.specs.Sums.{one_if}
+use Rattle.wbt_run_laws.proofs.Common.{one_if, Flight, effect, of_part, ToldFlusher, MayMove, moved, Told, Along, after, flusher_after, FliesInTurn}
 use Rattle.wbt_rules.specs.declared.moments.TheConstants.{MOST_FAULTS}
-use Rattle.wbt_journal.specs.Effects.{Flight, Move, takes, flies, lands, fails, gives_back, effect, of_part}
-use Rattle.wbt_journal.specs.Flights.{ToldFlusher, ToldPhase, scanning, flying, returning, failed, emptied, returned, taken, flown, landed, given_back, faulted, Hands, MayMove, moved}
+use Rattle.wbt_journal.specs.Effects.{Move, takes, flies, lands, fails, gives_back}
+use Rattle.wbt_journal.specs.Flights.{ToldPhase, scanning, flying, returning, failed, emptied, returned, taken, flown, landed, given_back, faulted, Hands}
 use Rattle.wbt_journal.specs.Leaves.{is_failure, is_fault, is_fault_of}
-use Rattle.wbt_journal.specs.Told.{Told}
-use Rattle.wbt_journal.specs.Walk.{Along, after}
-use Rattle.wbt_run_laws.specs.Phases.{flusher_after, FliesInTurn, is_failed, FailsWithItsLast, FaultsAreCounted, FaultShows, OwnFaultsAreAll}
+use Rattle.wbt_run_laws.specs.Phases.{is_failed, FailsWithItsLast, FaultsAreCounted, FaultShows, OwnFaultsAreAll}
 
 pub and_true : (b : Bool) → b ≡ (b && true)
 and_true true = refl

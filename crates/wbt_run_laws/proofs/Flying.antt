@@ -4,15 +4,9 @@ use Rattle.std.proofs.lemmas.Bool.{cond-true, cond-false}
 use Rattle.std.proofs.lemmas.List.{get_or-set_other}
 use mathlib.Core.Logic.{dite}
 use native.Mathlib.Decide.{ℕ_discrete}
-use Rattle.wbt_trace.specs.declared.trace.Trace.{Trace}
-use Rattle.wbt_journal.specs.Each.{Each}
-use Rattle.wbt_journal.specs.Effects.{Flight, Move, takes, flies, lands, fails, gives_back, effect, of_part}
-use Rattle.wbt_journal.specs.Flights.{ToldFlusher, no_flusher, MayMove, moved, flusher_of, FliesBy, flushers_by, flushers_after_told, Flies, flushers_after}
-use Rattle.wbt_journal.specs.Told.{Told}
-use Rattle.wbt_journal.specs.Walk.{Along}
-use Rattle.wbt_run_laws.specs.Owns.{IsOwn, IsOwnFlight}
-use Rattle.wbt_run_laws.specs.Phases.{flusher_after, FliesInTurn}
-use Rattle.wbt_run_laws.specs.Walks.{items_told}
+use Rattle.wbt_run_laws.proofs.Common.{Trace, Each, Flight, effect, of_part, ToldFlusher, MayMove, moved, Told, Along, IsOwn, IsOwnFlight, flusher_after, FliesInTurn, items_told}
+use Rattle.wbt_journal.specs.Effects.{Move, takes, flies, lands, fails, gives_back}
+use Rattle.wbt_journal.specs.Flights.{no_flusher, flusher_of, FliesBy, flushers_by, flushers_after_told, Flies, flushers_after}
 
 -- where nothing becomes of a flusher that isn't there, the flusher itself is changed
 changed_own : (h : ToldFlusher → ToldFlusher) → h no_flusher ≡ no_flusher → (flushers : List ToldFlusher) (f : ℕ) → flusher_of (set flushers f (h (flusher_of flushers f))) f ≡ h (flusher_of flushers f)

@@ -4,24 +4,19 @@ use Rattle.std.proofs.lemmas.Bool.{cond_both, cond-true}
 use Rattle.std.proofs.lemmas.Int.{ints}
 use Rattle.std.proofs.lemmas.List.Elements.{All-nil, All-cons, All-head, All-tail}
 use Rattle.std.proofs.lemmas.List.Sums.{sum_by-cons, length-filter}
-use Rattle.wbt_counter.specs.Counters.{is_same, folds_of}
+use Rattle.wbt_run_laws.proofs.Common.{is_same, total, one_if, Counter, Fold, total_same, Setting, fold_in, Each, Told, onto}
+use Rattle.wbt_counter.specs.Counters.{folds_of}
 use Rattle.wbt_counter.specs.History.{History, folds_by, times_made, AreFolds}
 use Rattle.wbt_counter.specs.Recorded.{sum_up_to, recorded_sum}
-use Rattle.wbt_counter.specs.Sums.{total, one_if}
-use Rattle.wbt_counter.specs.declared.counter.Counter.{Counter}
-use Rattle.wbt_counter.specs.declared.record.Fold.{Fold}
 use Rattle.wbt_counter.proofs.Debts.{is_same-itself}
-use Rattle.wbt_counter.proofs.Sums.{total_same, total_ℤ_same}
-use Rattle.wbt_grant.specs.Setting.{Setting, batch_of}
+use Rattle.wbt_counter.proofs.Sums.{total_ℤ_same}
+use Rattle.wbt_grant.specs.Setting.{batch_of}
 use Rattle.wbt_grant.specs.State.{State}
 use Rattle.wbt_grant.specs.Laws.{RecordsTell}
 use Rattle.wbt_grant.specs.Rule.{Rule}
 use Rattle.wbt_grant.proofs.Seats.{folds_are_recorded}
-use Rattle.wbt_journal.specs.Counts.{fold_in, folds_in, of_counter, is_version, sum_to}
-use Rattle.wbt_journal.specs.Each.{Each}
+use Rattle.wbt_journal.specs.Counts.{folds_in, of_counter, is_version, sum_to}
 use Rattle.wbt_journal.specs.Laws.{VersionsAreOnce}
-use Rattle.wbt_journal.specs.Told.{Told}
-use Rattle.wbt_run_laws.specs.Grew.{onto}
 use Rattle.wbt_run_laws.proofs.Parts.{joined, weigh, records_sum, records_weigh}
 
 -- ---- measures of folds

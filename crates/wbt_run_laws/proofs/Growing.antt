@@ -1,11 +1,9 @@
 -- Growth over one turn after another.
 use Rattle.std.proofs.Common.{cond, List, [], flat_map, sym, refl, ap, ◌∙◌, subst, arith}
 use Rattle.std.proofs.lemmas.List.Sums.{sum_by-append}
-use Rattle.wbt_counter.specs.declared.record.Reading.{Reading}
-use Rattle.wbt_journal.specs.Counts.{fold_in, CountsAreFresh, versions_after}
+use Rattle.wbt_run_laws.proofs.Common.{Reading, fold_in, CountsAreFresh, versions_after, Told, onto, Gained, HasSeen}
 use Rattle.wbt_journal.specs.Leaves.{is_page_step}
-use Rattle.wbt_journal.specs.Told.{Told}
-use Rattle.wbt_run_laws.specs.Grew.{onto, event_in, found_in, readings_in, Gained, HasSeen, GrewByNothing, GrewByBoth, GrewIsFresh, GrewServesOnce}
+use Rattle.wbt_run_laws.specs.Grew.{event_in, found_in, readings_in, GrewByNothing, GrewByBoth, GrewIsFresh, GrewServesOnce}
 use Rattle.wbt_run_laws.proofs.Lists.{gained_none, gained_more, gained_count, longer_none, longer_more, onto_append, flat_append}
 use Rattle.wbt_run_laws.proofs.Walking.{walks_none, told_more}
 

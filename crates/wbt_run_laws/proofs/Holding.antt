@@ -3,21 +3,11 @@ use Rattle.std.proofs.Common.{◌≡◌, ℕ, ◌≤◌, inl, inr, ◌⊎◌, tr
 use Rattle.std.specs.List.{list_all}
 use Rattle.std.proofs.lemmas.Bool.{cond_both, eqb-true}
 use Rattle.std.proofs.lemmas.List.Elements.{All-contains}
-use Rattle.wbt_num.specs.declared.limits.Limits.{Limits}
+use Rattle.wbt_run_laws.proofs.Common.{Limits, DomainLimits, reads_of, Each, effect, of_part, tells, Told, Along, CheckEntry, DomainLine, limits_in, WereHeld, Longer}
 use Rattle.wbt_grant.specs.Rule.{NeverBack}
 use Rattle.wbt_grant.specs.State.{newest_of}
-use Rattle.wbt_grant.specs.declared.record.DomainLimits.{DomainLimits}
-use Rattle.wbt_journal.specs.Counts.{reads_of}
-use Rattle.wbt_journal.specs.Each.{Each}
-use Rattle.wbt_journal.specs.Effects.{effect, of_part}
-use Rattle.wbt_journal.specs.Items.{tells}
 use Rattle.wbt_journal.specs.Reads.{reads_in, is_no_newer, is_new, TriplesGoOn, triples_after}
-use Rattle.wbt_journal.specs.Told.{Told}
-use Rattle.wbt_journal.specs.Walk.{Along}
-use Rattle.wbt_journal.specs.declared.entry.CheckEntry.{CheckEntry}
-use Rattle.wbt_journal.specs.declared.entry.DomainLine.{DomainLine}
-use Rattle.wbt_run_laws.specs.Held.{limits_of, limits_in, IsHeld, WereHeld, HeldOne, HeldMore, CheckTellsHeld, OthersTellNone, IsLoaded, HeldWereLoaded, HeldStayNew}
-use Rattle.wbt_run_laws.specs.Notes.{Longer}
+use Rattle.wbt_run_laws.specs.Held.{limits_of, IsHeld, HeldOne, HeldMore, CheckTellsHeld, OthersTellNone, IsLoaded, HeldWereLoaded, HeldStayNew}
 use Rattle.wbt_run_laws.proofs.Lists.{each_weaker, all_rest, here, there, longer_none, longer_more, longer_has, and_both, not_ahead}
 
 -- ---- one after another

@@ -1,7 +1,7 @@
 -- What stands in a list in order, each at a place of its own.
 use Rattle.std.proofs.Common.{ℕ, ◌+◌, ◌≤◌, ◌≡◌, inl, inr, Bool, cond, List, [], ◌∷◌, ◌++◌, count_by, sym, ap, subst, arith}
 use Rattle.std.proofs.lemmas.List.Sums.{sum_by-cons}
-use Rattle.wbt_journal.specs.Each.{Each}
+use Rattle.wbt_run_laws.proofs.Common.{Each}
 use Rattle.wbt_run_laws.specs.Grew.{StandInOrder}
 
 module _ {A : Type 0} where

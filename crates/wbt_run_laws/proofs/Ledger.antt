@@ -5,24 +5,15 @@ use Rattle.std.proofs.lemmas.List.Sums.{sum_by-cons, sum_by-append}
 use Rattle.wbt_book.specs.Ledger.{dirties, claims, completes, redirties, absorbs, times, all_times}
 use Rattle.wbt_book.specs.declared.event.Event.{Event}
 use Rattle.wbt_book.specs.declared.event.Event.TheVariants.{Dirty, Claim, Complete, Redirty, Absorb}
-use Rattle.wbt_counter.specs.Sums.{one_if}
-use Rattle.wbt_counter.proofs.Sums.{total_same}
+use Rattle.wbt_run_laws.proofs.Common.{one_if, total_same, Trace, Each, of_part, parts_of, all_told, pages, Told, Journal, onto, left_from, Run, Worked, part_at}
 use Rattle.wbt_grant.specs.Rule as was
 use Rattle.wbt_grant.specs.State.{deeds_of}
-use Rattle.wbt_trace.specs.declared.trace.Trace.{Trace}
-use Rattle.wbt_journal.specs.Each.{Each}
-use Rattle.wbt_journal.specs.Effects.{event_of, found_of, listed, of_part}
-use Rattle.wbt_journal.specs.Items.{parts_of, all_told}
+use Rattle.wbt_journal.specs.Effects.{event_of, found_of, listed}
 use Rattle.wbt_journal.specs.Leaves as leaves
 use Rattle.wbt_journal.specs.Leaves.{IsEven, WasCompleted, WasDirtied}
-use Rattle.wbt_journal.specs.Machine.{pages}
-use Rattle.wbt_journal.specs.Told.{Told}
-use Rattle.wbt_journal.specs.declared.journal.Journal.{Journal}
 use Rattle.wbt_journal.specs.declared.journal.Left.{Left}
-use Rattle.wbt_run_laws.specs.Grew.{event_in, found_in, onto}
+use Rattle.wbt_run_laws.specs.Grew.{event_in, found_in}
 use Rattle.wbt_run_laws.specs.Laws.{WorkedDirtiedWereCompleted, WorkedFoundWereDirtied, WorkedLedgerIsEven}
-use Rattle.wbt_run_laws.specs.Throttle.{left_from}
-use Rattle.wbt_run_laws.specs.Worked.{Run, Worked, part_at}
 use Rattle.wbt_run_laws.proofs.Counting.{many, all_is, below, in_parts, record_grew}
 use Rattle.wbt_run_laws.proofs.Effects.{if_listed}
 use Rattle.wbt_run_laws.proofs.Lefts.{eqb_turned, left_dirty_is, left_writeback_is}

@@ -4,16 +4,12 @@ use Rattle.std.proofs.lemmas.Bool.{cond_both, cond-true, cond-false, cases_Bool,
 use Rattle.std.proofs.lemmas.List.Sums.{sum_by-cons}
 use Rattle.wbt_book.specs.Book.{Bits, Book, clean, page_word, bits_in}
 use Rattle.wbt_book.proofs.Ledgers.{at_most_one}
-use Rattle.wbt_book.proofs.Words.{words_follow}
-use Rattle.wbt_counter.specs.Sums.{total, one_if}
-use Rattle.wbt_counter.proofs.Sums.{total_same, total_change, total_nothing}
+use Rattle.wbt_run_laws.proofs.Common.{words_follow, total, one_if, total_same, Each, pages, left_from}
+use Rattle.wbt_counter.proofs.Sums.{total_change, total_nothing}
 use Rattle.wbt_journal.specs.Checks.{has_page}
-use Rattle.wbt_journal.specs.Each.{Each}
 use Rattle.wbt_journal.specs.Leaves.{LeftFrom, is_page, left_dirty, left_writeback}
-use Rattle.wbt_journal.specs.Machine.{pages}
 use Rattle.wbt_journal.specs.declared.journal.Left.{Left}
 use Rattle.wbt_run_laws.specs.Laws.{WorkedLeftIsInOrder, WorkedLeftPagesAreThere}
-use Rattle.wbt_run_laws.specs.Throttle.{left_from}
 use Rattle.wbt_run_laws.proofs.Parts.{total_front}
 
 pub eqb_turned : (a b : ℕ) → eqb a b ≡ eqb b a

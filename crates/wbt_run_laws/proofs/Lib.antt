@@ -1,3 +1,4 @@
+pub mod Common
 pub mod Effects
 pub mod InOrder
 pub mod Lists

@@ -4,9 +4,8 @@ use Rattle.std.specs.List.{list_all}
 use Rattle.std.proofs.lemmas.List.{reverse-append}
 use Rattle.std.proofs.lemmas.List.Elements.{All-nil, All-cons, All-head, All-tail, Contains-append_left, Contains-append_right, Contains-push}
 use Rattle.std.proofs.lemmas.List.Sums.{sum_by-append, sum_by-cons}
-use Rattle.wbt_journal.specs.Each.{Each}
-use Rattle.wbt_run_laws.specs.Grew.{onto, Gained, StandInOrder}
-use Rattle.wbt_run_laws.specs.Notes.{Longer}
+use Rattle.wbt_run_laws.proofs.Common.{Each, onto, Gained, Longer}
+use Rattle.wbt_run_laws.specs.Grew.{StandInOrder}
 use Rattle.wbt_run_laws.proofs.InOrder.{stand_both, each_standing, count_standing}
 
 module _ {A : Type 0} where

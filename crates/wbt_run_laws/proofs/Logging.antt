@@ -1,11 +1,10 @@
 -- A log with entries more tells what it told, and then these.
 use Rattle.std.proofs.Common.{◌≡◌, ℕ, zero, suc, ◌+◌, ◌<◌, ◌≤◌, true, List, [], ◌∷◌, ◌++◌, length, flat_map, slice_get, Option, Some, sym, refl, ap, ◌∙◌, subst, arith, append_assoc, append-nil, true≢false}
 use Rattle.std.proofs.lemmas.List.{length-append}
-use Rattle.wbt_journal.specs.Told.{Told, one_checked, one_estimated, told_entry, told, InOrder}
-use Rattle.wbt_journal.specs.declared.entry.CheckEntry.{CheckEntry}
+use Rattle.wbt_run_laws.proofs.Common.{Told, told, CheckEntry, EstEntry}
+use Rattle.wbt_journal.specs.Told.{one_checked, one_estimated, told_entry, InOrder}
 use Rattle.wbt_journal.specs.declared.entry.Entry.{Entry}
 use Rattle.wbt_journal.specs.declared.entry.Entry.TheVariants as entry
-use Rattle.wbt_journal.specs.declared.entry.EstEntry.{EstEntry}
 use Rattle.wbt_run_laws.specs.Log.{is_plain, LoggedNothing, LoggedBoth, LoggedEntry, LoggedCheck, LoggedEstimate}
 use Rattle.wbt_run_laws.proofs.Lists.{flat_append}
 

@@ -1,26 +1,11 @@
 -- What was noted on a seat that was joined, as noted by one CPU.
 use Rattle.std.proofs.Common.{◌≡◌, ℕ, suc, ◌≤◌, false, List, [], ◌∷◌, ◌++◌, length, sym, refl, ap, ◌∙◌, subst, arith, cond, eqb}
 use Rattle.std.proofs.lemmas.List.{length-append}
-use Rattle.wbt_estimate.specs.declared.estimate.Estimate.{Estimate}
-use Rattle.wbt_fraction.specs.Laws.{begun}
-use Rattle.wbt_fraction.specs.Notes.{added_at}
+use Rattle.wbt_run_laws.proofs.Common.{Estimate, begun, added_at, Note, Found, Added, Period, first_in, Known, Each, effect, NamesGoOn, names_after, estimates_of, tells, PeriodsGoOn, periods_after, Told, EstEntry, TellsKept, KeepsPeriods, HasNamed, IsTold, items_told}
 use Rattle.wbt_fraction.specs.Sums.{total as weigh}
-use Rattle.wbt_fraction.specs.declared.domain.note.Note.{Note}
-use Rattle.wbt_fraction.specs.declared.domain.note.Note.TheVariants.{Found, Added, Period}
 use Rattle.wbt_fraction.proofs.Sums.{total_append as weigh_append}
-use Rattle.wbt_published.specs.Known.{first_in}
-use Rattle.wbt_published.specs.declared.known.Known.{Known}
-use Rattle.wbt_journal.specs.Each.{Each}
-use Rattle.wbt_journal.specs.Effects.{effect}
-use Rattle.wbt_journal.specs.Estimates.{NamesGoOn, names_after, estimates_of}
-use Rattle.wbt_journal.specs.Items.{tells}
-use Rattle.wbt_journal.specs.Reads.{PeriodsGoOn, periods_after}
-use Rattle.wbt_journal.specs.Told.{Told}
-use Rattle.wbt_journal.specs.declared.entry.EstEntry.{EstEntry}
 use Rattle.wbt_run_laws.specs.Elsewhere.{SharesMayMove, IsPlain, PlainEstimates}
 use Rattle.wbt_run_laws.specs.Entries.{is_check}
-use Rattle.wbt_run_laws.specs.Notes.{TellsKept, KeepsPeriods, HasNamed, IsTold}
-use Rattle.wbt_run_laws.specs.Walks.{items_told}
 use Rattle.wbt_run_laws.proofs.Effects.{none_of, if_none, part_none}
 use Rattle.wbt_run_laws.proofs.Entering.{names_silent, periods_silent}
 use Rattle.wbt_run_laws.proofs.Lists.{each_weaker, each_map}

@@ -1,27 +1,12 @@
 -- Turns with their notes and decisions, one after another.
 use Rattle.std.proofs.Common.{ℕ, List, [], ◌++◌, Contains, inl, inr, ⊎_elim, sym, refl, ap, ◌∙◌, subst, arith, append_assoc, append-nil}
 use Rattle.std.proofs.lemmas.List.Sums.{sum_by-append}
-use Rattle.wbt_estimate.specs.declared.estimate.Estimate.{Estimate}
-use Rattle.wbt_flex.specs.declared.share.Fraction.{Fraction}
-use Rattle.wbt_fraction.specs.declared.domain.note.Note.{Note}
-use Rattle.wbt_published.specs.Known.{first_in}
-use Rattle.wbt_published.specs.declared.known.Known.{Known}
-use Rattle.wbt_rules.specs.First.{first_estimates}
-use Rattle.wbt_trace.specs.declared.trace.Trace.{Trace}
-use Rattle.wbt_journal.specs.Counts.{reads_of}
-use Rattle.wbt_journal.specs.Each.{Each}
-use Rattle.wbt_journal.specs.Effects.{effect}
-use Rattle.wbt_journal.specs.Estimates.{Follows, NamesGoOn, names_after, estimate_in, estimates_of}
-use Rattle.wbt_journal.specs.Items.{begins, tells}
-use Rattle.wbt_journal.specs.Reads.{added_by, PeriodsGoOn, periods_after}
-use Rattle.wbt_journal.specs.Side.{Event, item, ends, Side, side_after}
-use Rattle.wbt_journal.specs.Told.{Told}
-use Rattle.wbt_journal.specs.Walk.{Along}
-use Rattle.wbt_journal.specs.declared.entry.CheckEntry.{CheckEntry}
-use Rattle.wbt_journal.specs.declared.entry.DomainLine.{DomainLine}
-use Rattle.wbt_journal.proofs.Parting.{along_more}
+use Rattle.wbt_run_laws.proofs.Common.{Estimate, Fraction, Note, first_in, Known, first_estimates, Trace, reads_of, Each, effect, Follows, NamesGoOn, names_after, estimates_of, begins, tells, PeriodsGoOn, periods_after, Event, item, Side, side_after, Told, Along, CheckEntry, DomainLine, along_more, Longer, IsKept, TellsKept, KeepsPeriods, SharesGrew, newer, IsNewest, HasNamed, IsTold, EstimatesGrew}
+use Rattle.wbt_journal.specs.Estimates.{estimate_in}
+use Rattle.wbt_journal.specs.Reads.{added_by}
+use Rattle.wbt_journal.specs.Side.{ends}
 use Rattle.wbt_run_laws.specs.Noted.{DecidesByRead, DecidesAlong, NotedWriterTurnIsSince, NotedFlusherTurnIsSince, NotedNow, NotedMore}
-use Rattle.wbt_run_laws.specs.Notes.{Notes, Longer, WasRead, IsKept, TellsKept, KeepsPeriods, SharesGrew, newer, IsNewest, HasNamed, IsTold, EstimatesGrew}
+use Rattle.wbt_run_laws.specs.Notes.{Notes, WasRead}
 use Rattle.wbt_run_laws.specs.Owns.{IsOfFlusher}
 use Rattle.wbt_run_laws.proofs.Effects.{if_none, if_weaker}
 use Rattle.wbt_run_laws.proofs.Lists.{each_append, each_weaker, each_map, longer_none, longer_more, longer_has, flat_append}

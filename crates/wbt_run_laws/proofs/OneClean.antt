@@ -1,27 +1,10 @@
 -- The flusher's turns of the run of one page.
 use Rattle.std.proofs.Common.{◌≡◌, ℕ, zero, suc, ◌+◌, ◌≤◌, true, false, cond, eqb, ◌&&◌, List, [], ◌∷◌, ◌++◌, inl, sym, refl, ap, ◌∙◌, subst, arith, ne_eqb, Bool, true≢false}
-use Rattle.wbt_counter.specs.Batch.{domain_batch, context_batch}
-use Rattle.wbt_counter.specs.Sums.{one_if}
-use Rattle.wbt_estimate.specs.Estimate.{first_at}
-use Rattle.wbt_estimate.specs.declared.estimate.Estimate.{Estimate}
-use Rattle.wbt_fraction.specs.Laws.{begun}
-use Rattle.wbt_fraction.specs.Notes.{added_at}
+use Rattle.wbt_run_laws.proofs.Common.{domain_batch, context_batch, one_if, first_at, Estimate, begun, added_at, no_record, halvings, log2, first_in, first_one, first_estimates, Follows, estimates_of, after, Grew, NotedSince, SharesGrew, newer, IsNewest, IsTold, EstimatesGrew, one_trace, one_setting, one_end, one_last, one_first, one_notes, IsOwn, first_shown, of_first, knows, knows_nothing}
 use Rattle.wbt_fraction.specs.Sums.{total as weigh}
-use Rattle.wbt_grant.specs.State.{no_record}
-use Rattle.wbt_num.specs.Arithmetic.{halvings, log2}
-use Rattle.wbt_published.specs.Known.{first_in, first_one}
-use Rattle.wbt_rules.specs.First.{first_estimates}
-use Rattle.wbt_journal.specs.Estimates.{Follows, estimates_of}
 use Rattle.wbt_journal.specs.Reads.{added_to}
 use Rattle.wbt_journal.specs.Told.{claimed, batch, done, share, estimated, fault, gave_back}
-use Rattle.wbt_journal.specs.Walk.{after}
-use Rattle.wbt_run_laws.specs.Grew.{Grew}
-use Rattle.wbt_run_laws.specs.Noted.{NotedSince}
-use Rattle.wbt_run_laws.specs.Notes.{SharesGrew, newer, IsNewest, IsTold, EstimatesGrew}
-use Rattle.wbt_run_laws.specs.OnePage.{one_trace, one_setting, one_end, second_estimate, one_cleans, one_last, one_added, one_first, one_notes}
-use Rattle.wbt_run_laws.specs.Owns.{IsOwn}
-use Rattle.wbt_run_laws.specs.Shown.{first_shown}
-use Rattle.wbt_run_laws.specs.Small.{of_first, knows, knows_nothing}
+use Rattle.wbt_run_laws.specs.OnePage.{second_estimate, one_cleans, one_added}
 use Rattle.wbt_run_laws.proofs.Noting.{noted_of_flusher}
 use Rattle.wbt_run_laws.proofs.Small.{none_in}
 use Rattle.wbt_run_laws.proofs.Calling.{tail_of}

@@ -2,27 +2,19 @@
 use Rattle.std.proofs.Common.{◌≡◌, ℕ, zero, suc, ◌+◌, ◌<◌, true, false, cond, List, [], ◌∷◌, ◌++◌, Contains, inl, sym, refl, ap, ◌∙◌, subst, arith, Bool}
 use mathlib.Core.Option.{some, some-injective, some-ne-none}
 use lib.ListN.{get_elem?}
-use Rattle.wbt_counter.specs.Batch.{domain_batch, context_batch}
+use Rattle.wbt_run_laws.proofs.Common.{domain_batch, context_batch, total, first_at, Estimate, begun, Falls, added_at, Note, global_threshold, threshold, background_below, thresholds_of, halvings, log2, first_one, IsAmong, first_version, onto, one_trace, one_first, one_notes, of_first, period_line, begun_at_once, AreInOrder, TimerSince}
 use Rattle.std.proofs.lemmas.List.Elements.{Contains-append_left, Contains-append_right}
-use Rattle.wbt_counter.specs.Sums.{total}
-use Rattle.wbt_estimate.specs.Estimate.{IsSound, first_at}
-use Rattle.wbt_estimate.specs.declared.estimate.Estimate.{Estimate}
+use Rattle.wbt_estimate.specs.Estimate.{IsSound}
 use Rattle.wbt_flex.specs.Eager.{halved}
-use Rattle.wbt_fraction.specs.Laws.{begun, Falls, AllBelow}
-use Rattle.wbt_fraction.specs.Notes.{added_at, additions, periods, InTime, IsPast, MayStand, IsHistory, IsComplete}
+use Rattle.wbt_fraction.specs.Laws.{AllBelow}
+use Rattle.wbt_fraction.specs.Notes.{additions, periods, InTime, IsPast, MayStand, IsHistory, IsComplete}
 use Rattle.wbt_fraction.specs.Sums.{total as weigh}
 use Rattle.wbt_fraction.specs.Numbers.{number, latest, start_of}
-use Rattle.wbt_fraction.specs.declared.domain.note.Note.{Note}
-use Rattle.wbt_limits.specs.Thresholds.{global_threshold, threshold, background_below, thresholds_of}
-use Rattle.wbt_num.specs.Arithmetic.{halvings, log2}
-use Rattle.wbt_published.specs.Known.{first_one}
-use Rattle.wbt_published.specs.Publishing.{IsAmong, IsComplete as KnowsAll}
-use Rattle.wbt_published.proofs.Places.{first_version}
+use Rattle.wbt_published.specs.Publishing.{IsComplete as KnowsAll}
 use Rattle.wbt_run_laws.specs.Closed.{SharesTell, PassesTell}
-use Rattle.wbt_run_laws.specs.Grew.{onto}
-use Rattle.wbt_run_laws.specs.OnePage.{one_trace, second_estimate, one_ticked, one_read, one_added, one_begun, one_first, one_notes, one_timer, one_run}
-use Rattle.wbt_run_laws.specs.Small.{of_first, timer_opened}
-use Rattle.wbt_run_laws.specs.Ticks.{period_line, begun_at_once, has_line, AreInOrder, TimerSince}
+use Rattle.wbt_run_laws.specs.OnePage.{second_estimate, one_ticked, one_read, one_added, one_begun, one_timer, one_run}
+use Rattle.wbt_run_laws.specs.Small.{timer_opened}
+use Rattle.wbt_run_laws.specs.Ticks.{has_line}
 use Rattle.wbt_run_laws.proofs.OneClean.{off}
 use Rattle.wbt_run_laws.proofs.Sharing.{nothing_in_order}
 use Rattle.wbt_run_laws.proofs.Small.{two_of, first_is_sound}

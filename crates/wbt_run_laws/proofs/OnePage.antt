@@ -1,22 +1,16 @@
 -- The run of one page, worked out.
 use Rattle.std.proofs.Common.{◌≡◌, ℕ, zero, suc, ◌<◌, ◌≤◌, Some, [], refl, ap, subst, arith, Option, None}
-use Rattle.wbt_counter.specs.Batch.{domain_batch, context_batch}
+use Rattle.wbt_run_laws.proofs.Common.{domain_batch, context_batch, global_threshold, threshold, background_below, thresholds_of, halvings, log2, first, page_after, ended, new_writer, new_cpu, cpu_step, cpu_after, NotedSince, one_trace, one_setting, one_end, one_last, one_first, one_notes, first_shown, part_at, NoneFailed}
 use Rattle.wbt_grant.specs.Kinds.{AreAllowed}
 use Rattle.wbt_grant.specs.Laws.{Holds}
 use Rattle.wbt_grant.specs.State.{opening}
 use Rattle.wbt_grant.proofs.Tests.{tests_are_right}
 use Rattle.wbt_grant.proofs.Whole.{always_holds}
-use Rattle.wbt_limits.specs.Thresholds.{global_threshold, threshold, background_below, thresholds_of}
-use Rattle.wbt_num.specs.Arithmetic.{halvings, log2}
-use Rattle.wbt_task.specs.Allowance.{first, page_after, ended}
-use Rattle.wbt_task.specs.History.{new_writer, new_cpu, cpu_step, cpu_after}
 use Rattle.wbt_journal.specs.Checks.{NoneDue}
 use Rattle.wbt_journal.specs.declared.journal.Ending.TheVariants as ending
 use Rattle.wbt_run_laws.specs.Closed.{Closed, NotedNothing}
-use Rattle.wbt_run_laws.specs.Noted.{NotedSince}
-use Rattle.wbt_run_laws.specs.OnePage.{one_trace, one_setting, one_steps, one_end, one_journal, one_side, one_last, one_first, one_notes, OnePageIsWorked}
-use Rattle.wbt_run_laws.specs.Shown.{first_shown}
-use Rattle.wbt_run_laws.specs.Worked.{part_at, NoneFailed, NoneWaits, AllWritten}
+use Rattle.wbt_run_laws.specs.OnePage.{one_steps, one_journal, one_side, OnePageIsWorked}
+use Rattle.wbt_run_laws.specs.Worked.{NoneWaits, AllWritten}
 use Rattle.wbt_run_laws.proofs.Small.{small_is_lawful, small_is_throttle, small_is_setting, small_opens, no_notes}
 use Rattle.wbt_run_laws.proofs.OneClean.{second_since}
 use Rattle.wbt_run_laws.proofs.OneJoined.{one_timed, one_tell, one_passes}

@@ -2,45 +2,18 @@
 use Rattle.std.proofs.Common.{◌≡◌, ℕ, zero, suc, ◌+◌, ◌^◌, ◌≤◌, true, false, eqb, leb, not, ◌&&◌, ◌||◌, pos, List, [], ◌∷◌, ◌++◌, flat_map, count_by, slice_get, Contains, inl, inr, sym, refl, ap, subst, arith}
 use Rattle.std.specs.List.{list_all}
 use Rattle.std.proofs.lemmas.Bool.{ltb-true}
-use Rattle.wbt_counter.specs.Batch.{domain_batch, context_batch}
-use Rattle.wbt_counter.specs.Counters.{is_same}
+use Rattle.wbt_run_laws.proofs.Common.{domain_batch, context_batch, is_same, Reading, first_at, Estimate, begun, added_at, Found, no_record, global_threshold, threshold, background_below, thresholds_of, halvings, log2, IsCounted, Task, first_in, first_one, first_version, first_estimates, first, page_after, ended, new_writer, new_cpu, cpu_step, cpu_after, CountsAreFresh, versions_after, is_behind, pages_of_task, first_side, item, side_after, tells, HasSeen, Grew, limits_in, WereHeld, NotedSince, SharesGrew, IsTold, EstimatesGrew, one_trace, one_setting, one_end, one_last, one_first, one_notes, IsOwn, first_shown, HaveWritten, SideWalked, of_first, knows, knows_nothing, items_told, Walks}
 use Rattle.wbt_counter.specs.declared.counter.Counter.TheVariants.{Context, Domain}
-use Rattle.wbt_counter.specs.declared.record.Reading.{Reading}
-use Rattle.wbt_estimate.specs.Estimate.{first_at}
-use Rattle.wbt_estimate.specs.declared.estimate.Estimate.{Estimate}
-use Rattle.wbt_fraction.specs.Laws.{begun}
-use Rattle.wbt_fraction.specs.Notes.{added_at}
 use Rattle.wbt_fraction.specs.Sums.{total as weigh}
 use Rattle.wbt_fraction.specs.Words.{word_of}
-use Rattle.wbt_fraction.specs.declared.domain.note.Note.TheVariants.{Found}
-use Rattle.wbt_grant.specs.State.{no_record}
-use Rattle.wbt_limits.specs.Thresholds.{global_threshold, threshold, background_below, thresholds_of}
-use Rattle.wbt_num.specs.Arithmetic.{halvings, log2}
 use Rattle.wbt_pause.specs.Decision.{decided, decision_of}
-use Rattle.wbt_pause.specs.Reads.{IsCounted}
-use Rattle.wbt_pause.specs.declared.reads.Task.{Task}
-use Rattle.wbt_published.specs.Known.{first_in, first_one}
-use Rattle.wbt_published.proofs.Places.{first_version, note_first}
-use Rattle.wbt_rules.specs.First.{first_estimates}
+use Rattle.wbt_published.proofs.Places.{note_first}
 use Rattle.wbt_rules.specs.Strict.{is_strict}
 use Rattle.wbt_strict.specs.Decision.{decision_for}
-use Rattle.wbt_task.specs.Allowance.{first, page_after, ended}
-use Rattle.wbt_task.specs.History.{new_writer, new_cpu, cpu_step, cpu_after}
 use Rattle.wbt_journal.specs.Checks.{task_numbers}
-use Rattle.wbt_journal.specs.Counts.{CountsAreFresh, versions_after, is_behind}
-use Rattle.wbt_journal.specs.Machine.{pages_of_task}
-use Rattle.wbt_journal.specs.Side.{first_side, item, side_after}
-use Rattle.wbt_journal.specs.Items.{tells}
 use Rattle.wbt_journal.specs.Told.{wrote, checked}
-use Rattle.wbt_run_laws.specs.Grew.{HasSeen, Grew}
-use Rattle.wbt_run_laws.specs.Held.{limits_in, WereHeld}
-use Rattle.wbt_run_laws.specs.Noted.{NotedSince}
-use Rattle.wbt_run_laws.specs.Notes.{SharesGrew, IsTold, EstimatesGrew}
-use Rattle.wbt_run_laws.specs.OnePage.{one_trace, one_setting, one_end, one_check, one_writes, one_events, one_side, one_last, one_read, one_first, one_notes}
-use Rattle.wbt_run_laws.specs.Owns.{IsOwn}
-use Rattle.wbt_run_laws.specs.Shown.{first_shown, HaveWritten, Wrote, SideWalked}
-use Rattle.wbt_run_laws.specs.Small.{of_first, knows, knows_nothing}
-use Rattle.wbt_run_laws.specs.Walks.{items_told, Walks}
+use Rattle.wbt_run_laws.specs.OnePage.{one_check, one_writes, one_events, one_side, one_read}
+use Rattle.wbt_run_laws.specs.Shown.{Wrote}
 use Rattle.wbt_run_laws.proofs.Lists.{and_both, here, there}
 use Rattle.wbt_run_laws.proofs.Noting.{noted_of_writers}
 use Rattle.wbt_run_laws.proofs.Small.{free_in_range, none_in, zero_is_behind, zeros, own_zeros, other_zeros}

@@ -1,21 +1,14 @@
 -- The points that each part shows by itself.
 use Rattle.std.proofs.Common.{ℕ, ◌<◌, List, [], sym, refl, ap, ◌∙◌, subst}
 use Rattle.std.proofs.lemmas.List.{length-map}
-use Rattle.wbt_expiry.specs.declared.due.Due.{Due}
-use Rattle.wbt_trace.specs.declared.trace.Trace.{Trace}
+use Rattle.wbt_run_laws.proofs.Common.{Due, Trace, items_from, parts_of, tells, Told, Along, after, Journal, IsOwn, list_after, WaitsInTurn, part_at, Run, Worked}
 use Rattle.wbt_journal.specs.Flights.{first_flushers}
-use Rattle.wbt_journal.specs.Items.{items_from, parts_of, tells}
 use Rattle.wbt_journal.specs.Laws.{IsOwnPart, IsOwnWhole}
-use Rattle.wbt_journal.specs.Told.{Told}
 use Rattle.wbt_journal.specs.Waits.{WaitsOnOwn, first_lists}
-use Rattle.wbt_journal.specs.Walk.{Along, after}
 use Rattle.wbt_journal.specs.declared.journal.Ending.{Ending}
-use Rattle.wbt_journal.specs.declared.journal.Journal.{Journal}
 use Rattle.wbt_journal.proofs.Owning.{own_parts}
 use Rattle.wbt_run_laws.specs.Laws.{WorkedCountsStayFresh, WorkedTriplesStayNew, WorkedPeriodsStayNew, WorkedNamesStayNew, WorkedWritesAreInOrder, WorkedFlushersAreInTurn, WorkedWaitsAreInOrder, WorkedWaitsAreOwn, WorkedNoneWaitsWhenDone}
-use Rattle.wbt_run_laws.specs.Owns.{IsOwn}
-use Rattle.wbt_run_laws.specs.Waits.{list_after, WaitsInTurn}
-use Rattle.wbt_run_laws.specs.Worked.{part_at, EndedBy, Run, Worked}
+use Rattle.wbt_run_laws.specs.Worked.{EndedBy}
 use Rattle.wbt_run_laws.proofs.Counting.{in_parts, record_held}
 use Rattle.wbt_run_laws.proofs.Flying.{all_fly}
 use Rattle.wbt_run_laws.proofs.Holding.{held_new}

@@ -2,15 +2,11 @@
 use Rattle.std.proofs.Common.{◌≡◌, ℕ, zero, suc, ◌+◌, ◌<◌, ◌≤◌, List, [], ◌∷◌, ◌++◌, length, map, flat_map, sum_by, get_or, ℤ, pos, ◌+ℤ◌, refl, ap, ◌∙◌, subst, arith}
 use Rattle.std.proofs.lemmas.Int.{ints}
 use Rattle.std.proofs.lemmas.List.Sums.{sum_by-append}
-use Rattle.wbt_counter.specs.Sums.{total, total_ℤ}
-use Rattle.wbt_counter.proofs.Sums.{total_same, total_ℤ_same}
+use Rattle.wbt_run_laws.proofs.Common.{total, total_same, Each, Item, begins, tells, items_from, Told, told, onto, items_told}
+use Rattle.wbt_counter.specs.Sums.{total_ℤ}
+use Rattle.wbt_counter.proofs.Sums.{total_ℤ_same}
 use Rattle.wbt_journal.specs.declared.entry.CpuJournal.{CpuJournal}
-use Rattle.wbt_journal.specs.Each.{Each}
-use Rattle.wbt_journal.specs.Items.{Item, begins, tells, items_from}
 use Rattle.wbt_journal.specs.Lawful.{EachPart}
-use Rattle.wbt_journal.specs.Told.{Told, told}
-use Rattle.wbt_run_laws.specs.Grew.{onto}
-use Rattle.wbt_run_laws.specs.Walks.{items_told}
 use Rattle.wbt_run_laws.proofs.Lists.{each_append, each_map, flat_append}
 
 abbrev pub joined : (parts : List (List Told)) → List Told

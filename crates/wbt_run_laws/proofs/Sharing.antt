@@ -3,40 +3,18 @@ use Rattle.std.proofs.Common.{◌≡◌, ℕ, zero, suc, ◌+◌, ◌-◌, ◌/�
 use Rattle.std.specs.List.{list_any}
 use Rattle.std.proofs.lemmas.Bool.{cond_both, ltb-true}
 use native.Mathlib.Nat.{div-le_self}
-use Rattle.wbt_counter.specs.Sums.{total}
-use Rattle.wbt_counter.proofs.Sums.{total_same}
+use Rattle.wbt_run_laws.proofs.Common.{total, total_same, Fraction, begun, Falls, added_at, Note, Found, Added, Period, Limits, Trace, reads_of, Each, effect, tells, parts_of, all_told, domains, Told, CheckEntry, DomainLine, Journal, TimerEntry, first_lines, onto, IsKept, TellsKept, IsOwn, IsOwnCheck, period_line, begun_at_once, AreInOrder, part_at, Run, Worked}
 use Rattle.wbt_flex.specs.Proportions.{fraction_of}
-use Rattle.wbt_flex.specs.declared.share.Fraction.{Fraction}
 use Rattle.wbt_fraction.specs.Laws as law
-use Rattle.wbt_fraction.specs.Laws.{begun, Falls}
-use Rattle.wbt_fraction.specs.Notes.{at_of, found_of, added_at, periods, IsPast, IsComplete}
+use Rattle.wbt_fraction.specs.Notes.{at_of, found_of, periods, IsPast, IsComplete}
 use Rattle.wbt_fraction.specs.Sums.{total as weigh}
 use Rattle.wbt_fraction.specs.Numbers.{start_of}
 use Rattle.wbt_fraction.specs.Words.{period_of, events_of, half_of}
-use Rattle.wbt_fraction.specs.declared.domain.note.Note.{Note}
-use Rattle.wbt_fraction.specs.declared.domain.note.Note.TheVariants.{Found, Added, Period}
 use Rattle.wbt_fraction.proofs.Knowing.{all_past_periods, all_were_added, own_order}
-use Rattle.wbt_num.specs.declared.limits.Limits.{Limits}
-use Rattle.wbt_trace.specs.declared.trace.Trace.{Trace}
-use Rattle.wbt_journal.specs.Counts.{reads_of}
-use Rattle.wbt_journal.specs.Each.{Each}
-use Rattle.wbt_journal.specs.Effects.{effect}
-use Rattle.wbt_journal.specs.Items.{tells, parts_of, all_told}
-use Rattle.wbt_journal.specs.Machine.{domains}
 use Rattle.wbt_journal.specs.Reads.{periods_from, added_by, added_to, IsFraction, FractionsAreOfPeriods}
-use Rattle.wbt_journal.specs.Told.{Told}
-use Rattle.wbt_journal.specs.declared.entry.CheckEntry.{CheckEntry}
-use Rattle.wbt_journal.specs.declared.entry.DomainLine.{DomainLine}
-use Rattle.wbt_journal.specs.declared.journal.Journal.{Journal}
-use Rattle.wbt_journal.specs.declared.timer.TimerEntry.{TimerEntry}
 use Rattle.wbt_journal.specs.declared.timer.TimerEntry.TheVariants as timer
-use Rattle.wbt_run_laws.specs.Closed.{first_lines}
-use Rattle.wbt_run_laws.specs.Grew.{onto}
 use Rattle.wbt_run_laws.specs.Laws.{WorkedFractionsAreOfShares}
-use Rattle.wbt_run_laws.specs.Notes.{IsKept, AreKept, TellsKept}
-use Rattle.wbt_run_laws.specs.Owns.{IsOwn, IsOwnCheck}
-use Rattle.wbt_run_laws.specs.Ticks.{period_line, begun_at_once, AreInOrder}
-use Rattle.wbt_run_laws.specs.Worked.{part_at, Run, Worked}
+use Rattle.wbt_run_laws.specs.Notes.{AreKept}
 use Rattle.wbt_run_laws.proofs.Counting.{many, set_cpus, in_parts, all_is, own_part}
 use Rattle.wbt_run_laws.proofs.Effects.{if_both, if_weaker}
 use Rattle.wbt_run_laws.proofs.Lists.{each_weaker, each_both, or_right}

@@ -6,35 +6,21 @@ use Rattle.std.proofs.lemmas.List.Sums.{sum_by-cons}
 use mathlib.Core.Option.{some, some-injective, some-ne-none}
 use lib.ListN.{get_elem?}
 use Rattle.std.proofs.Common.{ne_eqb, IsTrue}
-use Rattle.wbt_book.proofs.Words.{words_follow}
-use Rattle.wbt_counter.specs.Counters.{is_same}
+use Rattle.wbt_run_laws.proofs.Common.{words_follow, is_same, one_if, Counter, Fold, Reading, first_at, Estimate, Note, no_record, global_threshold, threshold, background_below, thresholds_of, IsCounted, Task, first_one, first_version, Trace, pages, of_first}
 use Rattle.wbt_counter.specs.History.{at_least_zero}
-use Rattle.wbt_counter.specs.Sums.{one_if}
 use Rattle.wbt_counter.specs.declared.counter.Count.{Count}
-use Rattle.wbt_counter.specs.declared.counter.Counter.{Counter}
-use Rattle.wbt_counter.specs.declared.record.Fold.{Fold}
-use Rattle.wbt_counter.specs.declared.record.Reading.{Reading}
-use Rattle.wbt_estimate.specs.Estimate.{IsSound, first_at}
-use Rattle.wbt_estimate.specs.declared.estimate.Estimate.{Estimate}
-use Rattle.wbt_fraction.specs.declared.domain.note.Note.{Note}
+use Rattle.wbt_estimate.specs.Estimate.{IsSound}
 use Rattle.wbt_grant.specs.Laws.{NoneAhead}
 use Rattle.wbt_grant.specs.Setting.{IsSetting}
-use Rattle.wbt_grant.specs.State.{no_record}
 use Rattle.wbt_grant.proofs.Example as example
-use Rattle.wbt_limits.specs.Thresholds.{global_threshold, threshold, background_below, thresholds_of}
-use Rattle.wbt_pause.specs.Reads.{IsCounted}
-use Rattle.wbt_pause.specs.declared.reads.Task.{Task}
-use Rattle.wbt_published.specs.Known.{first_one}
 use Rattle.wbt_published.specs.Publishing.{IsRising}
-use Rattle.wbt_published.proofs.Places.{first_version}
 use Rattle.wbt_trace.specs.Lawful.{IsLawful, IsDevice, IsCgroup, IsContext, IsInode, IsTask, HasPace, IsFlusher, IsAction, IsOrder}
 use Rattle.wbt_trace.specs.Lawful.{has_flusher}
-use Rattle.wbt_trace.specs.declared.trace.Trace.{Trace}
 use Rattle.wbt_journal.specs.Checks.{IsInRange}
-use Rattle.wbt_journal.specs.Machine.{pages, page_context}
+use Rattle.wbt_journal.specs.Machine.{page_context}
 use Rattle.wbt_journal.specs.Timer.{HasThresholds}
 use Rattle.wbt_run_laws.specs.Closed.{OpensWith}
-use Rattle.wbt_run_laws.specs.Small.{of_first, first_limits, small_trace, small_setting, free_check}
+use Rattle.wbt_run_laws.specs.Small.{first_limits, small_trace, small_setting, free_check}
 use Rattle.wbt_run_laws.specs.Throttle.{writer_at, IsThrottleOf}
 use Rattle.wbt_run_laws.proofs.Lists.{and_both, or_right}
 

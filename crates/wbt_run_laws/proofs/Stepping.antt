@@ -4,26 +4,18 @@ use Rattle.std.specs.List.{list_all}
 use Rattle.std.proofs.lemmas.Bool.{cond_both}
 use Rattle.std.proofs.lemmas.List.{map-append}
 use Rattle.std.proofs.lemmas.List.Elements.{All-head, All-tail}
-use Rattle.wbt_counter.specs.Counters.{is_same}
-use Rattle.wbt_counter.specs.declared.counter.Counter.{Counter}
-use Rattle.wbt_counter.specs.declared.record.Fold.{Fold}
-use Rattle.wbt_counter.specs.declared.record.Reading.{Reading}
+use Rattle.wbt_run_laws.proofs.Common.{is_same, Counter, Fold, Reading, Setting, CpuRecord, DomainLimits, is_behind, Each, Gained, HasSeen, Grew, Longer}
 use Rattle.wbt_grant.specs.Laws.{NoneAhead}
 use Rattle.wbt_grant.specs.Kinds
 use Rattle.wbt_grant.specs.Record
 use Rattle.wbt_grant.specs.Seats.{record_after, Told, told_in}
 use Rattle.wbt_grant.proofs.Seats.{untold_tells_no_more}
-use Rattle.wbt_grant.specs.Setting.{Setting}
 use Rattle.wbt_grant.specs.State.{found_of}
-use Rattle.wbt_grant.specs.declared.record.CpuRecord.{CpuRecord}
-use Rattle.wbt_grant.specs.declared.record.DomainLimits.{DomainLimits}
 use Rattle.wbt_grant.specs.declared.who.StepKind.TheVariants as kind
 use Rattle.wbt_grant.specs.declared.who.Word.TheVariants as word
-use Rattle.wbt_journal.specs.Counts.{Load, Version, loads_of, versions_of, is_behind}
-use Rattle.wbt_journal.specs.Each.{Each}
+use Rattle.wbt_journal.specs.Counts.{Load, Version, loads_of, versions_of}
 use Rattle.wbt_journal.specs.Told.{wrote, folded, claimed, done, gave_back}
-use Rattle.wbt_run_laws.specs.Grew.{reading_of, Gained, HasSeen, Grew}
-use Rattle.wbt_run_laws.specs.Notes.{Longer}
+use Rattle.wbt_run_laws.specs.Grew.{reading_of}
 use Rattle.wbt_run_laws.specs.Steps.{Gathered, GatheredMore, UntoldGrows, CheckGrows, fold_made, load_made, StepsGrow}
 use Rattle.wbt_run_laws.proofs.Lists.{each_append, each_weaker, each_unmap, gained_none, gained_more, gained_each, gained_was, longer_none, longer_more, and_both, list_all_append, not_ahead}
 

@@ -1,18 +1,12 @@
 -- Turns of the timer, one after another.
 use Rattle.std.proofs.Common.{◌≡◌, ℕ, ◌+◌, ◌*◌, ◌<◌, ◌≤◌, List, [], ◌∷◌, ◌++◌, ◌⊎◌, ◌==◌, Bool, true, false, flat_map, inl, inr, sym, refl, ⊎_elim, ap, ◌∙◌, arith}
 use Rattle.std.proofs.lemmas.Bool.{cases_eq, ne_eqb}
-use Rattle.wbt_counter.specs.Sums.{one_if}
+use Rattle.wbt_run_laws.proofs.Common.{one_if, DomainLimits, Each, TimerGoesOn, lines_after, after, TimerEntry, onto, period_line}
 use Rattle.wbt_num.specs.declared.limits.TheConstants.{LAST_SEQUENCE}
 use Rattle.wbt_grant.specs.State.{version_of}
-use Rattle.wbt_grant.specs.declared.record.DomainLimits.{DomainLimits}
 use Rattle.wbt_grant.specs.declared.record.Raised.{Raised}
-use Rattle.wbt_journal.specs.Each.{Each}
-use Rattle.wbt_journal.specs.Timer.{TimerGoesOn, lines_after}
-use Rattle.wbt_journal.specs.Walk.{after}
-use Rattle.wbt_journal.specs.declared.timer.TimerEntry.{TimerEntry}
 use Rattle.wbt_journal.specs.declared.timer.TimerEntry.TheVariants as timer
-use Rattle.wbt_run_laws.specs.Grew.{onto}
-use Rattle.wbt_run_laws.specs.Ticks.{published_after, peak_for, period_line, Fate, has_line, gate_stopped, last_version, Peak, HasItsCause, IsLastBy, one_stop, raised_by, stops_in, told_by, told_so, times_raised, FewPeaksHaveNoLine, PeaksAreTold, TimerSinceNow, TimerSinceMore}
+use Rattle.wbt_run_laws.specs.Ticks.{published_after, peak_for, Fate, has_line, gate_stopped, last_version, Peak, HasItsCause, IsLastBy, one_stop, raised_by, stops_in, told_by, told_so, times_raised, FewPeaksHaveNoLine, PeaksAreTold, TimerSinceNow, TimerSinceMore}
 use Rattle.wbt_run_laws.proofs.Lists.{each_append, each_weaker, flat_append, onto_append}
 use Rattle.wbt_run_laws.proofs.Walking.{after_append, walked_none, walked_more}
 

@@ -1,19 +1,12 @@
 -- The timer's entries, from the opening on.
 use Rattle.std.proofs.Common.{◌≡◌, ℕ, zero, suc, ◌+◌, ◌<◌, ◌≤◌, Bool, true, false, cond, nat_lt, ltb, List, [], ◌∷◌, ◌++◌, length, set, sym, refl, ap, ◌∙◌, subst, arith}
 use Rattle.std.proofs.lemmas.Bool.{cond-false, le-ltb, lt-ltb}
-use Rattle.wbt_num.specs.declared.limits.Limits.{Limits}
-use Rattle.wbt_trace.specs.declared.trace.Trace.{Trace}
-use Rattle.wbt_journal.specs.Machine.{domains}
-use Rattle.wbt_journal.specs.Timer.{LastLine, LimitsBy, TimerGoesOn, put_line, lines_after}
-use Rattle.wbt_journal.specs.Walk.{Along, after}
-use Rattle.wbt_journal.specs.declared.timer.TimerEntry.{TimerEntry}
+use Rattle.wbt_run_laws.proofs.Common.{Limits, Trace, domains, TimerGoesOn, lines_after, Along, after, TimerEntry, Journal, along_more, first_lines, Run, Worked}
+use Rattle.wbt_journal.specs.Timer.{LastLine, LimitsBy, put_line}
 use Rattle.wbt_journal.specs.declared.timer.TimerEntry.TheVariants as timer
-use Rattle.wbt_journal.specs.declared.journal.Journal.{Journal}
 use Rattle.wbt_journal.specs.Estimates.{opened_at}
-use Rattle.wbt_journal.proofs.Parting.{along_more}
-use Rattle.wbt_run_laws.specs.Closed.{first_lines, opening_lines, OpensWith}
+use Rattle.wbt_run_laws.specs.Closed.{opening_lines, OpensWith}
 use Rattle.wbt_run_laws.specs.Laws.{WorkedTimerFollows, WorkedTimerHasOpened}
-use Rattle.wbt_run_laws.specs.Worked.{Run, Worked}
 use Rattle.wbt_run_laws.proofs.Walking.{after_append}
 use Rattle.wbt_run_laws.proofs.Logging.{one_longer}
 

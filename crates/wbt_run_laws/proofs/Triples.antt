@@ -4,32 +4,16 @@ use Rattle.std.proofs.lemmas.Bool.{cond-true, cond-false, ltb-true}
 use Rattle.std.proofs.lemmas.List.Elements.{All-contains}
 use mathlib.Core.Logic.{dite}
 use native.Mathlib.Decide.{ℕ_discrete}
-use Rattle.wbt_counter.specs.Sums.{one_if}
-use Rattle.wbt_num.specs.declared.limits.Limits.{Limits}
+use Rattle.wbt_run_laws.proofs.Common.{one_if, Limits, DomainLimits, Trace, reads_of, Each, effect, tells, parts_of, domains, Told, after, CheckEntry, DomainLine, Journal, TimerEntry, first_lines, limits_in, IsOwn, IsOwnCheck, part_at, Run, Worked}
 use Rattle.wbt_grant.specs.Rule.{WasPublished, as_first, by_timer}
 use Rattle.wbt_grant.specs.State.{version_of}
-use Rattle.wbt_grant.specs.declared.record.DomainLimits.{DomainLimits}
 use Rattle.wbt_grant.specs.declared.record.TimerRecord.{TimerRecord}
-use Rattle.wbt_trace.specs.declared.trace.Trace.{Trace}
-use Rattle.wbt_journal.specs.Counts.{reads_of}
-use Rattle.wbt_journal.specs.Each.{Each}
-use Rattle.wbt_journal.specs.Effects.{effect}
-use Rattle.wbt_journal.specs.Items.{tells, parts_of}
-use Rattle.wbt_journal.specs.Machine.{domains}
 use Rattle.wbt_journal.specs.Reads.{reads_in, triple_in, triples_of, same_limits, are_limits, is_published, TriplesArePublished}
-use Rattle.wbt_journal.specs.Told.{Told}
-use Rattle.wbt_journal.specs.Walk.{after}
-use Rattle.wbt_journal.specs.declared.entry.CheckEntry.{CheckEntry}
-use Rattle.wbt_journal.specs.declared.entry.DomainLine.{DomainLine}
-use Rattle.wbt_journal.specs.declared.journal.Journal.{Journal}
-use Rattle.wbt_journal.specs.declared.timer.TimerEntry.{TimerEntry}
 use Rattle.wbt_journal.specs.declared.timer.TimerEntry.TheVariants as timer
-use Rattle.wbt_run_laws.specs.Closed.{first_lines, opening_lines}
-use Rattle.wbt_run_laws.specs.Held.{limits_of, limits_in, IsLoaded}
+use Rattle.wbt_run_laws.specs.Closed.{opening_lines}
+use Rattle.wbt_run_laws.specs.Held.{limits_of, IsLoaded}
 use Rattle.wbt_run_laws.specs.Laws.{WorkedTriplesAreOfTimer}
-use Rattle.wbt_run_laws.specs.Owns.{IsOwn, IsOwnCheck}
 use Rattle.wbt_run_laws.specs.Ticks.{published_after}
-use Rattle.wbt_run_laws.specs.Worked.{part_at, Run, Worked}
 use Rattle.wbt_run_laws.proofs.Counting.{in_parts, record_held, own_part}
 use Rattle.wbt_run_laws.proofs.Effects.{each_told, if_weaker}
 use Rattle.wbt_run_laws.proofs.Holding.{held_loaded}

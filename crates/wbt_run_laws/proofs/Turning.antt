@@ -4,27 +4,18 @@ use Rattle.std.proofs.lemmas.List.{map-append}
 use Rattle.std.proofs.lemmas.Bool.{cond-false}
 use mathlib.Core.Logic.{dite}
 use native.Mathlib.Decide.{ℕ_discrete}
-use Rattle.wbt_num.specs.declared.limits.Limits.{Limits}
-use Rattle.wbt_grant.specs.declared.record.DomainLimits.{DomainLimits}
-use Rattle.wbt_expiry.specs.declared.due.Due.{Due}
-use Rattle.wbt_trace.specs.declared.trace.Trace.{Trace}
+use Rattle.wbt_run_laws.proofs.Common.{Limits, DomainLimits, Due, Trace, Each, Flight, Write, effect, of_part, ToldFlusher, MayMove, moved, Item, tells, writes_after, Event, item, Side, is_own_task, side_after, Told, CheckEntry, limits_in, WereHeld, IsOwn, flusher_after, FliesInTurn, HaveWritten, SideWalked, list_after, WaitsInTurn, items_told}
 use Rattle.wbt_journal.specs.Checks.{IsQuiet, MayCheck, Stands, is_judged}
-use Rattle.wbt_journal.specs.Each.{Each}
-use Rattle.wbt_journal.specs.Effects.{Flight, Wait, Write, effect, of_part}
-use Rattle.wbt_journal.specs.Flights.{ToldFlusher, MayMove, moved}
-use Rattle.wbt_journal.specs.Items.{Item, tells}
+use Rattle.wbt_journal.specs.Effects.{Wait}
 use Rattle.wbt_journal.specs.Lawful.{item_of_event, items_among}
-use Rattle.wbt_journal.specs.Pages.{PagesAreNext, writes_after}
-use Rattle.wbt_journal.specs.Side.{Event, item, Side, is_own_task, side_after, side_after_check, side_after_write}
-use Rattle.wbt_journal.specs.Told.{Told}
+use Rattle.wbt_journal.specs.Pages.{PagesAreNext}
+use Rattle.wbt_journal.specs.Side.{side_after_check, side_after_write}
 use Rattle.wbt_journal.specs.Waits.{MayWait, waited}
-use Rattle.wbt_journal.specs.declared.entry.CheckEntry.{CheckEntry}
-use Rattle.wbt_run_laws.specs.Held.{limits_in, WereHeld}
-use Rattle.wbt_run_laws.specs.Owns.{IsOwn, IsOfWriters, IsOfFlusher}
-use Rattle.wbt_run_laws.specs.Phases.{flusher_after, FliesInTurn, Flew}
-use Rattle.wbt_run_laws.specs.Shown.{HaveWritten, ShownFlusher, SideWalked, WriterTurnIsSince, FlusherTurnIsSince, SinceNow, SinceMore}
-use Rattle.wbt_run_laws.specs.Waits.{list_after, Waited, WaitsInTurn}
-use Rattle.wbt_run_laws.specs.Walks.{items_told, Walked}
+use Rattle.wbt_run_laws.specs.Owns.{IsOfWriters, IsOfFlusher}
+use Rattle.wbt_run_laws.specs.Phases.{Flew}
+use Rattle.wbt_run_laws.specs.Shown.{ShownFlusher, WriterTurnIsSince, FlusherTurnIsSince, SinceNow, SinceMore}
+use Rattle.wbt_run_laws.specs.Waits.{Waited}
+use Rattle.wbt_run_laws.specs.Walks.{Walked}
 use Rattle.wbt_run_laws.proofs.Effects.{if_none, part_none}
 use Rattle.wbt_run_laws.proofs.Entering.{writes_silent}
 use Rattle.wbt_run_laws.proofs.Growing.{by_nothing, by_both}

@@ -4,20 +4,13 @@ use Rattle.std.proofs.lemmas.Bool.{cond-true, cond-false}
 use Rattle.std.proofs.lemmas.List.{get_or-set_same, get_or-set_other, length-set}
 use mathlib.Core.Logic.{dite}
 use native.Mathlib.Decide.{ℕ_discrete}
-use Rattle.wbt_expiry.specs.declared.due.Due.{Due}
+use Rattle.wbt_run_laws.proofs.Common.{Due, Trace, Each, effect, of_part, Told, Along, after, IsOwn, list_after, WaitsInTurn, items_told}
 use Rattle.wbt_rules.specs.Things as things
 use Rattle.wbt_trace.specs.declared.trace.FlusherLine.{FlusherLine}
-use Rattle.wbt_trace.specs.declared.trace.Trace.{Trace}
-use Rattle.wbt_journal.specs.Each.{Each}
-use Rattle.wbt_journal.specs.Effects.{Wait, effect, of_part}
+use Rattle.wbt_journal.specs.Effects.{Wait}
 use Rattle.wbt_journal.specs.Flights.{is_own_flusher}
 use Rattle.wbt_journal.specs.Side.{is_on}
-use Rattle.wbt_journal.specs.Told.{Told}
 use Rattle.wbt_journal.specs.Waits.{MayWait, waited, first_lists, list_of, WaitsBy, lists_by, lists_after_told, Waits, lists_after}
-use Rattle.wbt_journal.specs.Walk.{Along, after}
-use Rattle.wbt_run_laws.specs.Owns.{IsOwn}
-use Rattle.wbt_run_laws.specs.Waits.{list_after, WaitsInTurn}
-use Rattle.wbt_run_laws.specs.Walks.{items_told}
 
 -- each list is empty at first
 pub first_list : (lines : List FlusherLine) (f : ℕ) → list_of (first_lists lines) f ≡ []

@@ -1,12 +1,8 @@
 -- Walks over one turn after another.
 use Rattle.std.proofs.Common.{◌≡◌, ℕ, List, [], ◌∷◌, ◌++◌, sym, refl, ap, ◌∙◌, subst}
 use Rattle.std.proofs.lemmas.List.{map-append}
-use Rattle.wbt_journal.specs.Each.{Each}
-use Rattle.wbt_journal.specs.Items.{Item, tells}
-use Rattle.wbt_journal.specs.Told.{Told}
-use Rattle.wbt_journal.specs.Walk.{Along, after}
-use Rattle.wbt_journal.proofs.Parting.{along_more}
-use Rattle.wbt_run_laws.specs.Walks.{items_told, Walked, Walks}
+use Rattle.wbt_run_laws.proofs.Common.{Each, Item, tells, Told, Along, after, along_more, items_told, Walks}
+use Rattle.wbt_run_laws.specs.Walks.{Walked}
 
 module _ {S A : Type 0} (next : S → A → S) where
   pub after_append : (s : S) (xs ys : List A) → after next s (xs ++ ys) ≡ after next (after next s xs) ys

@@ -1,10 +1,8 @@
 -- A worker's turns with its log, one after another.
 use Rattle.std.proofs.Common.{◌≡◌, List, [], ◌++◌, sym, refl, ap, ◌∙◌, subst, append_assoc, append-nil}
-use Rattle.wbt_journal.specs.Told.{Told, told, NamesInOrder}
+use Rattle.wbt_run_laws.proofs.Common.{Told, told, TimerEntry, NotedSince, TimerSince}
+use Rattle.wbt_journal.specs.Told.{NamesInOrder}
 use Rattle.wbt_journal.specs.declared.entry.CpuJournal.{CpuJournal}
-use Rattle.wbt_journal.specs.declared.timer.TimerEntry.{TimerEntry}
-use Rattle.wbt_run_laws.specs.Noted.{NotedSince}
-use Rattle.wbt_run_laws.specs.Ticks.{TimerSince}
 use Rattle.wbt_run_laws.specs.Worker.{WritersGo, FlusherGoes, WentNowhere, WentOn, LogIsWhole, TimerWentNowhere, TimerWentOn, TimerLogIsWhole}
 use Rattle.wbt_run_laws.proofs.Logging.{logged_nothing, logged_both}
 use Rattle.wbt_run_laws.proofs.Noting.{noted_of_writers, noted_of_flusher, noted_now, noted_more}

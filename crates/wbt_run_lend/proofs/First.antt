@@ -6,47 +6,23 @@ use mathlib.Core.Option.{some-injective}
 use Rattle.std.specs.List.{sum_by}
 use Rattle.std.proofs.lemmas.List.{length-map}
 use Rattle.std.proofs.lemmas.List.Sums.{sum_by-cons}
-use Rattle.wbt_book.specs.Ledger.{times_in}
-use Rattle.wbt_counter.specs.Sums.{total}
-use Rattle.wbt_rules.specs.First.{first_estimates}
-use Rattle.wbt_run_seats.specs.Parts.{AreParts, IsPart, noted}
-use Rattle.wbt_run_seats.specs.Rooms.{AreBacked}
-use Rattle.wbt_run_seats.proofs.Firsts.{first_has_totals, first_held, part_is_first}
+use Rattle.wbt_run_worker.proofs.Common.{times_in, total, first_estimates, no_record, CpuRecord, Each, contexts, domains, AreFirst, AreSeatsOf, IsKitOf, MOST_PAGE_STEPS, setting, Cpus, Has, Layout, IsLawful, FlusherLine, Trace, known_of, noted, AreBacked, first_held, kit_is_opened, list_by, pages_by, phase_by, shown_by, IsSteady, FlusherPlan, Phase, Kit, Seats, ArePosted, IsDesk, IsPost, IsSide, AreApart, Seen, Team, claimed_by, owed_in, owed_total, flusher_at, owed_totals, team_of, worker_of, firsts_of, record_of, record_is, ShownFlusher, none_shown, Desk}
+use Rattle.wbt_kit.proofs.Common.{Context}
+use Rattle.wbt_run_seats.specs.Parts.{AreParts, IsPart}
+use Rattle.wbt_run_seats.proofs.Firsts.{first_has_totals, part_is_first}
 use Rattle.wbt_run_seats.proofs.Fitting.{flusher_fits, one_held, plan_suits}
-use Rattle.wbt_run_seats.proofs.Opening.{kit_is_opened}
-use Rattle.wbt_flusher.specs.Sights.{completions, first_tallies, first_tally, is_inside, landed_in, list_by, owed_by, pages_by, phase_by, shown_by, tallies_of, tally_in}
-use Rattle.wbt_flusher.specs.Turns.{IsSteady}
-use Rattle.wbt_flusher.specs.declared.plan.FlusherPlan.{FlusherPlan}
+use Rattle.wbt_flusher.specs.Sights.{completions, first_tallies, first_tally, is_inside, landed_in, owed_by, tallies_of, tally_in}
 use Rattle.wbt_flusher.specs.declared.tally.Tallies.{Tallies}
-use Rattle.wbt_flusher.specs.declared.work.Phase.{Phase}
 use Rattle.wbt_flusher.specs.declared.work.Phase.TheVariants.{Idle}
-use Rattle.wbt_grant.specs.State.{no_record}
-use Rattle.wbt_grant.specs.declared.record.CpuRecord.{CpuRecord}
-use Rattle.wbt_journal.specs.Each.{Each}
 use Rattle.wbt_journal.specs.Flights.{ToldFlusher, first_flushers, flusher_of, new_flusher, no_flusher, scanning}
-use Rattle.wbt_journal.specs.Machine.{contexts, domains}
-use Rattle.wbt_kit.specs.Kit.{AreFirst, AreSeatsOf, IsKitOf}
-use Rattle.wbt_kit.specs.declared.kit.Kit.{Kit}
-use Rattle.wbt_kit.specs.declared.kit.Seats.{Seats}
-use Rattle.wbt_num.specs.declared.most.TheConstants.{MOST_PAGE_STEPS}
-use Rattle.wbt_run_worker.specs.Side.{ArePosted, AreSteady, IsDesk, IsPost, IsSide}
-use Rattle.wbt_run_worker.specs.Team.{AreApart, Seen, Team, claimed_by, claimed_in, owed_by as owed_of, owed_in, owed_total, flusher_at, owed_totals, team_of, worker_of}
+use Rattle.wbt_run_worker.specs.Side.{AreSteady}
+use Rattle.wbt_run_worker.specs.Team.{claimed_in, owed_by as owed_of}
 use Rattle.wbt_run_worker.specs.declared.side.CpuSide.{CpuSide}
 use Rattle.wbt_run_worker.specs.declared.worker.Worker.{Worker}
-use Rattle.wbt_run_steps.specs.Records.{firsts_of, record_of}
-use Rattle.wbt_run_steps.proofs.Changing.{record_is}
-use Rattle.wbt_table.specs.Layout.{setting}
-use Rattle.wbt_table.specs.Rule.{Cpus, Has}
-use Rattle.wbt_table.specs.declared.layout.Layout.{Layout}
-use Rattle.wbt_trace.specs.Lawful.{IsLawful}
-use Rattle.wbt_trace.specs.declared.trace.Context.{Context}
-use Rattle.wbt_trace.specs.declared.trace.FlusherLine.{FlusherLine}
-use Rattle.wbt_trace.specs.declared.trace.Trace.{Trace}
-use Rattle.wbt_published.specs.Passes.{known_of}
 use Rattle.wbt_run_laws.specs.Notes.{no_fraction}
-use Rattle.wbt_run_laws.specs.Shown.{ShownFlusher, new_shown, none_shown}
+use Rattle.wbt_run_laws.specs.Shown.{new_shown}
 use Rattle.wbt_writer.specs.Counted.{IsFor, written_of}
-use Rattle.wbt_writer.specs.Desk.{Desk, IsAtKit, IsReady, Suits, kept_in}
+use Rattle.wbt_writer.specs.Desk.{IsAtKit, IsReady, Suits, kept_in}
 use Rattle.wbt_run_drain.specs.Teams.{worker_there}
 use Rattle.wbt_run_first.specs.Lent.{AreFirstPosts, AreFirstSides, AreFirstWorkers, ArePut, IsFirstDesk, IsFirstPost, IsFirstSide, IsFirstTeam, IsFirstWorker, first_worker, numbers_on}
 

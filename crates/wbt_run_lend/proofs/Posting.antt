@@ -2,16 +2,11 @@
 use Rattle.std.proofs.Common.{◌≡◌, ⊎_elim, ℕ, zero, suc, ◌+◌, ◌<◌, ◌≤◌, Bool, true, false, if◌then◌else◌, List, [], ◌∷◌, ◌++◌, length, map, drop, get_or, Option, refl, sym, ap, ◌∙◌, subst, arith, eq-eqb, ne_eqb}
 use Rattle.std.proofs.lemmas.Bool.{cases_lt}
 use Rattle.wbt_flusher.specs.Ages.{first_wheel, pairs_of}
-use Rattle.wbt_flusher.specs.Sights.{list_by}
-use Rattle.wbt_flusher.specs.declared.plan.FlusherPlan.{FlusherPlan}
+use Rattle.wbt_run_worker.proofs.Common.{list_by, FlusherPlan, Each, FlusherLine, Trace, Seen, Team, seen, team_of}
 use Rattle.wbt_flusher.specs.declared.work.FlusherWork.{FlusherWork}
 use Rattle.wbt_run_seats.proofs.Fitting.{found_there}
-use Rattle.wbt_journal.specs.Each.{Each}
-use Rattle.wbt_run_worker.specs.Team.{Seen, Team, seen, team_of}
 use Rattle.wbt_run_worker.specs.declared.side.CpuSide.{CpuSide}
 use Rattle.wbt_run_worker.specs.declared.side.Post.{Post}
-use Rattle.wbt_trace.specs.declared.trace.FlusherLine.{FlusherLine}
-use Rattle.wbt_trace.specs.declared.trace.Trace.{Trace}
 use Rattle.wbt_run_drain.specs.Teams.{posts_of, teams_of}
 use Rattle.wbt_run_first.specs.Lent.{IsFirstPost, numbers_on}
 use Rattle.wbt_run_drain.proofs.Found.{here, all_gone}

@@ -1,12 +1,9 @@
 -- Seats whose records came from one side and whose notes came from the other.
 use Rattle.std.proofs.Common.{◌≡◌, length, sym, ap, ◌∙◌, subst}
-use Rattle.wbt_fraction.specs.Several.{IsSeatOf, Seats as ShareSeats}
-use Rattle.wbt_published.specs.Passes.{all_joined, Seats as EstPass}
+use Rattle.wbt_kit.proofs.Common.{IsSeatOf, all_joined, joined_seat, Seated, length-merged, AreSeatsOf}
+use Rattle.wbt_fraction.specs.Several.{Seats as ShareSeats}
+use Rattle.wbt_published.specs.Passes.{Seats as EstPass}
 use Rattle.wbt_queue.specs.Passes.{all_joined as all_parts, Seats as QueuePass}
-use Rattle.wbt_table.specs.Calls.{joined_seat}
-use Rattle.wbt_table.specs.Seat.{Seated}
-use Rattle.wbt_table.proofs.Joining.{length-merged}
-use Rattle.wbt_kit.specs.Kit.{AreSeatsOf}
 use Rattle.wbt_kit.specs.declared.kit.Kit.{Kit}
 use Rattle.wbt_kit.specs.declared.kit.Seats.{Seats}
 use Rattle.wbt_kit.proofs.Lengths.{joined_long, parts_long}

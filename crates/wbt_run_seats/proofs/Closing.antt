@@ -1,12 +1,7 @@
 -- A throttle of one writer, whose page is dirtied before it is closed.
 use Rattle.std.proofs.Common.{◌≡◌, ℕ, zero, suc, ◌<◌, [], ◌∷◌, replicate, Some, refl, sym, ap, ◌∙◌, subst, arith}
-use Rattle.wbt_grant.specs.State.{no_record}
-use Rattle.wbt_grant.specs.declared.record.CpuRecord.{CpuRecord}
-use Rattle.wbt_table.specs.Calls.{IsFirst, CanDirty, HoldsAll}
-use Rattle.wbt_table.specs.Layout.{setting}
-use Rattle.wbt_table.specs.Rule.{Cpus, Has, Holds, put_record}
-use Rattle.wbt_table.specs.Seat.{Seated, Changes}
-use Rattle.wbt_table.specs.declared.layout.Layout.{Layout}
+use Rattle.wbt_kit.proofs.Common.{no_record, CpuRecord, CanDirty, HoldsAll, setting, Cpus, Has, Holds, put_record, Seated, Changes, Layout}
+use Rattle.wbt_table.specs.Calls.{IsFirst}
 
 abbrev pub one_writer : Layout
 one_writer = record {

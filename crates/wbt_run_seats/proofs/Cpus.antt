@@ -2,13 +2,8 @@
 use Rattle.std.proofs.Common.{◌≡◌, ◌≢◌, ⊎_elim, ℕ, zero, suc, ◌<◌, ◌⊎◌, inl, inr, Bool, false, cond, eqb, List, [], ◌∷◌, length, replicate, set, get_or, Option, Some, None, refl, sym, ap, ◌∙◌, subst, arith, ne_eqb}
 use mathlib.Core.Option.{some, some-injective, some-ne-none}
 use lib.ListN.{get_elem?}
-use Rattle.wbt_grant.specs.declared.record.CpuRecord.{CpuRecord}
-use Rattle.wbt_table.specs.Calls.{left_seat, right_seat, joined_seat}
-use Rattle.wbt_table.specs.Rule.{Has, HasLog, or_else, merged, without_cpu, apart}
-use Rattle.wbt_table.specs.Seat.{Seated}
-use Rattle.wbt_table.specs.declared.rule.Logged.{Logged}
+use Rattle.wbt_kit.proofs.Common.{CpuRecord, left_seat, right_seat, joined_seat, Has, HasLog, or_else, merged, without_cpu, apart, Seated, Logged, none_some}
 use Rattle.wbt_table.proofs.Joining.{merged_cases}
-use Rattle.wbt_table.proofs.Seating.{none_some}
 
 -- ---- lists
 

@@ -2,29 +2,13 @@
 use Rattle.std.proofs.Common.{◌≡◌, ⊎_elim, ℕ, zero, suc, ◌+◌, ◌<◌, ◌≤◌, Bool, cond, List, [], ◌∷◌, ◌++◌, length, map, get_or, set, replicate, Some, refl, sym, ap, ◌∙◌, subst, arith, append_assoc, length-append}
 use Rattle.std.proofs.lemmas.Bool.{cases_lt, le-ltb}
 use Rattle.std.proofs.lemmas.List.{append-nil, get_or-replicate, get_or_past}
-use Rattle.wbt_fraction.specs.Several.{no_seat, AllFirst}
+use Rattle.wbt_kit.proofs.Common.{no_seat, no_record, CpuRecord, TimerRecord, Limits, opening, with_right, known_of, Known, setting, Cpus, Has, Layout, Setting, TimerEntry, at_less, Trace, domains, LastLine, lines_after, after, IsKitOf, AreFirst, HasCpu, AreSeatsOf, first_limits}
+use Rattle.wbt_fraction.specs.Several.{AllFirst}
 use Rattle.wbt_fraction.specs.Seat.{Seated as ShareSeat}
-use Rattle.wbt_grant.specs.State.{no_record, opening as first_state}
-use Rattle.wbt_grant.specs.declared.record.CpuRecord.{CpuRecord}
-use Rattle.wbt_grant.specs.declared.record.TimerRecord.{TimerRecord}
-use Rattle.wbt_num.specs.declared.limits.Limits.{Limits}
-use Rattle.wbt_published.specs.Known.{opening, with_right}
-use Rattle.wbt_published.specs.Passes.{known_of}
-use Rattle.wbt_published.specs.declared.known.Known.{Known}
-use Rattle.wbt_table.specs.Layout.{setting}
-use Rattle.wbt_table.specs.Rule.{Cpus, Has}
-use Rattle.wbt_table.specs.declared.layout.Layout.{Layout}
-use Rattle.wbt_grant.specs.Setting.{Setting}
-use Rattle.wbt_journal.specs.declared.timer.TimerEntry.{TimerEntry}
-use Rattle.wbt_table.proofs.Lists.{at_less}
-use Rattle.wbt_trace.specs.declared.trace.Trace.{Trace}
-use Rattle.wbt_journal.specs.Machine.{domains}
-use Rattle.wbt_journal.specs.Timer.{LastLine, lines_after, put_line}
-use Rattle.wbt_journal.specs.Walk.{after}
+use Rattle.wbt_grant.specs.State.{opening as first_state}
+use Rattle.wbt_journal.specs.Timer.{put_line}
 use Rattle.wbt_run_laws.specs.Closed.{first_lines, opening_lines}
 use Rattle.wbt_run_laws.specs.Ticks.{Ticked}
-use Rattle.wbt_kit.specs.Kit.{IsKitOf, AreFirst, HasCpu, AreSeatsOf}
-use Rattle.wbt_rules.specs.Thresholds.{first_limits}
 use Rattle.wbt_kit.specs.declared.kit.Kit.{Kit}
 use Rattle.wbt_kit.specs.declared.kit.Seats.{Seats}
 use Rattle.wbt_timer.specs.Side.{line_of, first_side, first_sides}

@@ -4,23 +4,9 @@ use Rattle.std.proofs.lemmas.Bool.{cases_lt}
 use Rattle.std.proofs.lemmas.List.{get_or-map, get_or_past, length-map}
 use Rattle.std.proofs.lemmas.Option.{get_or_from_slice_get}
 use mathlib.Core.Option.{some-injective, some-ne-none}
-use Rattle.wbt_grant.specs.State.{no_record}
-use Rattle.wbt_grant.specs.declared.record.CpuRecord.{CpuRecord}
-use Rattle.wbt_num.specs.declared.most.TheConstants.{MOST_PAGE_STEPS}
-use Rattle.wbt_published.specs.Known.{opening, with_right}
-use Rattle.wbt_published.specs.declared.known.Known.{Known}
-use Rattle.wbt_table.specs.Rule.{Cpus, Has}
-use Rattle.wbt_table.proofs.Seating.{none_some}
-use Rattle.wbt_trace.specs.Lawful.{IsLawful, IsDevice, IsFlusher}
-use Rattle.wbt_trace.specs.Sofar.{least_shares}
-use Rattle.wbt_trace.specs.declared.trace.Context.{Context}
-use Rattle.wbt_trace.specs.declared.trace.FlusherLine.{FlusherLine}
-use Rattle.wbt_trace.specs.declared.trace.Trace.{Trace}
-use Rattle.wbt_journal.specs.Machine.{domains, pages}
-use Rattle.wbt_rules.specs.First.{first_estimates}
-use Rattle.wbt_rules.specs.Things.{first_flusher, flusher_device}
-use Rattle.wbt_kit.specs.Kit.{IsKitOf}
-use Rattle.wbt_kit.specs.Opening.{layout_of, homes_of, first_cpu}
+use Rattle.wbt_kit.proofs.Common.{no_record, CpuRecord, MOST_PAGE_STEPS, opening, with_right, Known, Cpus, Has, none_some, IsLawful, least_shares, Context, FlusherLine, Trace, domains, pages, first_estimates, flusher_device, IsKitOf, layout_of, homes_of, first_cpu}
+use Rattle.wbt_trace.specs.Lawful.{IsDevice, IsFlusher}
+use Rattle.wbt_rules.specs.Things.{first_flusher}
 use Rattle.wbt_kit.specs.declared.kit.Kit.{Kit}
 use Rattle.wbt_kit.proofs.Laid.{firsts_long}
 use Rattle.wbt_flusher.specs.Did.{IsMeasured}

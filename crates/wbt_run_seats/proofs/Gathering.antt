@@ -2,15 +2,11 @@
 use Rattle.std.proofs.Common.{◌≡◌, ℕ, ◌+◌, Bool, true, cond, List, [], ◌∷◌, ◌++◌, length, Contains, refl, sym, ap, ◌∙◌, subst, arith}
 use Rattle.std.proofs.Math.Path.{fun_ext}
 use Rattle.std.proofs.lemmas.List.Elements.{Contains-append_left, Contains-append_right}
-use Rattle.wbt_fraction.specs.Laws.{begun}
+use Rattle.wbt_kit.proofs.Common.{begun, Note, first_in, knows_both, known_of, Known, estimates_of}
 use Rattle.wbt_fraction.specs.Sums.{total as weigh}
-use Rattle.wbt_fraction.specs.declared.domain.note.Note.{Note}
 use Rattle.wbt_fraction.proofs.Sums.{total_append}
-use Rattle.wbt_published.specs.Known.{first_in, knows_both}
-use Rattle.wbt_published.specs.Passes.{known_of, Seats as EstPass}
+use Rattle.wbt_published.specs.Passes.{Seats as EstPass}
 use Rattle.wbt_published.proofs.Turns.{joined-at}
-use Rattle.wbt_published.specs.declared.known.Known.{Known}
-use Rattle.wbt_journal.specs.Estimates.{estimates_of}
 use Rattle.wbt_run_seats.specs.Gathered.{SharesGathered, no_notes, GrownAreNotes, FirstIsGathered, TimerIsGathered, MoreAreGathered, MovedAreGathered, TimerTakesIn}
 use Rattle.wbt_run_seats.specs.Parts.{noted}
 use Rattle.wbt_run_seats.specs.Together.{known_with}

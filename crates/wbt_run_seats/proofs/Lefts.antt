@@ -1,8 +1,7 @@
 -- What is left, by the words of a closed throttle.
 use Rattle.std.proofs.Common.{◌≡◌, ℕ, zero, suc, ◌+◌, ◌-◌, ◌<◌, ◌≤◌, Bool, true, false, cond, eqb, List, [], ◌∷◌, ◌++◌, refl, sym, ap, ◌∙◌, arith, append_assoc}
 use Rattle.wbt_book.specs.Book.{Book, page_word}
-use Rattle.wbt_journal.specs.declared.journal.Left.{Left}
-use Rattle.wbt_journal.specs.Machine.{pages}
+use Rattle.wbt_kit.proofs.Common.{Left, pages}
 use Rattle.wbt_run_laws.specs.Throttle.{left_from, with_left}
 use Rattle.wbt_run_seats.specs.Left.{book_of, ClosesRun}
 

@@ -4,10 +4,7 @@ use mathlib.Core.Logic.{dite}
 use mathlib.Core.Option.{some-injective, some-ne-none}
 use native.Mathlib.Decide.{ℕ_discrete}
 use Rattle.wbt_kit.specs.declared.kit.Seats.{Seats}
-use Rattle.wbt_table.specs.Calls.{joined_seat}
-use Rattle.wbt_table.specs.Rule.{HasLog, Logs, or_else}
-use Rattle.wbt_table.specs.Seat.{Seated}
-use Rattle.wbt_table.specs.declared.rule.Logged.{Logged}
+use Rattle.wbt_kit.proofs.Common.{joined_seat, HasLog, Logs, or_else, Seated, Logged}
 use Rattle.wbt_run_seats.specs.Parts.{HasNoLog}
 use Rattle.wbt_run_seats.specs.Together.{cpus_with}
 use Rattle.wbt_run_seats.proofs.Cpus.{comes_in, stays_there}

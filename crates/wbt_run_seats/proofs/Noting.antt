@@ -3,14 +3,11 @@ use Rattle.std.proofs.Common.{◌≡◌, ◌≢◌, ℕ, zero, suc, ◌+◌, ◌
 use Rattle.std.proofs.lemmas.List.Elements.{Contains-append_left, Contains-append_right}
 use mathlib.Core.Logic.{dite}
 use native.Mathlib.Decide.{ℕ_discrete}
-use Rattle.wbt_counter.specs.Sums.{put}
-use Rattle.wbt_counter.proofs.Sums.{put_same, put_other, total_change}
-use Rattle.wbt_fraction.specs.Laws.{begun}
+use Rattle.wbt_kit.proofs.Common.{put, total_change, begun, Note, Trace}
+use Rattle.wbt_counter.proofs.Sums.{put_same, put_other}
 use Rattle.wbt_fraction.specs.Sums.{total as weigh}
-use Rattle.wbt_fraction.specs.declared.domain.note.Note.{Note}
 use Rattle.wbt_fraction.specs.declared.domain.note.Note.TheVariants.{Found, Added, Period}
 use Rattle.wbt_fraction.proofs.Sums.{total_append}
-use Rattle.wbt_trace.specs.declared.trace.Trace.{Trace}
 use Rattle.wbt_run_laws.specs.Elsewhere.{with_shares}
 use Rattle.wbt_run_laws.specs.Notes.{Notes}
 use Rattle.wbt_kit.specs.declared.kit.Seats.{Seats}

@@ -6,29 +6,19 @@ use Rattle.std.proofs.lemmas.List.{get_or-map, get_or_append_left, length-map}
 use Rattle.std.proofs.lemmas.Option.{slice_get-get_or}
 use mathlib.Core.Logic.{dite}
 use native.Mathlib.Decide.{ℕ_discrete}
-use Rattle.wbt_num.specs.declared.limits.Limits.{Limits}
+use Rattle.wbt_kit.proofs.Common.{Limits, IsLawful, AreFirsts, inode_at, Cgroup, Context, TaskLine, Trace, domains, contexts, pages, cpu_of_task, first_limits, all_writers, setting, Layout, Place, layout_of, place_of, first_cpu, first_lawful}
 use Rattle.wbt_limits.proofs.Rising.{cgroup_thresh_is_between}
-use Rattle.wbt_trace.specs.Lawful.{IsLawful, AreFirsts}
-use Rattle.wbt_trace.specs.Sofar.{inode_at}
-use Rattle.wbt_trace.specs.declared.trace.Cgroup.{Cgroup}
-use Rattle.wbt_trace.specs.declared.trace.Context.{Context}
-use Rattle.wbt_trace.specs.declared.trace.TaskLine.{TaskLine}
-use Rattle.wbt_trace.specs.declared.trace.Trace.{Trace}
-use Rattle.wbt_journal.specs.Machine.{domains, contexts, pages, task_cpu, cpu_of_task}
-use Rattle.wbt_rules.specs.Thresholds.{avail_at, first_limits}
-use Rattle.wbt_journal.specs.Side.{all_writers}
+use Rattle.wbt_journal.specs.Machine.{task_cpu}
+use Rattle.wbt_rules.specs.Thresholds.{avail_at}
 use Rattle.wbt_journal.specs.Timer.{HasThresholds, IsCgroup}
 use Rattle.wbt_journal.specs.declared.timer.TimerEntry.TheVariants as timer
 use Rattle.wbt_table.specs.Layout as table
-use Rattle.wbt_table.specs.Layout.{setting, no_place, no_writer, no_limits}
-use Rattle.wbt_table.specs.declared.layout.Layout.{Layout}
-use Rattle.wbt_table.specs.declared.layout.Place.{Place}
+use Rattle.wbt_table.specs.Layout.{no_place, no_writer, no_limits}
 use Rattle.wbt_table.specs.declared.layout.Writer.{Writer}
 use Rattle.wbt_run_laws.specs.Closed.{OpensWith, first_lines}
 use Rattle.wbt_run_laws.specs.Throttle.{IsThrottleOf, writer_at}
-use Rattle.wbt_kit.specs.Opening.{firsts_of, layout_of, owners_of, sizes_of, inodes_on, place_of, seated, cpu_of, first_cpu}
+use Rattle.wbt_kit.specs.Opening.{firsts_of, owners_of, sizes_of, inodes_on, seated, cpu_of}
 use Rattle.wbt_kit.proofs.Laid.{firsts_long, pages_same, pairs}
-use Rattle.wbt_rules.proofs.Firsts.{first_lawful}
 use Rattle.wbt_run_seats.specs.Opened.{KitIsOpened}
 use Rattle.wbt_run_seats.proofs.Plans.{no_inode, places, inode_is, page_lies, ends_within, first_cpu_there}
 

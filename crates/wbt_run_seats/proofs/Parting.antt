@@ -5,19 +5,15 @@ use Rattle.std.proofs.lemmas.List.{get_or-map, get_or_append_left, length-map}
 use Rattle.std.proofs.lemmas.Bool.{cases_lt}
 use mathlib.Core.Logic.{dite}
 use native.Mathlib.Decide.{ℕ_discrete}
-use Rattle.wbt_fraction.specs.Several.{CanSplit, IsParted, HasRoom, HasTotalRoom}
+use Rattle.wbt_kit.proofs.Common.{CanSplit, CpuRecord, with_right, known_of, accompanied, newcomer, nothing, left_seat, HasLog, AreSeatsOf, HasOwners, HasCpu}
+use Rattle.wbt_fraction.specs.Several.{IsParted, HasRoom, HasTotalRoom}
 use Rattle.wbt_fraction.proofs.Parting.{parts, has_room, splits_on}
-use Rattle.wbt_grant.specs.declared.record.CpuRecord.{CpuRecord}
-use Rattle.wbt_published.specs.Known.{left_with, handed_on, reader, with_right, without_right}
-use Rattle.wbt_published.specs.Passes.{known_of}
+use Rattle.wbt_published.specs.Known.{left_with, handed_on, reader, without_right}
 use Rattle.wbt_published.proofs.Turns.{left-at, handed-at}
-use Rattle.wbt_queue.specs.Known.{accompanied, handed, newcomer, nothing, opening as empty}
+use Rattle.wbt_queue.specs.Known.{handed, opening as empty}
 use Rattle.wbt_queue.specs.declared.known.Known.{Known as Queued}
 use Rattle.wbt_queue.specs.Passes as queue
-use Rattle.wbt_table.specs.Calls.{left_seat}
-use Rattle.wbt_table.specs.Rule.{HasLog}
 use Rattle.wbt_table.specs.Seat.{IsHeld, as_cpu}
-use Rattle.wbt_kit.specs.Kit.{AreSeatsOf, HasOwners, HasCpu}
 use Rattle.wbt_kit.specs.declared.kit.Kit.{Kit}
 use Rattle.wbt_kit.specs.declared.kit.Seats.{Seats}
 use Rattle.wbt_kit.proofs.Joining.{cpus_split}

@@ -1,8 +1,9 @@
 -- Passes to the queues after a join, and those that went and came back.
 use Rattle.std.proofs.Common.{◌≡◌, ℕ, zero, suc, ◌+◌, ◌<◌, List, [], ◌∷◌, ◌++◌, length, map, get_or, replicate, refl, ap, ◌∙◌, arith, append_assoc}
 use Rattle.std.proofs.lemmas.List.{length-map}
-use Rattle.wbt_queue.specs.Known.{opening, accompanied, newcomer, nothing, knows_both}
-use Rattle.wbt_queue.specs.Passes.{all_joined, Seats}
+use Rattle.wbt_kit.proofs.Common.{accompanied, newcomer, nothing, Seats}
+use Rattle.wbt_queue.specs.Known.{opening, knows_both}
+use Rattle.wbt_queue.specs.Passes.{all_joined}
 use Rattle.wbt_queue.specs.declared.known.Known.{Known}
 use Rattle.wbt_queue.specs.declared.known.Part.{Part}
 use Rattle.wbt_kit.proofs.Lengths.{parts_long}

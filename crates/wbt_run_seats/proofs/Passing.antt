@@ -3,17 +3,7 @@ use Rattle.std.proofs.Common.{◌≡◌, ◌≢◌, ℕ, suc, ◌+◌, ◌<◌, 
 use Rattle.std.proofs.lemmas.List.Elements.{Contains-append_left, Contains-append_right}
 use mathlib.Core.Logic.{dite}
 use native.Mathlib.Decide.{ℕ_discrete}
-use Rattle.wbt_estimate.specs.declared.estimate.Estimate.{Estimate}
-use Rattle.wbt_published.specs.Known.{knows_both}
-use Rattle.wbt_published.specs.Passes.{known_of}
-use Rattle.wbt_published.specs.declared.known.Known.{Known}
-use Rattle.wbt_trace.specs.declared.trace.Trace.{Trace}
-use Rattle.wbt_journal.specs.Each.{Each}
-use Rattle.wbt_journal.specs.Effects.{effect}
-use Rattle.wbt_journal.specs.Estimates.{estimates_of}
-use Rattle.wbt_journal.specs.Machine.{contexts}
-use Rattle.wbt_journal.specs.Told.{Told}
-use Rattle.wbt_journal.specs.declared.entry.EstEntry.{EstEntry}
+use Rattle.wbt_kit.proofs.Common.{Estimate, knows_both, known_of, Known, Trace, Each, effect, estimates_of, contexts, Told, EstEntry}
 use Rattle.wbt_run_laws.specs.Elsewhere.{IsPlain}
 use Rattle.wbt_run_laws.specs.Notes.{Notes, IsTold}
 use Rattle.wbt_run_laws.proofs.Effects.{part_none}

@@ -1,13 +1,9 @@
 -- Where pages and contexts of a trace lie in its kit.
 use Rattle.std.proofs.Common.{◌≡◌, ⊎_elim, ℕ, zero, suc, ◌+◌, ◌<◌, ◌≤◌, Bool, true, false, cond, ◌&&◌, eqb, ltb, leb, List, [], ◌∷◌, All, length, map, get_or, slice_get, Some, refl, sym, ap, ◌∙◌, subst, arith, le-leb, eq-eqb}
 use Rattle.std.proofs.lemmas.Bool.{cases_lt, lt-ltb, le-ltb}
-use Rattle.wbt_trace.specs.Lawful.{AreFirsts}
-use Rattle.wbt_trace.specs.declared.trace.FlusherLine.{FlusherLine}
-use Rattle.wbt_trace.specs.declared.trace.Inode.{Inode}
+use Rattle.wbt_kit.proofs.Common.{AreFirsts, FlusherLine, Inode, pages_in, Place, place_of, first_cpu}
 use Rattle.wbt_journal.specs.Machine.{context_among}
-use Rattle.wbt_table.specs.Layout.{inode_at, pages_in, no_place}
-use Rattle.wbt_table.specs.declared.layout.Place.{Place}
-use Rattle.wbt_kit.specs.Opening.{place_of, first_cpu}
+use Rattle.wbt_table.specs.Layout.{inode_at, no_place}
 use Rattle.wbt_rules.specs.Things.{first_flusher}
 
 -- ---- inodes, which lie one after the other

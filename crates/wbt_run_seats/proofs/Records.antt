@@ -1,11 +1,6 @@
 -- Seats of CPUs in order come together: whom they hold then.
 use Rattle.std.proofs.Common.{◌≡◌, ⊎_elim, ℕ, zero, suc, ◌+◌, ◌<◌, List, [], ◌∷◌, length, get_or, Option, None, refl, sym, ap, ◌∙◌, subst, arith}
-use Rattle.wbt_grant.specs.declared.record.CpuRecord.{CpuRecord}
-use Rattle.wbt_grant.specs.declared.record.TimerRecord.{TimerRecord}
-use Rattle.wbt_table.specs.Calls.{joined_seat}
-use Rattle.wbt_table.specs.Rule.{Has, or_else}
-use Rattle.wbt_table.specs.Seat.{Seated}
-use Rattle.wbt_table.proofs.Joining.{length-merged}
+use Rattle.wbt_kit.proofs.Common.{CpuRecord, TimerRecord, joined_seat, Has, or_else, Seated, length-merged}
 use Rattle.wbt_kit.specs.declared.kit.Kit.{Kit}
 use Rattle.wbt_kit.specs.declared.kit.Seats.{Seats}
 use Rattle.wbt_kit.proofs.Joining.{has_come, was_there}

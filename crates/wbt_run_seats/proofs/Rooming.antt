@@ -2,15 +2,9 @@
 use Rattle.std.proofs.Common.{◌≡◌, ⊎_elim, ℕ, suc, ◌+◌, ◌*◌, ◌^◌, ◌<◌, ◌≤◌, List, [], ◌∷◌, length, get_or, Some, None, refl, sym, ◌∙◌, subst, arith, ap}
 use Rattle.std.specs.List.{sum_by}
 use Rattle.std.proofs.lemmas.List.Sums.{sum_by-cons}
-use Rattle.wbt_counter.specs.Sums.{total}
+use Rattle.wbt_kit.proofs.Common.{total, room_in, room_of, CpuRecord, joined_seat, Cpus, Has, merged, Seated, length-merged}
 use Rattle.wbt_run_laws.proofs.Parts.{total_front}
-use Rattle.wbt_fraction.specs.Several.{room_in, Seats as ShareSeats}
-use Rattle.wbt_fraction.specs.Totals.{room_of}
-use Rattle.wbt_grant.specs.declared.record.CpuRecord.{CpuRecord}
-use Rattle.wbt_table.specs.Calls.{joined_seat}
-use Rattle.wbt_table.specs.Rule.{Cpus, Has, merged}
-use Rattle.wbt_table.specs.Seat.{Seated}
-use Rattle.wbt_table.proofs.Joining.{length-merged}
+use Rattle.wbt_fraction.specs.Several.{Seats as ShareSeats}
 use Rattle.wbt_kit.specs.declared.kit.Kit.{Kit}
 use Rattle.wbt_kit.specs.declared.kit.Seats.{Seats}
 use Rattle.wbt_flusher.specs.Did.{AreCounted}

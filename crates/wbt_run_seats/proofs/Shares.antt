@@ -2,7 +2,8 @@
 use Rattle.std.proofs.Common.{◌≡◌, ℕ, zero, suc, ◌-◌, ◌^◌, ◌<◌, List, [], ◌∷◌, ◌++◌, length, map, get_or, refl, ◌∙◌, arith}
 use Rattle.std.proofs.lemmas.List.{length-map}
 use Rattle.wbt_fraction.specs.Seat.{Seated, HasAllNotes}
-use Rattle.wbt_fraction.specs.Several.{Shared, Seats, IsSeatOf, AllJoined, left_of, right_of, total_left, total_right, no_seat}
+use Rattle.wbt_kit.proofs.Common.{IsSeatOf, AllJoined, right_of, total_right, no_seat}
+use Rattle.wbt_fraction.specs.Several.{Shared, Seats, left_of, total_left}
 use Rattle.wbt_fraction.proofs.Fitting.{lefts_fit, rights_fit}
 
 -- ---- a seat goes

@@ -2,10 +2,9 @@
 use Rattle.std.proofs.Common.{◌≡◌, ℕ, zero, suc, ◌+◌, ◌-◌, ◌^◌, ◌<◌, ◌≤◌, List, [], ◌∷◌, length, map, get_or, refl, ap, ◌∙◌, arith}
 use Rattle.std.specs.List.{sum_by}
 use Rattle.std.proofs.lemmas.List.Sums.{sum_by-cons}
-use Rattle.wbt_fraction.proofs.Fitting.{fits_length}
+use Rattle.wbt_kit.proofs.Common.{fits_length, AllJoined, stakes_in, AreFirst}
 use Rattle.wbt_fraction.specs.Seat.{Seated as ShareSeat}
-use Rattle.wbt_fraction.specs.Several.{AllJoined, AllFirst, stakes_in}
-use Rattle.wbt_kit.specs.Kit.{AreFirst}
+use Rattle.wbt_fraction.specs.Several.{AllFirst}
 use Rattle.wbt_kit.specs.declared.kit.Kit.{Kit}
 use Rattle.wbt_kit.specs.declared.kit.Seats.{Seats}
 use Rattle.wbt_queue.specs.Known as passes

@@ -1,21 +1,13 @@
 -- Seats that take in others, one after another.
 use Rattle.std.proofs.Common.{◌≡◌, ℕ, ◌<◌, List, [], ◌∷◌, ◌++◌, length, refl, sym, ap, ◌∙◌, arith}
 use Rattle.std.proofs.lemmas.List.Sums.{sum_by_push}
-use Rattle.wbt_fraction.specs.Several.{room_in, stakes_in}
-use Rattle.wbt_fraction.specs.Totals.{room_of}
-use Rattle.wbt_fraction.specs.declared.domain.note.Note.{Note}
+use Rattle.wbt_kit.proofs.Common.{room_in, stakes_in, room_of, Note, fits_length, knows_both, known_of, Known, joined_seat, Seated, AreSeatsOf, AreJoined}
 use Rattle.wbt_fraction.specs.declared.total.note.TotalNote.{TotalNote}
-use Rattle.wbt_fraction.proofs.Fitting.{fits_length}
-use Rattle.wbt_published.specs.Known.{knows_both}
-use Rattle.wbt_published.specs.Passes.{known_of, Seats as EstPass}
-use Rattle.wbt_published.specs.declared.known.Known.{Known}
+use Rattle.wbt_published.specs.Passes.{Seats as EstPass}
 use Rattle.wbt_published.proofs.Turns.{joined-at}
 use Rattle.wbt_queue.specs.Known as part
 use Rattle.wbt_queue.specs.Passes as queue
 use Rattle.wbt_queue.specs.declared.known.Known as declared
-use Rattle.wbt_table.specs.Calls.{joined_seat}
-use Rattle.wbt_table.specs.Seat.{Seated}
-use Rattle.wbt_kit.specs.Kit.{AreSeatsOf, AreJoined}
 use Rattle.wbt_kit.specs.declared.kit.Kit.{Kit}
 use Rattle.wbt_kit.specs.declared.kit.Seats.{Seats}
 use Rattle.wbt_run_seats.specs.Parts.{noted}

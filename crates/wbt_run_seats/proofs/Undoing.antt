@@ -1,16 +1,13 @@
 -- Parts that come back, the last one first.
 use Rattle.std.proofs.Common.{◌≡◌, ℕ, suc, ◌+◌, List, [], ◌∷◌, ◌++◌, length, map, replicate, refl, sym, ap, ap₂, ◌∙◌, subst, arith}
 use Rattle.std.proofs.lemmas.List.{append-nil}
-use Rattle.wbt_fraction.specs.Several.{AllJoined, IsTotalJoined, right_of, total_right, Seats as ShareSeats}
+use Rattle.wbt_kit.proofs.Common.{AllJoined, right_of, total_right, TotalSeated, all_joined, nothing, joined_seat, AreJoined, HasOwners}
+use Rattle.wbt_fraction.specs.Several.{IsTotalJoined, Seats as ShareSeats}
 use Rattle.wbt_fraction.specs.Seat.{Seated as ShareSeat}
-use Rattle.wbt_fraction.specs.Totals.{TotalSeated}
 use Rattle.wbt_fraction.proofs.Parting.{undone as shares_undone}
-use Rattle.wbt_published.specs.Passes.{all_joined, Seats as EstPass}
+use Rattle.wbt_published.specs.Passes.{Seats as EstPass}
 use Rattle.wbt_published.proofs.Undoing.{undone as estimates_undone}
-use Rattle.wbt_queue.specs.Known.{nothing}
 use Rattle.wbt_queue.specs.Passes as queue
-use Rattle.wbt_table.specs.Calls.{joined_seat}
-use Rattle.wbt_kit.specs.Kit.{AreJoined, HasOwners}
 use Rattle.wbt_kit.specs.declared.kit.Kit.{Kit}
 use Rattle.wbt_kit.specs.declared.kit.Seats.{Seats}
 use Rattle.wbt_kit.proofs.Joining.{split_is_undone}

@@ -3,29 +3,21 @@ use Rattle.std.proofs.Common.{◌≡◌, ◌≢◌, ℕ, Bool, true, false, not,
 use Rattle.std.proofs.lemmas.Bool.{cond-true, cond-false}
 use Rattle.wbt_book.specs.Book.{Bits}
 use Rattle.wbt_book.specs.Ledger.{let_go}
-use Rattle.wbt_book.specs.PageWords.{bits_at}
-use Rattle.wbt_grant.specs.Kinds.{look, back}
+use Rattle.wbt_kit.proofs.Common.{bits_at, look, record_after, Setting, CpuRecord, Made, record_of, setting, Holds, has_changed, CpuJournal, AreSeatsOf}
+use Rattle.wbt_grant.specs.Kinds.{back}
 use Rattle.wbt_grant.specs.Record
-use Rattle.wbt_grant.specs.Seats.{record_after}
-use Rattle.wbt_grant.specs.Setting.{Setting}
-use Rattle.wbt_grant.specs.declared.record.CpuRecord.{CpuRecord}
 use Rattle.wbt_grant.specs.declared.who.StepKind.TheVariants as kind
 use Rattle.wbt_grant.specs.declared.who.Word.TheVariants as word
-use Rattle.wbt_table.specs.Calls.{CanComplete, GivesBack as Answers, IsCutBack, Made, MakesAll, back_steps, record_of}
+use Rattle.wbt_table.specs.Calls.{CanComplete, GivesBack as Answers, IsCutBack, MakesAll, back_steps}
 use Rattle.wbt_table.specs.Calls.IsCutBack.{at_once, after_look}
-use Rattle.wbt_table.specs.Layout.{setting}
-use Rattle.wbt_table.specs.Rule.{Holds}
 use Rattle.wbt_table.specs.declared.answer.Back.{Back}
 use Rattle.wbt_table.specs.declared.answer.Back.TheVariants.{Redirtied, Absorbed, Missed, Stopped}
-use Rattle.wbt_table.proofs.Seating.{has_changed}
 use Rattle.wbt_journal.specs.Told.{gave_back}
-use Rattle.wbt_journal.specs.declared.entry.CpuJournal.{CpuJournal}
 use Rattle.wbt_journal.specs.declared.entry.Entry.TheVariants as entry
 use Rattle.wbt_run_laws.specs.Grew.{Grew}
 use Rattle.wbt_run_laws.specs.Log.{with_entry}
 use Rattle.wbt_run_laws.proofs.Growing.{by_both}
 use Rattle.wbt_run_laws.proofs.Stepping.{untold_grows, steps_grow}
-use Rattle.wbt_kit.specs.Kit.{AreSeatsOf}
 use Rattle.wbt_kit.specs.declared.kit.Kit.{Kit}
 use Rattle.wbt_kit.specs.declared.kit.Seats.{Seats}
 use Rattle.wbt_run_steps.specs.Backs.{AnswersBack, Came, GivesBack, HaltsBack, Kept, MissesBack, Returned, TellsBack, and_one}

@@ -2,14 +2,11 @@
 use Rattle.std.proofs.Common.{◌≡◌, ℕ, length, Some, None, sym, ap, ◌∙◌, subst, length-set}
 use Rattle.atomic_table.proofs.Lists.{set_else}
 use Rattle.wbt_fraction.specs.Several as share
-use Rattle.wbt_grant.specs.declared.record.CpuRecord.{CpuRecord}
+use Rattle.wbt_kit.proofs.Common.{CpuRecord, Cpus, Has, Seated, Changes, AreSeatsOf}
 use Rattle.wbt_published.specs.Passes as est
 use Rattle.wbt_queue.specs.Passes as queue
-use Rattle.wbt_table.specs.Rule.{Cpus, Has}
-use Rattle.wbt_table.specs.Seat.{Seated, Changes}
 use Rattle.wbt_table.proofs.Lists.{at_read}
 use Rattle.wbt_table.proofs.Seating.{still_at}
-use Rattle.wbt_kit.specs.Kit.{AreSeatsOf}
 use Rattle.wbt_kit.specs.declared.kit.Kit.{Kit}
 use Rattle.wbt_kit.specs.declared.kit.Seats.{Seats}
 use Rattle.wbt_run_steps.specs.Records.{record_of, held_in, IsApart, OnlyCpu}

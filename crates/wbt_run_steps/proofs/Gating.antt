@@ -2,17 +2,12 @@
 use Rattle.std.proofs.Common.{◌≡◌, ℕ, ◌+◌, ◌-◌, ◌^◌, ◌≤◌, Bool, true, not, ◌&&◌, ◌||◌, cond, ◌==◌, List, [], ◌∷◌, refl, sym, ap, ◌∙◌, subst, arith, ⊎_elim}
 use Rattle.std.proofs.Math.Nat.{min-le_left}
 use Rattle.std.proofs.lemmas.Bool.{cases_lt, cond_both}
-use Rattle.wbt_grant.specs.declared.record.CpuRecord.{CpuRecord}
-use Rattle.wbt_grant.specs.Kinds.{Step, add, fold, clear, count, dirty, look, claim, complete, back, peak, unseal, thresh, publish, first, middle, limits, mark, unmark, grant, last_found}
+use Rattle.wbt_kit.proofs.Common.{CpuRecord, Step, add, fold, clear, count, dirty, look, claim, complete, first, middle, limits, mark, unmark, maker_of, record_after, Setting, Halts, Made, Has, Changes, Makes, Seated, has_changed}
+use Rattle.wbt_grant.specs.Kinds.{back, peak, unseal, thresh, publish, grant, last_found}
 use Rattle.wbt_grant.specs.Record
 use Rattle.wbt_grant.specs.Record.{one_more}
-use Rattle.wbt_grant.specs.Seats.{maker_of, record_after}
-use Rattle.wbt_grant.specs.Setting.{Setting}
 use Rattle.wbt_table.specs.Calls as table
-use Rattle.wbt_table.specs.Calls.{Asked, AskedToClaim, AskedToLook, Halts, after_its_look, before_its_look, Made}
-use Rattle.wbt_table.specs.Rule.{Has}
-use Rattle.wbt_table.specs.Seat.{Changes, Makes, Seated}
-use Rattle.wbt_table.proofs.Seating.{has_changed}
+use Rattle.wbt_table.specs.Calls.{Asked, AskedToClaim, AskedToLook, after_its_look, before_its_look}
 use Rattle.wbt_kit.specs.declared.kit.Seats.{Seats}
 use Rattle.wbt_run_steps.specs.Gate.{AskedBeforeEach, StepsOnce, WasLetOn, steps_of}
 use Rattle.wbt_run_steps.specs.Records.{record_of}

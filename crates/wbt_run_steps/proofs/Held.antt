@@ -1,24 +1,13 @@
 -- What a CPU holds of a domain when its limits were loaded.
 use Rattle.std.proofs.Common.{◌≡◌, ◌≢◌, ℕ, true, eqb, List, [], ◌∷◌, refl, sym, ap, ◌∙◌, subst, ⊎_elim, eq-eqb, ne_eqb, eqb-true}
 use Rattle.std.proofs.lemmas.Bool.{cases_Bool, cond_both, cond-true, cond-false}
-use Rattle.wbt_num.specs.declared.limits.Limits.{Limits}
-use Rattle.wbt_grant.specs.Record.{beside, found_first, is_whole, read_triple}
-use Rattle.wbt_grant.specs.Seats.{record_after}
-use Rattle.wbt_grant.specs.Kinds.{first, middle}
-use Rattle.wbt_grant.specs.Setting.{Setting}
-use Rattle.wbt_grant.specs.State.{found_of, held_of, newest_of}
-use Rattle.wbt_grant.specs.declared.record.CpuRecord.{CpuRecord}
-use Rattle.wbt_grant.specs.declared.record.DomainLimits.{DomainLimits}
+use Rattle.wbt_kit.proofs.Common.{Limits, is_whole, read_triple, record_after, first, middle, Setting, found_of, held_of, newest_of, CpuRecord, DomainLimits, Who, IsCutLoad, Made, record_of, whole_load, at_once, after_first, after_middle, setting, Triple, Layout}
+use Rattle.wbt_grant.specs.Record.{beside, found_first}
 use Rattle.wbt_grant.specs.declared.record.Finding.{Finding}
 use Rattle.wbt_grant.specs.declared.record.Finding.TheVariants.{Sequence, Words}
-use Rattle.wbt_grant.specs.declared.who.Who.{Who}
 use Rattle.wbt_grant.proofs.Sequences.{found_here}
-use Rattle.wbt_table.specs.Calls.{IsCutLoad, Made, is_whole_load, record_of, triple_in, whole_load}
-use Rattle.wbt_table.specs.Calls.IsCutLoad.{at_once, after_first, after_middle}
+use Rattle.wbt_table.specs.Calls.{is_whole_load, triple_in}
 use Rattle.wbt_table.specs.Held.{triple_of}
-use Rattle.wbt_table.specs.Layout.{setting}
-use Rattle.wbt_table.specs.declared.answer.Triple.{Triple}
-use Rattle.wbt_table.specs.declared.layout.Layout.{Layout}
 use Rattle.wbt_run_laws.specs.Steps.{Gathered}
 use Rattle.wbt_run_laws.proofs.Stepping.{gathered_more, steps_grow}
 use Rattle.wbt_run_laws.proofs.Lists.{gained_none, longer_none}

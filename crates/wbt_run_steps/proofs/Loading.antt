@@ -2,28 +2,18 @@
 use Rattle.std.proofs.Common.{◌≡◌, ℕ, Bool, false, List, Result, Ok, Err, true≢false, sym, ap, ◌∙◌, subst}
 use Rattle.std.specs.Prelude.{IfOk, OnErr}
 use Rattle.wbt_num.specs.Limits.{IsLawful}
-use Rattle.wbt_grant.specs.Kinds.{Step}
-use Rattle.wbt_grant.specs.Seats.{cpu_for, is_timer}
-use Rattle.wbt_grant.specs.Setting.{Setting}
-use Rattle.wbt_grant.specs.State.{held_of}
-use Rattle.wbt_grant.specs.declared.record.CpuRecord.{CpuRecord}
-use Rattle.wbt_grant.specs.declared.who.Who.{Who}
-use Rattle.wbt_grant.specs.declared.who.Who.TheVariants.{Writer, Cpu, Timer}
+use Rattle.wbt_kit.proofs.Common.{Step, cpu_for, Setting, held_of, CpuRecord, Who, Timer, Made, record_of, whole_load, setting, Has, Holds, Changes, Makes, Seated, Triple, has_changed, AreSeatsOf}
+use Rattle.wbt_grant.specs.Seats.{is_timer}
+use Rattle.wbt_grant.specs.declared.who.Who.TheVariants.{Writer, Cpu}
 use Rattle.wbt_kit.specs.declared.kit.Kit.{Kit}
 use Rattle.wbt_kit.specs.declared.kit.Seats.{Seats}
-use Rattle.wbt_table.specs.Calls.{Asked, HoldsWho, Loads, Made, MakesAll, record_of, whole_load}
+use Rattle.wbt_table.specs.Calls.{Asked, HoldsWho, Loads, MakesAll}
 use Rattle.wbt_table.specs.Calls.{HoldsLoader as MayLoad, LoadsLimits as Answers}
-use Rattle.wbt_table.specs.Layout.{setting}
-use Rattle.wbt_table.specs.Rule.{Has, Holds}
-use Rattle.wbt_table.specs.Seat.{Changes, Makes, Seated}
 use Rattle.wbt_table.specs.declared.answer.Loaded.{Loaded}
 use Rattle.wbt_table.specs.declared.answer.Loaded.TheVariants as loaded
-use Rattle.wbt_table.specs.declared.answer.Triple.{Triple}
-use Rattle.wbt_table.proofs.Seating.{has_changed}
 use Rattle.wbt_run_steps.specs.Loads.{HoldsLoader, HoldsNow, LoadsLimits, LoadsSome, TellsHeld, held_as}
 use Rattle.wbt_run_steps.specs.Made.{MakesThese}
 use Rattle.wbt_run_steps.specs.Records.{OnlyCpu}
-use Rattle.wbt_kit.specs.Kit.{AreSeatsOf}
 use Rattle.wbt_run_steps.specs.Gate.{AskedBeforeEach}
 use Rattle.wbt_run_steps.proofs.Changing.{seats_stay}
 use Rattle.wbt_run_steps.proofs.Gating.{asked_these}

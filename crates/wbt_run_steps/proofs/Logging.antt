@@ -2,29 +2,17 @@
 use Rattle.std.proofs.Common.{◌≡◌, ◌≢◌, ℕ, List, [], ◌∷◌, ◌++◌, map, Option, Some, None, Result, Ok, Err, inl, refl, sym, ap, ◌∙◌, subst, append_assoc, append-nil}
 use Rattle.std.specs.Prelude.{IfOk, OnErr, OnOk}
 use lib.ListN.{get_elem?}
-use Rattle.wbt_counter.specs.declared.counter.Count.{Count}
-use Rattle.wbt_counter.specs.declared.counter.Counter.{Counter}
+use Rattle.wbt_kit.proofs.Common.{Count, Counter, Step, mark, cpu_for, maker_of, Setting, StepKind, Who, IsCutLoad, Made, at_once, after_first, after_middle, LogsSteps, setting, HasLog, Logs, LogComes, Makes, Seated, Triple, Granted, Logged}
 use Rattle.wbt_grant.specs.Effects.{Access, effect}
-use Rattle.wbt_grant.specs.Kinds.{Step, mark}
-use Rattle.wbt_grant.specs.Seats.{cpu_for, maker_of}
-use Rattle.wbt_grant.specs.Setting.{Setting}
-use Rattle.wbt_grant.specs.declared.who.StepKind.{StepKind}
 use Rattle.wbt_grant.specs.declared.who.StepKind.TheVariants as kind
-use Rattle.wbt_grant.specs.declared.who.Who.{Who}
 use Rattle.wbt_kit.specs.declared.kit.Kit.{Kit}
 use Rattle.wbt_kit.specs.declared.kit.Seats.{Seats}
 use Rattle.wbt_kit.specs.declared.turn.Turn.{Turn}
 use Rattle.wbt_kit.specs.declared.turn.Turn.TheVariants.{Stepped, Resting, Done, Halted, Faulted, Spent, NoMemory}
-use Rattle.wbt_table.specs.Calls.{IsCutBack, IsCutLoad, Made}
+use Rattle.wbt_table.specs.Calls.{IsCutBack}
 use Rattle.wbt_table.specs.Calls.IsCutBack.{at_once as before_look, after_look}
-use Rattle.wbt_table.specs.Calls.IsCutLoad.{at_once, after_first, after_middle}
-use Rattle.wbt_table.specs.History.{LogsGrant, LogsStep, LogsSteps, Past, log_granted, log_of, step_told}
-use Rattle.wbt_table.specs.Layout.{setting}
-use Rattle.wbt_table.specs.Rule.{HasLog, Logs}
-use Rattle.wbt_table.specs.Seat.{LogComes, LogsOne, Makes, Seated}
-use Rattle.wbt_table.specs.declared.answer.Triple.{Triple}
-use Rattle.wbt_table.specs.declared.rule.Granted.{Granted}
-use Rattle.wbt_table.specs.declared.rule.Logged.{Logged}
+use Rattle.wbt_table.specs.History.{LogsGrant, LogsStep, Past, log_granted, log_of, step_told}
+use Rattle.wbt_table.specs.Seat.{LogsOne}
 use Rattle.wbt_table.proofs.Logging.{put_log_else, put_log_here}
 use Rattle.wbt_turns.specs.Words.{IsCut, IsCutTurn, IsTurn, counts, kind_of}
 use Rattle.wbt_turns.specs.Words.IsTurn.{rests}

@@ -1,21 +1,9 @@
 -- Steps one after another.
 use Rattle.std.proofs.Common.{◌≡◌, ℕ, ◌<◌, inl, inr, List, [], ◌∷◌, ◌++◌, length, map, refl, sym, ap, ◌∙◌, subst, arith, append_assoc}
 use Rattle.std.proofs.lemmas.List.{length-append, map-append}
-use Rattle.wbt_counter.specs.declared.counter.Count.{Count}
-use Rattle.wbt_counter.specs.declared.counter.Counter.{Counter}
-use Rattle.wbt_counter.specs.declared.counter.Counter.TheVariants.{Domain}
-use Rattle.wbt_grant.specs.Kinds.{Step, count, first, limits, middle}
-use Rattle.wbt_grant.specs.Seats.{cpu_for, maker_of, record_after}
-use Rattle.wbt_grant.specs.Setting.{Setting}
-use Rattle.wbt_grant.specs.declared.record.CpuRecord.{CpuRecord}
-use Rattle.wbt_grant.specs.declared.who.Who.{Who}
+use Rattle.wbt_kit.proofs.Common.{Count, Counter, Domain, Step, count, first, limits, middle, cpu_for, maker_of, record_after, Setting, CpuRecord, Who, IsCutLoad, Made, record_of, at_once, after_first, after_middle, setting, put_record, Makes}
 use Rattle.wbt_kit.specs.declared.kit.Kit.{Kit}
 use Rattle.wbt_kit.specs.declared.kit.Seats.{Seats}
-use Rattle.wbt_table.specs.Calls.{IsCutLoad, Made, record_of}
-use Rattle.wbt_table.specs.Calls.IsCutLoad.{at_once, after_first, after_middle}
-use Rattle.wbt_table.specs.Layout.{setting}
-use Rattle.wbt_table.specs.Rule.{put_record}
-use Rattle.wbt_table.specs.Seat.{Makes}
 use Rattle.wbt_table.proofs.Granting.{put_there}
 use Rattle.wbt_table.proofs.Paying.{both_logged, one_logged, still_logged}
 use Rattle.wbt_table.proofs.Seating.{changes_twice}

@@ -3,22 +3,13 @@ use Rattle.std.proofs.Common.{◌≡◌, ℕ, Bool, cond, ◌==◌, not, List, [
 use Rattle.std.proofs.lemmas.Bool.{cond_both, cond-true}
 use Rattle.std.proofs.lemmas.Int.{ints}
 use Rattle.wbt_counter.specs.Account.{amount, to_clear}
-use Rattle.wbt_counter.specs.Counters.{debt_to, folds_of, is_same, with_debt, without_debt}
+use Rattle.wbt_kit.proofs.Common.{with_debt, without_debt, Counter, Domain, Debt, Free, Event, FoldDue, ClearDue, Fold, Owed, Step, add, clear, fold, record_after, Setting, counters_of, CpuRecord, Made, PayInOrder, Pays, Settles, record_of, Settled}
+use Rattle.wbt_counter.specs.Counters.{debt_to, folds_of, is_same}
 use Rattle.wbt_counter.specs.Recorded.{sum_made}
-use Rattle.wbt_counter.specs.declared.counter.Counter.{Counter}
-use Rattle.wbt_counter.specs.declared.counter.Counter.TheVariants.{Domain, Context}
-use Rattle.wbt_counter.specs.declared.record.Debt.{Debt}
-use Rattle.wbt_counter.specs.declared.record.Debt.TheVariants.{Free, Event, FoldDue, ClearDue}
-use Rattle.wbt_counter.specs.declared.record.Fold.{Fold}
-use Rattle.wbt_counter.specs.declared.record.Owed.{Owed}
+use Rattle.wbt_counter.specs.declared.counter.Counter.TheVariants.{Context}
 use Rattle.wbt_counter.proofs.Debts.{is_same-itself}
-use Rattle.wbt_grant.specs.Kinds.{Step, add, clear, fold}
-use Rattle.wbt_grant.specs.Seats.{own_told, record_after}
-use Rattle.wbt_grant.specs.Setting.{Setting, counters_of}
+use Rattle.wbt_grant.specs.Seats.{own_told}
 use Rattle.wbt_grant.specs.State.{account_of}
-use Rattle.wbt_grant.specs.declared.record.CpuRecord.{CpuRecord}
-use Rattle.wbt_table.specs.Calls.{Made, PayInOrder, Pays, Settles, record_of}
-use Rattle.wbt_table.specs.declared.answer.Settled.{Settled}
 use Rattle.wbt_run_laws.specs.Steps.{fold_made}
 use Rattle.wbt_run_steps.specs.Debts.{AreOnce, ArePaid, ArePaidInTurn, AreWhole, owed_to}
 use Rattle.wbt_run_steps.proofs.Settling.{in_order, turned_is_told, turned_round}

@@ -1,17 +1,9 @@
 -- What a CPU owes to counters is paid, and told.
 use Rattle.std.proofs.Common.{ℕ, Bool, List, subst}
-use Rattle.wbt_counter.specs.declared.record.Fold.{Fold}
-use Rattle.wbt_grant.specs.declared.record.CpuRecord.{CpuRecord}
+use Rattle.wbt_kit.proofs.Common.{Fold, CpuRecord, setting, HasCounter, Has, Changes, has_changed, Each, CpuJournal, AreSeatsOf}
 use Rattle.wbt_table.specs.Calls.{Comes, SettlesLogged}
-use Rattle.wbt_table.specs.Layout.{setting, HasCounter}
-use Rattle.wbt_table.specs.Rule.{Has}
-use Rattle.wbt_table.specs.Seat.{Changes}
 use Rattle.wbt_table.specs.declared.answer.Settled.{Settled as Answer}
-use Rattle.wbt_table.proofs.Seating.{has_changed}
-use Rattle.wbt_journal.specs.Each.{Each}
-use Rattle.wbt_journal.specs.declared.entry.CpuJournal.{CpuJournal}
 use Rattle.wbt_run_laws.specs.Grew.{Grew}
-use Rattle.wbt_kit.specs.Kit.{AreSeatsOf}
 use Rattle.wbt_kit.specs.declared.kit.Kit.{Kit}
 use Rattle.wbt_kit.specs.declared.kit.Seats.{Seats}
 use Rattle.wbt_run_steps.specs.Debts.{AreOnce}

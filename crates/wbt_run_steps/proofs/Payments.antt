@@ -1,25 +1,12 @@
 -- Of which kinds the steps are that pay what a CPU owes to counters.
 use Rattle.std.proofs.Common.{◌≡◌, ℕ, Bool, true, false, ◌==◌, List, [], ◌∷◌, ◌++◌, map, ◌⊎◌, inl, inr, ⊎_elim, ℤ, refl, sym, ap, ◌∙◌, subst, append_assoc, append-nil}
 use Rattle.std.proofs.lemmas.Bool.{cond_both}
-use Rattle.wbt_counter.specs.Counters.{with_debt, without_debt}
-use Rattle.wbt_counter.specs.declared.counter.Counter.{Counter}
-use Rattle.wbt_counter.specs.declared.counter.Counter.TheVariants.{Domain, Context}
-use Rattle.wbt_counter.specs.declared.record.Debt.{Debt}
-use Rattle.wbt_counter.specs.declared.record.Debt.TheVariants.{Free, Event, FoldDue, ClearDue}
-use Rattle.wbt_counter.specs.declared.record.Owed.{Owed}
-use Rattle.wbt_grant.specs.Kinds.{Step, add, clear, fold}
-use Rattle.wbt_grant.specs.Record.{debts_of}
-use Rattle.wbt_grant.specs.Seats.{own_told, record_after}
-use Rattle.wbt_grant.specs.Setting.{Setting, counters_of}
-use Rattle.wbt_grant.specs.declared.record.CpuRecord.{CpuRecord}
-use Rattle.wbt_grant.specs.declared.who.StepKind.{StepKind}
+use Rattle.wbt_kit.proofs.Common.{with_debt, without_debt, Counter, Domain, Debt, Free, Event, FoldDue, ClearDue, Owed, Step, add, clear, fold, debts_of, record_after, Setting, counters_of, CpuRecord, StepKind, Made, PayInOrder, Pays, Settles, record_of, LogsSteps, Has, LogComes, Settled}
+use Rattle.wbt_counter.specs.declared.counter.Counter.TheVariants.{Context}
+use Rattle.wbt_grant.specs.Seats.{own_told}
 use Rattle.wbt_grant.specs.declared.who.StepKind.TheVariants as kind
 use Rattle.wbt_kit.specs.declared.kit.Seats.{Seats}
-use Rattle.wbt_table.specs.Calls.{Made, PayInOrder, Pays, Settles, record_of}
-use Rattle.wbt_table.specs.History.{LogsSteps, log_of}
-use Rattle.wbt_table.specs.Rule.{Has}
-use Rattle.wbt_table.specs.Seat.{LogComes}
-use Rattle.wbt_table.specs.declared.answer.Settled.{Settled}
+use Rattle.wbt_table.specs.History.{log_of}
 use Rattle.wbt_turns.specs.Words.{IsCut, IsSettled}
 use Rattle.wbt_run_steps.specs.Debts.{AreOnce}
 use Rattle.wbt_run_steps.specs.Kinds.{ArePayments, PaysFirst, Steps, StepsAs, StepsToPay}

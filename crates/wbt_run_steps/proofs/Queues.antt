@@ -5,7 +5,8 @@ use Rattle.std.proofs.lemmas.List.{get_or-set_other}
 use mathlib.Core.Logic.{dite}
 use native.Mathlib.Decide.{ℕ_discrete}
 use Rattle.wbt_queue.specs.Known.{opening, after_put, after_take}
-use Rattle.wbt_queue.specs.Passes.{Seats, known_of}
+use Rattle.wbt_kit.proofs.Common.{Seats}
+use Rattle.wbt_queue.specs.Passes.{known_of}
 use Rattle.wbt_queue.specs.declared.known.Known.{Known}
 use Rattle.wbt_run_steps.specs.Queues.{OnlyDevice, PutsMore}
 

@@ -2,21 +2,10 @@
 use Rattle.std.proofs.Common.{◌≡◌, ℕ, Bool, not, List, [], ◌∷◌, ◌++◌, filter, Option, Some, None, sym, refl, ap, ◌∙◌, subst, append_assoc, append-nil}
 use Rattle.std.proofs.lemmas.Bool.{cond_both}
 use Rattle.std.proofs.lemmas.List.{append_cancel_right}
-use Rattle.wbt_counter.specs.declared.counter.Counter.{Counter}
-use Rattle.wbt_counter.specs.declared.record.Debt.{Debt}
-use Rattle.wbt_counter.specs.declared.record.Debt.TheVariants.{Free, Event, FoldDue, ClearDue}
-use Rattle.wbt_counter.specs.declared.record.Fold.{Fold}
-use Rattle.wbt_counter.specs.declared.record.Owed.{Owed}
-use Rattle.wbt_counter.specs.Counters.{is_same, with_debt, without_debt}
-use Rattle.wbt_grant.specs.declared.record.CpuRecord.{CpuRecord}
-use Rattle.wbt_grant.specs.Kinds.{Step, add, clear}
-use Rattle.wbt_grant.specs.Seats.{record_after}
-use Rattle.wbt_grant.specs.Setting.{Setting}
-use Rattle.wbt_table.specs.Calls.{Made, record_of, Pays, PayInOrder, told_fold, told_folds, Settles}
-use Rattle.wbt_table.specs.declared.answer.Settled.{Settled}
+use Rattle.wbt_kit.proofs.Common.{Counter, Debt, Free, Event, FoldDue, ClearDue, Fold, Owed, with_debt, without_debt, CpuRecord, Step, add, clear, record_after, Setting, Made, record_of, Pays, PayInOrder, Settles, Settled, Each, Told, folded}
+use Rattle.wbt_counter.specs.Counters.{is_same}
+use Rattle.wbt_table.specs.Calls.{told_fold, told_folds}
 use Rattle.wbt_journal.specs.Counts.{fold_in}
-use Rattle.wbt_journal.specs.Each.{Each}
-use Rattle.wbt_journal.specs.Told.{Told, folded}
 use Rattle.wbt_run_laws.specs.Grew.{onto, Grew}
 use Rattle.wbt_run_laws.specs.Steps.{Gathered, fold_made}
 use Rattle.wbt_run_laws.proofs.Growing.{by_nothing, by_both}

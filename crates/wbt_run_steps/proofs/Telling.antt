@@ -1,12 +1,8 @@
 -- Entries of folds: what holds of each, and what the log tells.
 use Rattle.std.proofs.Common.{List, [], ◌∷◌, ◌++◌, Option, Some, None, sym, refl, ap, ◌∙◌, subst}
 use Rattle.std.proofs.lemmas.List.{map-append}
-use Rattle.wbt_counter.specs.declared.record.Fold.{Fold}
+use Rattle.wbt_kit.proofs.Common.{Fold, Settled, Each, Told, folded, CpuJournal}
 use Rattle.wbt_table.specs.Calls.{told_fold}
-use Rattle.wbt_table.specs.declared.answer.Settled.{Settled}
-use Rattle.wbt_journal.specs.Each.{Each}
-use Rattle.wbt_journal.specs.Told.{Told, folded}
-use Rattle.wbt_journal.specs.declared.entry.CpuJournal.{CpuJournal}
 use Rattle.wbt_journal.specs.declared.entry.Entry.TheVariants as entry
 use Rattle.wbt_run_laws.specs.Log.{Logged}
 use Rattle.wbt_run_laws.proofs.Logging.{logged_nothing, logged_both, logged_entry}

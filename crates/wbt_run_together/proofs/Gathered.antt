@@ -5,36 +5,21 @@ use Rattle.std.specs.List.{sum_by}
 use Rattle.std.specs.Option.{IfSome}
 use Rattle.std.proofs.lemmas.Bool.{cases_lt}
 use Rattle.std.proofs.lemmas.List.Sums.{sum_by-cons}
-use Rattle.wbt_counter.specs.Sums.{total}
-use Rattle.wbt_run_seats.specs.Gathered.{AreGathered, AreGatheredIn, AreNotesOf, HasOneStake, no_notes}
-use Rattle.wbt_run_seats.specs.Opened.{IsOpened, first_notes}
-use Rattle.wbt_run_seats.specs.Parts.{HasNoLog, HoldsOnly, IsLeft, owner_of}
-use Rattle.wbt_run_seats.specs.Rooms.{AreBacked}
+use Rattle.wbt_run_worker.proofs.Common.{total, CpuRecord, TimerRecord, Each, contexts, domains, CpuJournal, AreFirst, AreSeatsOf, HasCpu, HasTimer, IsKitOf, known_of, HoldsAll, setting, Has, HasLog, Seated, Logged, Layout, IsLawful, Trace, AreGathered, first_notes, owner_of, AreBacked, kit_is_opened, handed, Kit, Seats, AnyOf, Seen, Team, both_told, owed_in, owed_totals, flusher_at, team_of, written_by, IsTold, AreWordsBy, firsts_of, record_of, record_is, kinds_in, SeatsStay, NotedSince, Notes, Shown, first_shown, empty_log}
+use Rattle.wbt_kit.proofs.Common.{stakes_in, opening, Known, joined_seat, Logs}
+use Rattle.wbt_run_seats.specs.Gathered.{AreGatheredIn, AreNotesOf, HasOneStake, no_notes}
+use Rattle.wbt_run_seats.specs.Opened.{IsOpened}
+use Rattle.wbt_run_seats.specs.Parts.{HasNoLog, HoldsOnly, IsLeft}
 use Rattle.wbt_run_seats.specs.Together.{AreTogether, HoldsAllOf, InOrder}
 use Rattle.wbt_run_seats.proofs.Firsts.{left_is_first}
 use Rattle.wbt_run_seats.proofs.Gathering.{first_is_gathered, more_are_gathered}
 use Rattle.wbt_run_seats.proofs.Logs.{HasLogs, IsOwnLog, all_logs, first_log, log_at as own_log_at, log_held, logs_taken, timer_log_stays}
-use Rattle.wbt_run_seats.proofs.Opening.{kit_is_opened}
 use Rattle.wbt_run_seats.proofs.Records.{records_come_together}
 use Rattle.wbt_run_seats.proofs.Rooming.{taken_are_backed, together_are_backed}
 use Rattle.wbt_run_seats.proofs.Staking.{HasOneOfEach, all_notes_come_together, all_stakes_come_together}
-use Rattle.wbt_flusher.specs.Did.{handed}
-use Rattle.wbt_fraction.specs.Several.{Seats as ShareSeats, stakes_in}
-use Rattle.wbt_grant.specs.declared.record.CpuRecord.{CpuRecord}
-use Rattle.wbt_grant.specs.declared.record.TimerRecord.{TimerRecord}
-use Rattle.wbt_journal.specs.Each.{Each}
-use Rattle.wbt_journal.specs.Machine.{contexts, domains}
+use Rattle.wbt_fraction.specs.Several.{Seats as ShareSeats}
 use Rattle.wbt_journal.specs.Told.{told as told_by}
-use Rattle.wbt_journal.specs.declared.entry.CpuJournal.{CpuJournal}
-use Rattle.wbt_kit.specs.Kit.{AreFirst, AreSeatsOf, HasCpu, HasTimer, IsKitOf}
-use Rattle.wbt_kit.specs.declared.kit.Kit.{Kit}
-use Rattle.wbt_kit.specs.declared.kit.Seats.{Seats}
-use Rattle.wbt_published.specs.Known.{opening}
-use Rattle.wbt_published.specs.Passes.{known_of, Seats as EstPass}
-use Rattle.wbt_published.specs.declared.known.Known.{Known}
-use Rattle.wbt_run_worker.specs.Team.{AnyOf, Seen, Team, both_told, owed_in, owed_totals, flusher_at, team_of, written_by}
-use Rattle.wbt_run_worker.specs.Went.{IsTold}
-use Rattle.wbt_run_worker.specs.Words.{AreWordsBy}
+use Rattle.wbt_published.specs.Passes.{Seats as EstPass}
 use Rattle.wbt_run_worker.specs.declared.side.End.{End}
 use Rattle.wbt_run_worker.specs.declared.side.CpuSide.{CpuSide}
 use Rattle.wbt_run_worker.specs.declared.side.Post.{Post}
@@ -42,22 +27,7 @@ use Rattle.wbt_run_worker.specs.declared.side.Stand.TheVariants.{Open}
 use Rattle.wbt_run_worker.specs.declared.worker.Worker.{Worker}
 use Rattle.wbt_queue.specs.Passes as queue
 use Rattle.wbt_run_steps.specs.Queues.{HasAllStakes}
-use Rattle.wbt_run_steps.specs.Records.{firsts_of, record_of}
-use Rattle.wbt_run_steps.proofs.Changing.{record_is}
-use Rattle.wbt_table.specs.Calls.{HoldsAll, joined_seat}
-use Rattle.wbt_run_steps.specs.Kinds.{kinds_in}
-use Rattle.wbt_table.specs.Layout.{setting, domains as limits_of}
-use Rattle.wbt_table.specs.Rule.{Has, HasLog, Logs}
-use Rattle.wbt_table.specs.Seat.{Seated}
-use Rattle.wbt_table.specs.declared.rule.Logged.{Logged}
-use Rattle.wbt_table.specs.declared.layout.Layout.{Layout}
-use Rattle.wbt_timer.specs.Turn.{SeatsStay}
-use Rattle.wbt_trace.specs.Lawful.{IsLawful}
-use Rattle.wbt_trace.specs.declared.trace.Trace.{Trace}
-use Rattle.wbt_run_laws.specs.Noted.{NotedSince}
-use Rattle.wbt_run_laws.specs.Notes.{Notes}
-use Rattle.wbt_run_laws.specs.Shown.{Shown, first_shown}
-use Rattle.wbt_run_laws.specs.Worker.{empty_log}
+use Rattle.wbt_table.specs.Layout.{domains as limits_of}
 use Rattle.wbt_run_drain.specs.Whole.{CpuWorked, CpusWorked, log_at}
 use Rattle.wbt_writer.specs.Desk.{shown_of, sight}
 use Rattle.wbt_run_drain.specs.Standing.{AreQueued, AreStanding, HasFlusher, HaveTold, SideStands, TellTurns}

@@ -2,35 +2,21 @@
 use Rattle.std.proofs.Common.{◌≡◌, ℕ, zero, suc, ◌≤◌, Bool, true, false, cond, List, [], ◌∷◌, ◌++◌, length, get_or, Option, refl, sym, ap, ◌∙◌, subst, arith, length-append}
 use Rattle.wbt_run_seats.specs.Opened.{IsFirstLeft}
 use Rattle.wbt_run_seats.proofs.Firsts.{left_is_first}
-use Rattle.wbt_run_seats.proofs.Opening.{kit_is_opened}
-use Rattle.wbt_grant.specs.declared.record.TimerRecord.{TimerRecord}
-use Rattle.wbt_journal.specs.Machine.{domains}
-use Rattle.wbt_journal.specs.declared.timer.TimerEntry.{TimerEntry}
-use Rattle.wbt_kit.specs.Kit.{AreSeatsOf, HasTimer, IsKitOf}
-use Rattle.wbt_kit.specs.declared.kit.Kit.{Kit}
-use Rattle.wbt_kit.specs.declared.kit.Seats.{Seats}
-use Rattle.wbt_published.specs.Passes.{known_of, Seats as EstPass}
-use Rattle.wbt_run_worker.specs.Ticking.{MayTick, Ticks}
+use Rattle.wbt_run_worker.proofs.Common.{kit_is_opened, TimerRecord, domains, TimerEntry, AreSeatsOf, HasTimer, IsKitOf, known_of, IsLawful, Trace, TableId, Each, Kit, Seats, MayTick, Ticks, IsCutOff, IsTimerTurn, SeatsStay, Known}
+use Rattle.wbt_published.specs.Passes.{Seats as EstPass}
 use Rattle.wbt_run_worker.specs.declared.worker.Worker.{Worker}
 use Rattle.wbt_run_worker.proofs.Going.{own_side}
 use Rattle.wbt_table.specs.Layout.{domains as limits_of}
-use Rattle.wbt_turns.specs.Words.{IsCutOff, IsTimerTurn}
 use Rattle.wbt_turns.proofs.Following.{timer_turns_follow}
 use Rattle.wbt_run_worker.specs.TimerTurns.{StepsSo}
 use Rattle.wbt_timer.specs.Kinds.{HasSealed}
 use Rattle.wbt_timer.proofs.Made.{sealed_at_first}
 use Rattle.wbt_timer.specs.Side.{Side, first_side, first_sides, ticked}
-use Rattle.wbt_timer.specs.Turn.{SeatsStay}
 use Rattle.wbt_timer.specs.declared.side.DomainSide.{DomainSide}
-use Rattle.wbt_trace.specs.Lawful.{IsLawful}
-use Rattle.wbt_trace.specs.declared.trace.Trace.{Trace}
 use Rattle.wbt_run_drain.specs.Standing.{AreStanding}
 use Rattle.wbt_run_drain.specs.Words.{TimerTellsTurns}
 use Rattle.wbt_run_beside.specs.Beside.{AllHaveWorked, AllMayWork, team_in}
-use Rattle.atomic_table.specs.Seated.{TableId}
-use Rattle.wbt_journal.specs.Each.{Each}
 use Rattle.wbt_run_worker.proofs.Lists.{each_at}
-use Rattle.wbt_signals.specs.Signals.{Known}
 use Rattle.wbt_run_first.specs.Voiced.{IsVoiced}
 use Rattle.wbt_run_together.specs.Gather.{AllAtKit, CameTogether, sides_of}
 use Rattle.wbt_run_first.specs.Seated.{AreSeated, HasTicked, IsFirstTimer, MakeAll, PublishesNone}

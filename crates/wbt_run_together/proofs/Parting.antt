@@ -2,9 +2,8 @@
 use Rattle.std.proofs.Common.{◌≡◌, suc, ◌+◌, ◌≤◌, List, [], ◌∷◌, ◌++◌, length, map, get_or, take, drop, refl, sym, ap, ◌∙◌, subst, append_assoc, append-nil, arith, length-append}
 use Rattle.wbt_run_seats.specs.Together.{AreTogether}
 use Rattle.wbt_run_seats.proofs.Together.{at_first, one_more}
-use Rattle.wbt_kit.specs.Kit.{AreJoined, AreSeatsOf}
-use Rattle.wbt_kit.specs.declared.kit.Kit.{Kit}
-use Rattle.wbt_kit.specs.declared.kit.Seats.{Seats}
+use Rattle.wbt_run_worker.proofs.Common.{AreSeatsOf, Kit, Seats}
+use Rattle.wbt_kit.proofs.Common.{AreJoined}
 use Rattle.wbt_run_worker.specs.declared.side.CpuSide.{CpuSide}
 use Rattle.wbt_run_worker.specs.declared.worker.Worker.{Worker}
 use Rattle.wbt_run_together.specs.Gather.{AllAtKit, CameTogether, seats_of, sides_of}

@@ -4,16 +4,11 @@ use Rattle.std.specs.List.{list_any}
 use Rattle.std.specs.Prelude.{IsTrue}
 use Rattle.std.proofs.lemmas.Bool.{cases_eq}
 use Rattle.std.proofs.lemmas.Option.{get_or_from_slice_get}
-use Rattle.wbt_journal.specs.Each.{Each}
-use Rattle.wbt_run_worker.specs.Team.{AnyOf, Seen}
-use Rattle.wbt_run_worker.specs.Went.{AreStill}
+use Rattle.wbt_run_worker.proofs.Common.{Each, IsLawful, FlusherLine, Trace, AnyOf, Seen, AreStill}
 use Rattle.wbt_run_worker.specs.declared.side.CpuSide.{CpuSide}
 use Rattle.wbt_run_worker.specs.declared.side.Post.{Post}
 use Rattle.wbt_run_worker.specs.declared.side.Stand.TheVariants.{Open, Done}
-use Rattle.wbt_trace.specs.Lawful.{IsLawful}
 use Rattle.wbt_trace.specs.Lawful.{has_flusher}
-use Rattle.wbt_trace.specs.declared.trace.FlusherLine.{FlusherLine}
-use Rattle.wbt_trace.specs.declared.trace.Trace.{Trace}
 use Rattle.wbt_run_drain.specs.Ends.{Any}
 use Rattle.wbt_run_drain.specs.Standing.{AreDoneAt, HasFlusher}
 use Rattle.wbt_run_drain.specs.Teams.{posts_of, teams_of}

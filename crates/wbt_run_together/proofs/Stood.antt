@@ -1,31 +1,14 @@
 -- Where the side of a CPU stands after its worker's turns, on seats that have its record.
 use Rattle.std.proofs.Common.{◌≡◌, inl, inr, ⊎_elim, ℕ, ◌≤◌, Bool, true, List, [], ◌∷◌, length, get_or, Option, refl, sym, ap, ◌∙◌, subst, arith}
-use Rattle.wbt_flusher.specs.Turns.{IsPhase, IsSteady}
-use Rattle.wbt_flusher.specs.declared.plan.FlusherPlan.{FlusherPlan}
-use Rattle.wbt_flusher.specs.declared.work.Phase.{Phase}
-use Rattle.wbt_flusher.specs.declared.work.Phase.TheVariants.{Failed}
-use Rattle.wbt_grant.specs.declared.record.CpuRecord.{CpuRecord}
-use Rattle.wbt_book.specs.Ledger.{times_in}
-use Rattle.wbt_journal.specs.Each.{Each}
-use Rattle.wbt_kit.specs.declared.kit.Kit.{Kit}
-use Rattle.wbt_kit.specs.declared.kit.Seats.{Seats}
-use Rattle.wbt_published.specs.Passes.{known_of}
-use Rattle.wbt_run_worker.specs.Answers.{EndsSo}
-use Rattle.wbt_run_worker.specs.Side.{ArePosted, IsPost, IsSide, Stands}
-use Rattle.wbt_run_worker.specs.Team.{AnyOf, Seen, Team, seen, team_of}
-use Rattle.wbt_run_worker.specs.Went.{AnyFaulted, IsFaulted, StandsStay}
+use Rattle.wbt_run_worker.proofs.Common.{IsPhase, IsSteady, FlusherPlan, Phase, Failed, CpuRecord, times_in, Each, known_of, setting, Has, Trace, Kit, Seats, EndsSo, ArePosted, IsPost, IsSide, Stands, AnyOf, Seen, Team, seen, team_of, IsFaulted, StandsStay, record_of, IsStopped, record_is}
+use Rattle.wbt_kit.proofs.Common.{Holds}
+use Rattle.wbt_run_worker.specs.Went.{AnyFaulted}
 use Rattle.wbt_run_worker.specs.declared.side.CpuSide.{CpuSide}
 use Rattle.wbt_run_worker.specs.declared.side.End.{End}
 use Rattle.wbt_run_worker.specs.declared.side.End.TheVariants.{Ended, Halted, Faulted, Spent, Refused, Stopped}
 use Rattle.wbt_run_worker.specs.declared.side.Post.{Post}
 use Rattle.wbt_run_worker.specs.declared.side.Stand.{Stand}
 use Rattle.wbt_run_worker.specs.declared.side.Stand.TheVariants.{Open, Done, Out}
-use Rattle.wbt_run_steps.specs.Records.{record_of}
-use Rattle.wbt_run_steps.specs.Steps.{IsStopped}
-use Rattle.wbt_run_steps.proofs.Changing.{record_is}
-use Rattle.wbt_table.specs.Layout.{setting}
-use Rattle.wbt_table.specs.Rule.{Has, Holds}
-use Rattle.wbt_trace.specs.declared.trace.Trace.{Trace}
 use Rattle.wbt_run_drain.specs.Standing.{EndsBy, FaultsAreTold, SideGoesOn, HasFailed, NotHalted, OutBy, SideStands, StandsSo, WasStopped}
 use Rattle.wbt_run_drain.specs.Teams.{posts_of}
 use Rattle.wbt_run_first.specs.Lent.{IsOpen}

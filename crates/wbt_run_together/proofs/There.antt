@@ -1,23 +1,15 @@
 -- A CPU's turns, where numbers that no flusher of the trace has stay as they are at first.
 use Rattle.std.proofs.Common.{◌≡◌, ◌≢◌, ⊎_elim, ℕ, ◌≤◌, Bool, true, false, ◌==◌, nat_lt, if◌then◌else◌, List, [], ◌∷◌, length, Option, Some, None, IfSome, refl, sym, ap, ◌∙◌, subst, ne_eqb}
 use Rattle.std.proofs.lemmas.Bool.{cases_lt, lt-ltb, le-ltb}
-use Rattle.wbt_journal.specs.Each.{Each}
-use Rattle.wbt_journal.specs.Effects.{Flight, Wait, effect, of_part}
+use Rattle.wbt_run_worker.proofs.Common.{Each, Flight, Wait, effect, Told, after, Trace, Flew, ShownFlusher, none_shown, Waited, Worker, if_weaker, each_weaker}
+use Rattle.wbt_kit.proofs.Common.{of_part, is_on, MayWait, waited, Due}
 use Rattle.wbt_journal.specs.Flights.{MayMove, ToldFlusher, is_own_flusher, moved}
 use Rattle.wbt_rules.specs.Things.{flusher_cpu}
-use Rattle.wbt_journal.specs.Side.{is_on}
-use Rattle.wbt_journal.specs.Told.{Told}
-use Rattle.wbt_journal.specs.Waits.{MayWait, waited}
-use Rattle.wbt_journal.specs.Walk.{Along, after}
-use Rattle.wbt_expiry.specs.declared.due.Due.{Due}
-use Rattle.wbt_trace.specs.declared.trace.Trace.{Trace}
+use Rattle.wbt_journal.specs.Walk.{Along}
 use Rattle.wbt_run_laws.specs.Owns.{IsOwn, IsOwnFlight}
-use Rattle.wbt_run_laws.specs.Phases.{FliesInTurn, Flew, flusher_after}
-use Rattle.wbt_run_laws.specs.Shown.{ShownFlusher, none_shown}
-use Rattle.wbt_run_laws.specs.Waits.{list_after, Waited, WaitsInTurn}
-use Rattle.wbt_run_laws.specs.Worker.{Went, Worker}
-use Rattle.wbt_run_laws.proofs.Effects.{if_weaker}
-use Rattle.wbt_run_laws.proofs.Lists.{each_weaker}
+use Rattle.wbt_run_laws.specs.Phases.{FliesInTurn, flusher_after}
+use Rattle.wbt_run_laws.specs.Waits.{list_after, WaitsInTurn}
+use Rattle.wbt_run_laws.specs.Worker.{Went}
 use Rattle.wbt_run_laws.proofs.Walking.{IsSilent, walked_silent}
 use Rattle.wbt_run_drain.specs.Teams.{worker_there}
 

@@ -1,10 +1,8 @@
 -- The voices of all workers together: who was told to stop has another's cause.
 use Rattle.std.proofs.Common.{◌≡◌, ◌⊎◌, inl, inr, ⊎_elim, ℕ, zero, suc, ◌+◌, ◌^◌, ◌<◌, ◌≤◌, Bool, true, false, cond, ◌||◌, List, [], ◌∷◌, length, get_or, Option, Some, None, refl, sym, ap, ◌∙◌, subst, arith}
-use Rattle.atomic_table.specs.Seated.{TableId}
-use Rattle.wbt_journal.specs.Each.{Each}
-use Rattle.wbt_kit.specs.declared.kit.Kit.{Kit}
-use Rattle.wbt_signals.specs.Signals.{Known, both_voices}
-use Rattle.wbt_run_worker.specs.Voices.{HasLeft, HasSpoken, HasWritten, TimerSpeaks, rings_for}
+use Rattle.wbt_run_worker.proofs.Common.{TableId, Each, Kit, Known, HasSpoken, TimerSpeaks}
+use Rattle.wbt_signals.specs.Signals.{both_voices}
+use Rattle.wbt_run_worker.specs.Voices.{HasLeft, HasWritten, rings_for}
 use Rattle.wbt_run_worker.specs.declared.side.CpuSide.{CpuSide}
 use Rattle.wbt_run_worker.specs.declared.side.End.{End}
 use Rattle.wbt_run_worker.specs.declared.side.End.TheVariants.{Ended, Halted, Faulted, Spent, Refused, Stopped}

@@ -6,40 +6,21 @@ use Rattle.std.specs.List.{count_by, sum_by}
 use Rattle.std.proofs.lemmas.List.Sums.{sum_by-cons}
 use Rattle.std.specs.Option.{IfSome}
 use Rattle.std.proofs.lemmas.Bool.{cases_eq}
-use Rattle.wbt_rules.specs.First.{first_estimates}
+use Rattle.wbt_run_worker.proofs.Common.{first_estimates, HasRisenBy, Grows, Each, is_fault, contexts, NamesInOrder, Told, CpuJournal, AreFirst, HasLog, Seated, Logged, Trace, first_notes, owner_of, handed, Kit, Seats, EndsSo, Goes, Steps, IsTurn, AreWordsBy, Seen, failed_in, worker_of, written_by, AreStill, IsTold, Notes}
+use Rattle.wbt_kit.proofs.Common.{Logs}
 use Rattle.wbt_run_seats.specs.Gathered.{AreNotesOf, HasOneStake}
-use Rattle.wbt_run_seats.specs.Opened.{first_notes}
-use Rattle.wbt_run_seats.specs.Parts.{HoldsOnly, owner_of}
+use Rattle.wbt_run_seats.specs.Parts.{HoldsOnly}
 use Rattle.wbt_run_seats.proofs.Gathering.{grown_are_notes}
 use Rattle.wbt_run_seats.proofs.Logs.{IsOwnLog}
 use Rattle.wbt_run_seats.proofs.Staking.{HasOneOfEach, part_has_one}
-use Rattle.wbt_flusher.specs.Did.{handed}
-use Rattle.wbt_io.specs.Faults.{HasRisenBy}
-use Rattle.wbt_io.specs.Pages.{Grows}
-use Rattle.wbt_journal.specs.Each.{Each}
-use Rattle.wbt_journal.specs.Leaves.{is_fault}
-use Rattle.wbt_journal.specs.Machine.{contexts}
-use Rattle.wbt_journal.specs.Told.{NamesInOrder, Told, told as told_by}
-use Rattle.wbt_journal.specs.declared.entry.CpuJournal.{CpuJournal}
-use Rattle.wbt_kit.specs.Kit.{AreFirst}
-use Rattle.wbt_kit.specs.declared.kit.Kit.{Kit}
-use Rattle.wbt_kit.specs.declared.kit.Seats.{Seats}
-use Rattle.wbt_run_worker.specs.Answers.{EndsSo, Goes}
-use Rattle.wbt_run_steps.specs.Kinds.{LogsAfter, Steps}
+use Rattle.wbt_journal.specs.Told.{told as told_by}
+use Rattle.wbt_run_steps.specs.Kinds.{LogsAfter}
 use Rattle.wbt_table.specs.Calls.{IsFirst}
 use Rattle.wbt_table.specs.Layout.{domains as limits_of}
-use Rattle.wbt_table.specs.Rule.{HasLog, Logs}
-use Rattle.wbt_table.specs.Seat.{Seated}
-use Rattle.wbt_table.specs.declared.rule.Logged.{Logged}
-use Rattle.wbt_turns.specs.Words.{IsTurn}
-use Rattle.wbt_run_worker.specs.Words.{AreWordsBy}
-use Rattle.wbt_run_worker.specs.Team.{Seen, failed_in, worker_of, written_by}
-use Rattle.wbt_run_worker.specs.Went.{AreStill, IsTold}
 use Rattle.wbt_run_worker.specs.declared.worker.Worker.{Worker}
 use Rattle.wbt_run_worker.proofs.Going.{as_named}
 use Rattle.wbt_run_worker.proofs.Wording.{run_steps}
-use Rattle.wbt_trace.specs.declared.trace.Trace.{Trace}
-use Rattle.wbt_run_laws.specs.Notes.{EstimatesGrew, Notes, SharesGrew}
+use Rattle.wbt_run_laws.specs.Notes.{EstimatesGrew, SharesGrew}
 use Rattle.wbt_run_laws.specs.Worker as turns
 use Rattle.wbt_run_laws.specs.Worker.{WholeLog}
 use Rattle.wbt_run_laws.proofs.Working.{log_is_whole}

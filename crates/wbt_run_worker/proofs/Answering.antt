@@ -1,25 +1,11 @@
 -- What a flusher's turn answers to its CPU's side.
 use Rattle.std.proofs.Common.{◌≡◌, ℕ, ◌<◌, Bool, false, length, set, get_or, refl, sym, subst, true≢false, arith}
-use Rattle.wbt_flusher.specs.Answers.{FlusherAnswers, IsLeft, wait_of}
+use Rattle.wbt_run_worker.proofs.Common.{FlusherAnswers, no_moments, sight, Failed, HasRisen, CpuJournal, HasNoPageSteps, setting, Trace, Kit, Seats, Turn, IsStopped, Goes, JobAnswers, job_by, IsPost, IsSide, Seen, Team, Idled, IsFaulted}
+use Rattle.wbt_flusher.specs.Answers.{IsLeft, wait_of}
 use Rattle.wbt_flusher.specs.Answers as flusher
 use Rattle.wbt_flusher.specs.Did as flusher_did
-use Rattle.wbt_flusher.specs.Did.{no_moments}
-use Rattle.wbt_flusher.specs.Sights.{sight}
-use Rattle.wbt_flusher.specs.declared.work.Phase.TheVariants.{Failed}
-use Rattle.wbt_io.specs.Faults.{HasRisen}
-use Rattle.wbt_journal.specs.declared.entry.CpuJournal.{CpuJournal}
-use Rattle.wbt_kit.specs.declared.kit.Kit.{Kit}
-use Rattle.wbt_kit.specs.declared.kit.Seats.{Seats}
-use Rattle.wbt_kit.specs.declared.turn.Turn.{Turn}
 use Rattle.wbt_kit.specs.declared.turn.Turn.TheVariants as turn
-use Rattle.wbt_run_steps.specs.Steps.{IsStopped}
-use Rattle.wbt_table.specs.Calls.{HasNoPageSteps}
-use Rattle.wbt_table.specs.Layout.{setting}
-use Rattle.wbt_trace.specs.declared.trace.Trace.{Trace}
-use Rattle.wbt_run_worker.specs.Answers.{Goes, JobAnswers, WaitsOn, job_by}
-use Rattle.wbt_run_worker.specs.Side.{IsPost, IsSide}
-use Rattle.wbt_run_worker.specs.Team.{Seen, Team}
-use Rattle.wbt_run_worker.specs.Went.{Idled, IsFaulted}
+use Rattle.wbt_run_worker.specs.Answers.{WaitsOn}
 use Rattle.wbt_run_worker.proofs.Flushing.{post_at}
 use Rattle.wbt_run_worker.proofs.Lists.{each_set}
 use Rattle.wbt_run_worker.proofs.Posts.{IsLater, faulted_here}

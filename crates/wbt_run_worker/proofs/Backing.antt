@@ -1,30 +1,18 @@
 -- Rooms and completions after a turn of the writers.
 use Rattle.std.proofs.Common.{◌≡◌, ◌≢◌, ℕ, zero, suc, ◌+◌, ◌≤◌, Bool, true, false, cond, List, [], ◌∷◌, ◌++◌, length, Option, Some, None, eqb, eqb-true, false-eqb, refl, sym, ap, ◌∙◌, subst, arith}
 use mathlib.Core.Option.{some-injective, some-ne-none}
-use Rattle.wbt_book.specs.Ledger.{times}
-use Rattle.wbt_book.specs.declared.event.Event.{Event}
+use Rattle.wbt_run_worker.proofs.Common.{times, one_if, CpuRecord, Each, Flight, effect, is_fault, Told, MOST_PAGE_STEPS, Cpus, Has, Event, AreBacked, handed, Write, Seats, IsApart, record_of, record_is, Grew}
+use Rattle.wbt_kit.proofs.Common.{room_of, TotalSeated, none_some}
 use Rattle.wbt_book.specs.declared.event.Event.TheVariants.{Dirty}
-use Rattle.wbt_run_seats.specs.Rooms.{AreBacked}
-use Rattle.wbt_flusher.specs.Did.{AreCounted, handed}
+use Rattle.wbt_flusher.specs.Did.{AreCounted}
 use Rattle.wbt_flusher.specs.Sights.{all_completions, completions, held_cpus, is_completion}
-use Rattle.wbt_counter.specs.Sums.{one_if}
 use Rattle.wbt_fraction.specs.Several.{KeepsRooms}
-use Rattle.wbt_fraction.specs.Totals.{room_of, TotalSeated}
-use Rattle.wbt_grant.specs.declared.record.CpuRecord.{CpuRecord}
-use Rattle.wbt_journal.specs.Each.{Each}
-use Rattle.wbt_journal.specs.Effects.{Flight, Write, effect, event_by, handed_by, listed}
-use Rattle.wbt_journal.specs.Leaves.{is_failure, is_fault}
-use Rattle.wbt_journal.specs.Told.{Told}
-use Rattle.wbt_kit.specs.declared.kit.Seats.{Seats}
-use Rattle.wbt_num.specs.declared.most.TheConstants.{MOST_PAGE_STEPS}
+use Rattle.wbt_journal.specs.Effects.{event_by, handed_by, listed}
+use Rattle.wbt_journal.specs.Leaves.{is_failure}
 use Rattle.std.specs.List.{count_by, sum_by}
 use Rattle.std.proofs.lemmas.Bool.{cond_both}
 use Rattle.std.proofs.lemmas.List.Sums.{sum_by-cons}
-use Rattle.wbt_run_steps.specs.Records.{IsApart, record_of}
-use Rattle.wbt_run_steps.proofs.Changing.{record_is}
-use Rattle.wbt_table.specs.Rule.{Cpus, Has}
-use Rattle.wbt_table.proofs.Seating.{none_some}
-use Rattle.wbt_run_laws.specs.Grew.{Grew, event_in, onto}
+use Rattle.wbt_run_laws.specs.Grew.{event_in, onto}
 use Rattle.wbt_run_laws.specs.Owns.{IsOfWriters}
 use Rattle.wbt_run_laws.proofs.Effects.{part_none}
 

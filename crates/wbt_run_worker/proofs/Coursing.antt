@@ -1,8 +1,7 @@
 -- A worker's rounds so far, one after another.
 use Rattle.std.proofs.Common.{◌≡◌, ℕ, Bool, false, Option, Some, None, List, [], ◌∷◌, ◌++◌, refl, sym, ap, ◌∙◌, subst, append_assoc}
-use Rattle.wbt_journal.specs.Each.{Each}
-use Rattle.wbt_kit.specs.declared.kit.Kit.{Kit}
-use Rattle.wbt_run_worker.specs.Course.{AreRounds, EndBy, GoesOn, HasRun, Stance}
+use Rattle.wbt_run_worker.proofs.Common.{Each, Kit, HasRun}
+use Rattle.wbt_run_worker.specs.Course.{AreRounds, EndBy, GoesOn, Stance}
 use Rattle.wbt_run_worker.specs.Rounds.{Rotates}
 use Rattle.wbt_run_worker.specs.declared.round.Round.{Round}
 use Rattle.wbt_run_worker.specs.declared.round.Round.TheVariants as round

@@ -1,29 +1,13 @@
 -- A turn of one of a CPU's flushers as a turn of all of them.
 use Rattle.std.proofs.Common.{◌≡◌, ⊎_elim, ℕ, ◌+◌, ◌<◌, ◌≤◌, List, [], length, set, get_or, sym, ap, ◌∙◌, subst, arith}
 use Rattle.std.proofs.lemmas.List.Sums.{sum_by-set}
-use Rattle.wbt_book.specs.Ledger.{times_in}
-use Rattle.wbt_run_seats.specs.Rooms.{AreBacked}
+use Rattle.wbt_run_worker.proofs.Common.{times_in, CpuRecord, contexts, domains, CpuJournal, AreSeatsOf, known_of, Has, Trace, AreBacked, Moments, handed, Suits, OwesMark, OwesRescan, owing, owing_total, pages_by, sight, IsSteady, FlusherPlan, Kit, Seats, record_of, Worker, ArePosted, IsPost, AnyOf, Seen, claimed_by, owed_by, owed_in, owed_total, owed_totals}
 use Rattle.wbt_flusher.specs.Answers as flusher
 use Rattle.wbt_flusher.specs.Did as flusher_did
-use Rattle.wbt_flusher.specs.Did.{HasRooms, Moments, handed}
-use Rattle.wbt_flusher.specs.Plans.{IsWork, Suits}
+use Rattle.wbt_flusher.specs.Did.{HasRooms}
+use Rattle.wbt_flusher.specs.Plans.{IsWork}
 use Rattle.wbt_flusher.specs.Sights as sights
-use Rattle.wbt_flusher.specs.Sights.{OwesMark, OwesRescan, owing, owing_total, pages_by, sight}
-use Rattle.wbt_flusher.specs.Turns.{IsSteady}
-use Rattle.wbt_flusher.specs.declared.plan.FlusherPlan.{FlusherPlan}
-use Rattle.wbt_grant.specs.declared.record.CpuRecord.{CpuRecord}
-use Rattle.wbt_journal.specs.Machine.{contexts, domains}
-use Rattle.wbt_journal.specs.declared.entry.CpuJournal.{CpuJournal}
-use Rattle.wbt_kit.specs.Kit.{AreSeatsOf}
-use Rattle.wbt_kit.specs.declared.kit.Kit.{Kit}
-use Rattle.wbt_kit.specs.declared.kit.Seats.{Seats}
-use Rattle.wbt_published.specs.Passes.{known_of}
-use Rattle.wbt_run_steps.specs.Records.{record_of}
-use Rattle.wbt_table.specs.Rule.{Has}
-use Rattle.wbt_trace.specs.declared.trace.Trace.{Trace}
-use Rattle.wbt_run_laws.specs.Worker.{Worker}
-use Rattle.wbt_run_worker.specs.Side.{ArePosted, AreSteady, IsPost}
-use Rattle.wbt_run_worker.specs.Team.{AnyOf, Seen, claimed_by, owed_by, owed_in, owed_total, owed_totals}
+use Rattle.wbt_run_worker.specs.Side.{AreSteady}
 use Rattle.wbt_run_worker.proofs.Lists.{at_most, each_at, each_set}
 use Rattle.wbt_run_worker.proofs.Posts.{any_here, any_still, apart_set}
 use Rattle.wbt_run_worker.proofs.Writing.{posts_still}

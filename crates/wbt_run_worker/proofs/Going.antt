@@ -2,22 +2,10 @@
 use Rattle.std.proofs.Common.{ℕ, Bool, cond, List, [], ◌++◌, Some, refl, sym, ◌∙◌, subst, arith}
 use Rattle.std.specs.List.{sum_by}
 use Rattle.std.proofs.lemmas.List.Sums.{sum_by-append}
-use Rattle.wbt_flusher.specs.Did.{handed}
-use Rattle.wbt_io.specs.Pages.{Grows}
-use Rattle.wbt_journal.specs.Leaves.{is_fault}
-use Rattle.wbt_journal.specs.Told.{Told}
-use Rattle.wbt_kit.specs.declared.kit.Kit.{Kit}
-use Rattle.wbt_kit.specs.declared.kit.Seats.{Seats}
+use Rattle.wbt_run_worker.proofs.Common.{handed, Grows, is_fault, Told, Trace, Kit, Seats, each_append, noted_more, noted_now, Tasks, CutsOff, EndsSo, Goes, HaveEnded, IsSide, Stands, Team, worker_of, written_by, Idled, IsTold, StandsStay, TeamWent}
 use Rattle.wbt_run_steps.proofs.Changing.{apart_more}
-use Rattle.wbt_trace.specs.declared.trace.Trace.{Trace}
-use Rattle.wbt_run_laws.proofs.Lists.{each_append}
 use Rattle.wbt_run_laws.proofs.Logging.{logged_both, logged_nothing}
-use Rattle.wbt_run_laws.proofs.Noting.{noted_more, noted_now}
-use Rattle.wbt_writer.specs.declared.tasks.Tasks.{Tasks}
-use Rattle.wbt_run_worker.specs.Answers.{CutsOff, EndsSo, Goes}
-use Rattle.wbt_run_worker.specs.Side.{HasEnded, HaveEnded, IsSide, Stands}
-use Rattle.wbt_run_worker.specs.Team.{Team, worker_of, written_by}
-use Rattle.wbt_run_worker.specs.Went.{Idled, IsTold, StandsStay, TeamWent}
+use Rattle.wbt_run_worker.specs.Side.{HasEnded}
 use Rattle.wbt_run_worker.specs.declared.side.End.{End}
 use Rattle.wbt_run_worker.specs.declared.side.End.TheVariants.{Ended, Halted, Faulted, Spent, Refused, Stopped}
 use Rattle.wbt_run_worker.specs.declared.side.Post.{Post}

@@ -2,7 +2,7 @@
 use Rattle.std.proofs.Common.{◌≡◌, ℕ, zero, suc, ◌<◌, ◌≤◌, List, [], ◌∷◌, length, map, set, get_or, Contains, refl, subst, arith}
 use Rattle.std.specs.List.{sum_by}
 use Rattle.std.proofs.lemmas.List.Sums.{sum_by-cons}
-use Rattle.wbt_journal.specs.Each.{Each}
+use Rattle.wbt_run_worker.proofs.Common.{Each}
 
 module _ {A : Type 0} where
   pub each_set : (P : A → Type 0) (xs : List A) (k : ℕ) (v : A) → Each P xs → P v → Each P (set xs k v)

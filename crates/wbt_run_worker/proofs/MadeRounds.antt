@@ -1,16 +1,10 @@
 -- A worker's rounds so far, with one more, and how they end.
 use Rattle.std.proofs.Common.{◌≡◌, ℕ, Bool, false, cond, Option, Some, None, refl, sym, subst}
-use Rattle.atomic_table.specs.Seated.{TableId}
-use Rattle.wbt_signals.specs.Signals.{Known}
-use Rattle.wbt_kit.specs.declared.kit.Kit.{Kit}
-use Rattle.wbt_kit.specs.declared.kit.Seats.{Seats}
-use Rattle.wbt_run_worker.specs.Answers.{CutsOff, Goes, RoundAnswers}
+use Rattle.wbt_run_worker.proofs.Common.{TableId, Known, Kit, Seats, CutsOff, Goes, IsSide, team_of, StandsStay}
+use Rattle.wbt_run_worker.specs.Answers.{RoundAnswers}
 use Rattle.wbt_run_worker.specs.Course.{stance_of}
 use Rattle.wbt_run_worker.specs.MadeRounds.{HasComeOut, HasMadeRounds}
-use Rattle.wbt_run_worker.specs.Side.{IsSide}
-use Rattle.wbt_run_worker.specs.Team.{team_of}
 use Rattle.wbt_run_worker.specs.Voices.{HasLeft, MaySpeak, Speaks}
-use Rattle.wbt_run_worker.specs.Went.{StandsStay}
 use Rattle.wbt_run_worker.specs.declared.round.Round.{Round}
 use Rattle.wbt_run_worker.specs.declared.round.Round.TheVariants as round
 use Rattle.wbt_run_worker.specs.declared.side.CpuSide.{CpuSide}

@@ -1,15 +1,9 @@
 -- A CPU's flushers, of which one changes.
 use Rattle.std.proofs.Common.{◌≡◌, ◌≢◌, ◌⊎◌, inl, inr, ⊎_elim, ℕ, zero, suc, ◌+◌, ◌-◌, ◌<◌, ◌≤◌, Bool, true, false, ◌==◌, if◌then◌else◌, List, [], ◌∷◌, length, set, get_or, Option, Some, None, refl, sym, ap, ◌∙◌, subst, arith, eq-eqb, ne_eqb}
 use Rattle.std.proofs.lemmas.List.Sums.{sum_by-set}
-use Rattle.wbt_flusher.specs.Sights.{shown_by}
+use Rattle.wbt_run_worker.proofs.Common.{shown_by, FlusherPlan, HasRisen, HasRisenBy, Grows, Each, ShownFlusher, Seen, AnyOf, AreApart, both_told, failed_in, flusher_at, written_by, AreStill, IsFaulted, IsStill}
 use Rattle.wbt_flusher.specs.Turns.{FaultsRise}
-use Rattle.wbt_flusher.specs.declared.plan.FlusherPlan.{FlusherPlan}
-use Rattle.wbt_io.specs.Faults.{HasRisen, HasRisenBy}
-use Rattle.wbt_io.specs.Pages.{Grows}
-use Rattle.wbt_journal.specs.Each.{Each}
-use Rattle.wbt_run_laws.specs.Shown.{ShownFlusher}
-use Rattle.wbt_run_worker.specs.Team.{Seen, AnyOf, AreApart, both_told, failed_in, flusher_at, written_by}
-use Rattle.wbt_run_worker.specs.Went.{AnyFaulted, AreStill, IsFaulted, IsStill}
+use Rattle.wbt_run_worker.specs.Went.{AnyFaulted}
 use Rattle.wbt_run_worker.proofs.Lists.{each_at, each_set}
 
 -- ---- where they stand

@@ -1,11 +1,8 @@
 -- A round so far: jobs that had nothing to do, one after another.
 use Rattle.std.proofs.Common.{◌≡◌, ℕ, ◌+◌, ◌≤◌, Bool, true, false, min, Option, List, [], ◌∷◌, ◌++◌, length, refl, sym, ap, ◌∙◌, subst, arith}
-use Rattle.wbt_kit.specs.declared.kit.Kit.{Kit}
-use Rattle.wbt_kit.specs.declared.kit.Seats.{Seats}
-use Rattle.wbt_trace.specs.declared.trace.Trace.{Trace}
-use Rattle.wbt_run_worker.specs.Rotation.{AllWait, HasNothingToDo, StandsStill, job_after, least_rest, next_job, none_is_over, taker}
-use Rattle.wbt_run_worker.specs.Rounds.{ComesTo, JobTakes, JobWaits, NoneGoes, OneGoes, TakeTurns}
-use Rattle.wbt_run_worker.specs.Team.{Team, seen, team_of}
+use Rattle.wbt_run_worker.proofs.Common.{Kit, Seats, Trace, HasNothingToDo, StandsStill, taker, JobTakes, JobWaits, Team, seen, team_of}
+use Rattle.wbt_run_worker.specs.Rotation.{AllWait, job_after, least_rest, next_job, none_is_over}
+use Rattle.wbt_run_worker.specs.Rounds.{ComesTo, NoneGoes, OneGoes, TakeTurns}
 use Rattle.wbt_run_worker.specs.declared.round.JobOutcome.{JobOutcome}
 use Rattle.wbt_run_worker.specs.declared.round.JobOutcome.TheVariants as job_said
 use Rattle.wbt_run_worker.specs.declared.round.TheConstants.{MOST_REST}

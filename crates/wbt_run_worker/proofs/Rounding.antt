@@ -1,12 +1,6 @@
 -- A round so far: idle turns, one after another.
 use Rattle.std.proofs.Common.{◌≡◌, ℕ, Bool, true, false, true≢false}
-use Rattle.wbt_kit.specs.declared.kit.Kit.{Kit}
-use Rattle.wbt_kit.specs.declared.kit.Seats.{Seats}
-use Rattle.wbt_trace.specs.declared.trace.Trace.{Trace}
-use Rattle.wbt_run_worker.specs.Answers.{CutsOff, Goes, JobAnswers}
-use Rattle.wbt_run_worker.specs.Side.{HaveEnded, IsSide}
-use Rattle.wbt_run_worker.specs.Team.{Team}
-use Rattle.wbt_run_worker.specs.Went.{Idled}
+use Rattle.wbt_run_worker.proofs.Common.{Kit, Seats, Trace, CutsOff, Goes, JobAnswers, HaveEnded, IsSide, Team, Idled}
 use Rattle.wbt_run_worker.specs.declared.round.JobOutcome.{JobOutcome}
 use Rattle.wbt_run_worker.specs.declared.round.JobOutcome.TheVariants as job
 use Rattle.wbt_run_worker.specs.declared.side.End.{End}

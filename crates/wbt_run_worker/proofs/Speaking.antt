@@ -1,8 +1,7 @@
 -- What a worker has said so far.
 use Rattle.std.proofs.Common.{◌≡◌, inl, inr, ⊎_elim, ℕ, ◌+◌, ◌-◌, ◌≤◌, Bool, true, false, cond, Option, Some, None, refl, sym, ap, ◌∙◌, subst, arith}
-use Rattle.atomic_table.specs.Seated.{TableId}
-use Rattle.wbt_signals.specs.Signals.{Known}
-use Rattle.wbt_run_worker.specs.Voices.{HasSpoken, HasWritten, MaySpeak, SaysSo, Speaks, TimerSpeaks, rings_for}
+use Rattle.wbt_run_worker.proofs.Common.{TableId, Known, HasSpoken, TimerSpeaks}
+use Rattle.wbt_run_worker.specs.Voices.{HasWritten, MaySpeak, SaysSo, Speaks, rings_for}
 use Rattle.wbt_run_worker.specs.declared.side.End.{End}
 use Rattle.wbt_run_worker.specs.declared.side.End.TheVariants.{Ended, Halted, Faulted, Spent, Refused, Stopped}
 

@@ -1,29 +1,19 @@
 -- A job's turn: what it did, by its answer, and why it wasn't made.
 use Rattle.std.proofs.Common.{◌≡◌, ◌⊎◌, inl, inr, ℕ, ◌<◌, ◌-◌, Bool, false, true≢false, if◌then◌else◌, List, length, map, set, get_or, refl, sym, ap, ◌∙◌, subst, arith}
 use Rattle.std.proofs.lemmas.Bool.{lt-ltb}
-use Rattle.wbt_flusher.specs.Answers.{FlusherAnswers}
+use Rattle.wbt_run_worker.proofs.Common.{FlusherAnswers, HasRisen, Told, CpuJournal, Kit, Seats, Turn, StepsInTurn, Desk, Tasks, job_by, HasNothingToDo, StandsStill, taker, JobTakes, JobWaits, Seen, Team}
 use Rattle.wbt_flusher.specs.Answers as flusher
 use Rattle.wbt_flusher.specs.Cut.{FlusherFails, FlusherStops, FlusherWaits}
 use Rattle.wbt_flusher.specs.Sights as sights
 use Rattle.wbt_flusher.specs.Took.{FlusherTook}
-use Rattle.wbt_io.specs.Faults.{HasRisen}
-use Rattle.wbt_journal.specs.Told.{Told}
-use Rattle.wbt_journal.specs.declared.entry.CpuJournal.{CpuJournal}
-use Rattle.wbt_kit.specs.declared.kit.Kit.{Kit}
-use Rattle.wbt_kit.specs.declared.kit.Seats.{Seats}
-use Rattle.wbt_kit.specs.declared.turn.Turn.{Turn}
 use Rattle.wbt_kit.specs.declared.turn.Turn.TheVariants as turn
-use Rattle.wbt_run_steps.specs.Kinds.{StepsInTurn}
 use Rattle.wbt_table.specs.Layout.{domains}
 use Rattle.wbt_writer.specs.Answers.{Idles, Turned, WriterAnswers}
-use Rattle.wbt_writer.specs.Desk.{Desk, Sight, sight}
+use Rattle.wbt_writer.specs.Desk.{Sight, sight}
 use Rattle.wbt_writer.specs.Exact.{WriterTakes}
 use Rattle.wbt_writer.specs.Over.{IsAllDone}
-use Rattle.wbt_writer.specs.declared.tasks.Tasks.{Tasks}
-use Rattle.wbt_run_worker.specs.Answers.{job_by}
-use Rattle.wbt_run_worker.specs.Rotation.{FlusherRests, HasNothingToDo, IsLeft, StandsStill, taker}
-use Rattle.wbt_run_worker.specs.Rounds.{FlusherDid, JobTakes, JobWaits, TakesTurn}
-use Rattle.wbt_run_worker.specs.Team.{Seen, Team}
+use Rattle.wbt_run_worker.specs.Rotation.{FlusherRests, IsLeft}
+use Rattle.wbt_run_worker.specs.Rounds.{FlusherDid, TakesTurn}
 use Rattle.wbt_run_worker.specs.declared.round.JobOutcome.{JobOutcome}
 use Rattle.wbt_run_worker.specs.declared.round.JobOutcome.TheVariants as job_said
 use Rattle.wbt_run_worker.specs.declared.side.Job.{Job}

@@ -1,31 +1,19 @@
 -- The timer's turns, one after another.
 use Rattle.std.proofs.Common.{◌≡◌, ℕ, suc, ◌+◌, ◌≤◌, List, [], ◌∷◌, ◌++◌, length, sym, refl, ap, ◌∙◌, subst, append_assoc, append-nil, arith}
-use Rattle.wbt_grant.specs.declared.record.DomainLimits.{DomainLimits}
-use Rattle.wbt_grant.specs.declared.record.TimerRecord.{TimerRecord}
-use Rattle.wbt_num.specs.declared.limits.Limits.{Limits}
-use Rattle.wbt_journal.specs.Each.{Each}
-use Rattle.wbt_journal.specs.declared.timer.TimerEntry.{TimerEntry}
+use Rattle.wbt_run_worker.proofs.Common.{TimerRecord, Limits, Each, TimerEntry, AreSeatsOf, HasTimer, Trace, after, Kit, Seats, Turn, SeatsStay, each_append, MayTick, Ticks}
+use Rattle.wbt_kit.proofs.Common.{DomainLimits, Put, Done, Stopped, Last}
 use Rattle.wbt_journal.specs.declared.timer.TimerEntry.TheVariants as timer
-use Rattle.wbt_kit.specs.Kit.{AreSeatsOf, HasTimer}
-use Rattle.wbt_kit.specs.declared.kit.Kit.{Kit}
-use Rattle.wbt_kit.specs.declared.kit.Seats.{Seats}
-use Rattle.wbt_kit.specs.declared.turn.Turn.{Turn}
 use Rattle.wbt_kit.specs.declared.turn.Turn.TheVariants.{Stepped, Resting, Done, Halted, Faulted, Spent, NoMemory}
 use Rattle.wbt_timer.specs.Ready.{IsReady}
 use Rattle.wbt_timer.specs.Side.{IsTimerOf, Side}
-use Rattle.wbt_timer.specs.Turn.{Outcome, SeatsStay, TimerAnswers, TimerHalts, TimerSteps, TimerRests, line_for, lines_from}
+use Rattle.wbt_timer.specs.Turn.{Outcome, TimerAnswers, TimerHalts, TimerSteps, TimerRests, line_for, lines_from}
 use Rattle.wbt_timer.specs.declared.side.DomainSide.{DomainSide}
 use Rattle.wbt_timer.proofs.Lines.{with_long}
 use Rattle.wbt_timer.proofs.Since.{all_published}
-use Rattle.wbt_table.specs.declared.answer.Put.{Put}
-use Rattle.wbt_table.specs.declared.answer.Put.TheVariants.{Done, Stopped, Last}
-use Rattle.wbt_trace.specs.declared.trace.Trace.{Trace}
-use Rattle.wbt_journal.specs.Walk.{after}
 use Rattle.wbt_run_laws.specs.Ticks.{published_after}
-use Rattle.wbt_run_laws.proofs.Lists.{each_append}
 use Rattle.wbt_run_laws.proofs.Walking.{after_append}
 use Rattle.wbt_run_laws.proofs.Working.{timer_went_nowhere, timer_went_on}
-use Rattle.wbt_run_worker.specs.Ticking.{LimitsAreTold, MayTick, Ticks, ticking}
+use Rattle.wbt_run_worker.specs.Ticking.{LimitsAreTold, ticking}
 
 pub stays_now : (seats : Seats) → SeatsStay seats seats
 stays_now seats = record { table = refl; layout = refl; cpus = refl; logs = refl; totals = refl; stakes = λ domain. refl; rooms = λ domain. refl; est = refl; queue = refl }

@@ -1,17 +1,11 @@
 -- The timer's turns so far, one after another.
 use Rattle.std.proofs.Common.{◌≡◌, ℕ, ◌+◌, ◌≤◌, ◌||◌, ◌⊎◌, inl, inr, Bool, true, false, not, cond, List, [], ◌∷◌, ◌++◌, length, refl, sym, ap, ◌∙◌, subst, arith, length-append}
-use Rattle.wbt_signals.specs.Signals.{Known}
-use Rattle.wbt_journal.specs.Each.{Each}
-use Rattle.wbt_kit.specs.declared.kit.Kit.{Kit}
-use Rattle.wbt_kit.specs.declared.kit.Seats.{Seats}
-use Rattle.wbt_kit.specs.declared.turn.Turn.{Turn}
+use Rattle.wbt_run_worker.proofs.Common.{Known, Each, StepKind, Kit, Seats, Turn, IsTimerTurn, IsWhole}
 use Rattle.wbt_kit.specs.declared.turn.Turn.TheVariants.{Stepped, Resting, Done, Halted, Faulted, Spent, NoMemory}
 use Rattle.std.proofs.lemmas.List.{append-nil}
-use Rattle.wbt_grant.specs.declared.who.StepKind.{StepKind}
 use Rattle.wbt_table.specs.Layout.{domains}
 use Rattle.wbt_timer.specs.Kinds.{HasSealed, Steps, StepsAs, StepsBy}
 use Rattle.wbt_timer.proofs.Made.{steps_more as timer_more, turns_follow}
-use Rattle.wbt_turns.specs.Words.{IsTimerTurn, IsWhole}
 use Rattle.wbt_run_worker.specs.TimerTurns.{AreTurns, TurnsEndBy, GoesOnAfter, HasTakenTurns, HasTurned, HasTurnedOnce, IsOneTurn, StepsSo, HasTurnedToTheEnd, IsTurn, TakesATurn, TimerTakesTurn, TimerStance, is_refused, is_stopped, timer_stance}
 use Rattle.wbt_run_worker.specs.Voices.{LeavesFor}
 use Rattle.wbt_run_worker.specs.declared.ticking.TimerWorker.{TimerWorker}

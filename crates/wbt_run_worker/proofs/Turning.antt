@@ -2,49 +2,16 @@
 use Rattle.std.proofs.Common.{◌≡◌, ◌≢◌, ℕ, ◌+◌, ◌<◌, ◌==◌, if◌then◌else◌, Bool, List, [], length, set, get_or, Some, IfSome, Contains, refl, sym, ap, ◌∙◌, subst, arith, eq-eqb}
 use Rattle.std.specs.List.{count_by, sum_by}
 use Rattle.wbt_flusher.specs.Answers as flusher
-use Rattle.wbt_flusher.specs.Answers.{FlusherAnswers, IsLeft, IsUntouched}
+use Rattle.wbt_run_worker.proofs.Common.{FlusherAnswers, IsUntouched, Moments, handed, no_moments, waited_at, Suits, sight, IsSteady, CpuRecord, Grows, Each, Flight, Wait, effect, moment_of, is_fault, Told, CheckEntry, CpuJournal, EstEntry, known_of, first_estimates, setting, Layout, Has, Trace, Kit, Seats, IsApart, record_of, Grew, NotedFlusherTurn, IsOfFlusher, Flew, ShownFlusher, Waited, Worker, if_none, if_weaker, Goes, IsPost, IsSide, Stands, Seen, Team, flusher_at, worker_of, IsStill, IsTold, TeamWent}
+use Rattle.wbt_flusher.specs.Answers.{IsLeft}
 use Rattle.wbt_flusher.specs.Did as flusher_did
-use Rattle.wbt_flusher.specs.Did.{Moments, handed, no_moments, waited_at}
-use Rattle.wbt_flusher.specs.Plans.{Suits}
 use Rattle.wbt_flusher.specs.Sights as sights
-use Rattle.wbt_flusher.specs.Sights.{sight}
-use Rattle.wbt_flusher.specs.Turns.{IsSteady}
-use Rattle.wbt_grant.specs.State.{writer_in}
-use Rattle.wbt_grant.specs.declared.record.CpuRecord.{CpuRecord}
-use Rattle.wbt_grant.specs.declared.record.WriterRecord.{WriterRecord}
-use Rattle.wbt_io.specs.Pages.{Grows}
-use Rattle.wbt_journal.specs.Each.{Each}
-use Rattle.wbt_journal.specs.Effects.{Flight, Wait, effect, moment_of}
-use Rattle.wbt_journal.specs.Leaves.{is_fault}
-use Rattle.wbt_journal.specs.Told.{Told}
-use Rattle.wbt_journal.specs.declared.entry.CheckEntry.{CheckEntry}
-use Rattle.wbt_journal.specs.declared.entry.CpuJournal.{CpuJournal}
-use Rattle.wbt_journal.specs.declared.entry.EstEntry.{EstEntry}
-use Rattle.wbt_kit.specs.declared.kit.Kit.{Kit}
-use Rattle.wbt_kit.specs.declared.kit.Seats.{Seats}
-use Rattle.wbt_published.specs.Passes.{known_of}
-use Rattle.wbt_rules.specs.First.{first_estimates}
-use Rattle.wbt_run_steps.specs.Records.{IsApart, record_of}
-use Rattle.wbt_table.specs.Layout.{setting}
-use Rattle.wbt_table.specs.declared.layout.Layout.{Layout}
-use Rattle.wbt_table.specs.Rule.{Has}
-use Rattle.wbt_trace.specs.declared.trace.Trace.{Trace}
-use Rattle.wbt_run_laws.specs.Grew.{Grew}
-use Rattle.wbt_run_laws.specs.Noted.{NotedFlusherTurn}
+use Rattle.wbt_kit.proofs.Common.{writer_in, WriterRecord}
 use Rattle.wbt_run_laws.specs.Notes.{EstimatesGrew, SharesGrew}
-use Rattle.wbt_run_laws.specs.Owns.{IsOfFlusher, IsOwn}
-use Rattle.wbt_run_laws.specs.Phases.{Flew}
-use Rattle.wbt_run_laws.specs.Shown.{ShownFlusher}
-use Rattle.wbt_run_laws.specs.Waits.{Waited}
-use Rattle.wbt_run_laws.specs.Worker.{Worker}
-use Rattle.wbt_run_laws.proofs.Effects.{if_none, if_weaker}
+use Rattle.wbt_run_laws.specs.Owns.{IsOwn}
 use Rattle.wbt_run_laws.proofs.Faulting.{faults_counted, own_faults}
 use Rattle.wbt_run_laws.proofs.Noting.{noted_of_flusher}
 use Rattle.wbt_writer.specs.Desk as desk
-use Rattle.wbt_run_worker.specs.Answers.{Goes}
-use Rattle.wbt_run_worker.specs.Side.{IsPost, IsSide, Stands}
-use Rattle.wbt_run_worker.specs.Team.{Seen, Team, flusher_at, worker_of}
-use Rattle.wbt_run_worker.specs.Went.{IsStill, IsTold, TeamWent}
 use Rattle.wbt_run_worker.proofs.Flushing.{backed_after, post_at, posted_after, ready_at, steady_after}
 use Rattle.wbt_run_worker.proofs.Lists.{each_and, each_at, has_it}
 use Rattle.wbt_run_worker.proofs.Posts.{IsLater, chosen, failed_set, flushers_now, flushers_other, flushers_own, still_by, still_set, stand_at, written_set}

@@ -2,29 +2,11 @@
 use Rattle.std.proofs.Common.{◌≡◌, ⊎_elim, ℕ, ◌+◌, ◌<◌, false, [], length, set, get_or, All, Some, refl, sym, ap, ◌∙◌, subst, arith}
 use Rattle.std.proofs.lemmas.List.Sums.{sum_by-set}
 use Rattle.wbt_flusher.specs.Ages.{HasWheel, pairs_of}
-use Rattle.wbt_flusher.specs.Answers.{IsUntouched}
+use Rattle.wbt_run_worker.proofs.Common.{IsUntouched, Suits, OwesMark, OwesRescan, owing, owing_total, phase_by, pages_by, sight, IsPhase, IsSteady, FlusherPlan, Phase, Grows, times_in, CpuJournal, Trace, Kit, Seats, NotedSince, Flew, ShownFlusher, Waited, noted_now, Goes, IsPost, IsSide, Stands, AnyOf, Seen, Team, claimed_by, owed_by, owed_total, flusher_at, worker_of, IsStill, TeamWent}
 use Rattle.wbt_flusher.specs.Did as flusher_did
-use Rattle.wbt_flusher.specs.Plans.{IsWork, Suits}
-use Rattle.wbt_flusher.specs.Sights.{OwesMark, OwesRescan, owing, owing_total, phase_by, pages_by, sight}
-use Rattle.wbt_flusher.specs.Turns.{AreProper, ArePlaces, IsPhase, IsSteady}
-use Rattle.wbt_flusher.specs.declared.plan.FlusherPlan.{FlusherPlan}
-use Rattle.wbt_flusher.specs.declared.work.Phase.{Phase}
-use Rattle.wbt_io.specs.Pages.{Grows}
-use Rattle.wbt_book.specs.Ledger.{times_in}
-use Rattle.wbt_journal.specs.declared.entry.CpuJournal.{CpuJournal}
-use Rattle.wbt_kit.specs.declared.kit.Kit.{Kit}
-use Rattle.wbt_kit.specs.declared.kit.Seats.{Seats}
-use Rattle.wbt_trace.specs.declared.trace.Trace.{Trace}
-use Rattle.wbt_run_laws.specs.Noted.{NotedSince}
-use Rattle.wbt_run_laws.specs.Phases.{Flew}
-use Rattle.wbt_run_laws.specs.Shown.{ShownFlusher}
-use Rattle.wbt_run_laws.specs.Waits.{Waited}
+use Rattle.wbt_flusher.specs.Plans.{IsWork}
+use Rattle.wbt_flusher.specs.Turns.{AreProper, ArePlaces}
 use Rattle.wbt_run_laws.proofs.Logging.{logged_nothing}
-use Rattle.wbt_run_laws.proofs.Noting.{noted_now}
-use Rattle.wbt_run_worker.specs.Answers.{Goes}
-use Rattle.wbt_run_worker.specs.Side.{IsPost, IsSide, Stands}
-use Rattle.wbt_run_worker.specs.Team.{AnyOf, Seen, Team, claimed_by, owed_by, owed_total, flusher_at, worker_of}
-use Rattle.wbt_run_worker.specs.Went.{IsStill, TeamWent}
 use Rattle.wbt_run_worker.proofs.Flushing.{post_at}
 use Rattle.wbt_run_worker.proofs.Lists.{each_at, each_set}
 use Rattle.wbt_run_worker.proofs.Posts.{IsLater, any_here, any_still, apart_set, failed_set, flushers_same, grows_nothing, still_by, still_set, stand_at, written_set}

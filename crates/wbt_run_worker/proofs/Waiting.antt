@@ -1,15 +1,11 @@
 -- Jobs that have nothing to do, and what they leave.
 use Rattle.std.proofs.Common.{◌≡◌, ℕ, zero, suc, ◌<◌, ◌-◌, false, List, [], ◌∷◌, length, set, get_or, refl, sym, ap, ◌∙◌, subst, arith}
 use Rattle.wbt_flusher.specs.Answers.{wait_of}
-use Rattle.wbt_flusher.specs.declared.work.Phase.{Phase}
-use Rattle.wbt_kit.specs.declared.kit.Seats.{Seats}
-use Rattle.wbt_trace.specs.declared.trace.Trace.{Trace}
+use Rattle.wbt_run_worker.proofs.Common.{Phase, Seats, Trace, Tasks, HasNothingToDo, StandsStill, taker, Seen, Team}
 use Rattle.wbt_writer.specs.Choice.{IsChosen}
 use Rattle.wbt_writer.specs.declared.choose.Chosen.TheVariants as chosen
-use Rattle.wbt_writer.specs.declared.tasks.Tasks.{Tasks}
-use Rattle.wbt_run_worker.specs.Rotation.{AreLeft, FlusherWaits, HasNothingToDo, IsLeft, StandsStill, WritersWait, taker}
+use Rattle.wbt_run_worker.specs.Rotation.{AreLeft, FlusherWaits, IsLeft, WritersWait}
 use Rattle.wbt_run_worker.specs.Side.{HasEnded}
-use Rattle.wbt_run_worker.specs.Team.{Seen, Team}
 use Rattle.wbt_run_worker.specs.declared.round.JobOutcome.{JobOutcome}
 use Rattle.wbt_run_worker.specs.declared.round.JobOutcome.TheVariants as job_said
 use Rattle.wbt_run_worker.specs.declared.side.Job.{Job}

@@ -1,21 +1,14 @@
 -- The steps of a CPU's turns: those of whole turns, and where its side was halted perhaps of a last one that was cut off.
 use Rattle.std.proofs.Common.{◌≡◌, ℕ, Bool, Some, List, [], ◌∷◌, ◌++◌, refl, sym, ap, ◌∙◌, subst}
-use Rattle.wbt_grant.specs.declared.who.StepKind.{StepKind}
-use Rattle.wbt_journal.specs.Each.{Each}
-use Rattle.wbt_kit.specs.declared.kit.Kit.{Kit}
-use Rattle.wbt_kit.specs.declared.kit.Seats.{Seats}
-use Rattle.wbt_kit.specs.declared.turn.Turn.{Turn}
+use Rattle.wbt_run_worker.proofs.Common.{StepKind, Each, Kit, Seats, Turn, Steps, StepsInTurn, IsCutOff, IsTurn, IsWhole, job_by, HasRun, Team, AreWordsBy}
 use Rattle.wbt_kit.specs.declared.turn.Turn.TheVariants as turn
-use Rattle.wbt_run_steps.specs.Kinds.{CutsTurn, Steps, StepsAs, StepsInTurn, TakesTurn}
+use Rattle.wbt_run_steps.specs.Kinds.{CutsTurn, StepsAs, TakesTurn}
 use Rattle.wbt_run_steps.proofs.Logging.{cut_whole, none_as, steps_behind, steps_more, steps_still}
 use Rattle.wbt_table.specs.Layout.{domains}
-use Rattle.wbt_turns.specs.Words.{IsCut, IsCutOff, IsTurn, IsWhole}
+use Rattle.wbt_turns.specs.Words.{IsCut}
 use Rattle.wbt_turns.proofs.Following.{cut_more, whole_more, whole_none}
-use Rattle.wbt_run_worker.specs.Answers.{job_by}
-use Rattle.wbt_run_worker.specs.Course.{AreRounds, EndBy, GoesOn, HasRun, IsLast, Stance}
+use Rattle.wbt_run_worker.specs.Course.{AreRounds, EndBy, GoesOn, IsLast, Stance}
 use Rattle.wbt_run_worker.specs.Rounds.{ComesTo, OneGoes}
-use Rattle.wbt_run_worker.specs.Team.{Team}
-use Rattle.wbt_run_worker.specs.Words.{AreWordsBy}
 use Rattle.wbt_run_worker.specs.declared.round.JobOutcome.{JobOutcome}
 use Rattle.wbt_run_worker.specs.declared.round.JobOutcome.TheVariants as job_said
 use Rattle.wbt_run_worker.specs.declared.round.Round.{Round}

@@ -1,11 +1,7 @@
 -- A worker so far: rounds, one after another.
 use Rattle.std.proofs.Common.{◌≡◌, ℕ, Bool, false}
-use Rattle.wbt_kit.specs.declared.kit.Kit.{Kit}
-use Rattle.wbt_kit.specs.declared.kit.Seats.{Seats}
-use Rattle.wbt_trace.specs.declared.trace.Trace.{Trace}
-use Rattle.wbt_run_worker.specs.Answers.{EndsSo, Goes, RoundAnswers}
-use Rattle.wbt_run_worker.specs.Side.{HaveEnded, IsSide}
-use Rattle.wbt_run_worker.specs.Team.{Team}
+use Rattle.wbt_run_worker.proofs.Common.{Kit, Seats, Trace, EndsSo, Goes, HaveEnded, IsSide, Team}
+use Rattle.wbt_run_worker.specs.Answers.{RoundAnswers}
 use Rattle.wbt_run_worker.specs.declared.round.Round.{Round}
 use Rattle.wbt_run_worker.specs.declared.round.Round.TheVariants as round
 use Rattle.wbt_run_worker.specs.declared.side.End.{End}

@@ -1,44 +1,18 @@
 -- A turn of the writers as a turn of their CPU's side.
 use Rattle.std.proofs.Common.{◌≡◌, ℕ, Bool, List, length, Some, IfSome, Contains, sym, ap, ◌∙◌, subst, arith}
-use Rattle.wbt_book.specs.Ledger.{times_in}
-use Rattle.wbt_fraction.specs.Totals.{TotalSeated}
-use Rattle.wbt_flusher.specs.Did.{waited_at}
-use Rattle.wbt_flusher.specs.Turns.{IsPhase, IsSteady}
-use Rattle.wbt_flusher.specs.declared.work.Phase.{Phase}
-use Rattle.wbt_flusher.specs.declared.work.Phase.TheVariants.{Failed}
-use Rattle.wbt_io.specs.Pages.{Grows}
-use Rattle.wbt_journal.specs.Each.{Each}
-use Rattle.wbt_journal.specs.Effects.{Flight, Wait, effect, moment_of}
-use Rattle.wbt_journal.specs.Machine.{contexts, domains}
-use Rattle.wbt_journal.specs.Told.{Told}
-use Rattle.wbt_journal.specs.declared.entry.CheckEntry.{CheckEntry}
-use Rattle.wbt_journal.specs.declared.entry.CpuJournal.{CpuJournal}
-use Rattle.wbt_journal.specs.declared.entry.EstEntry.{EstEntry}
-use Rattle.wbt_kit.specs.declared.kit.Kit.{Kit}
-use Rattle.wbt_kit.specs.declared.kit.Seats.{Seats}
-use Rattle.wbt_kit.specs.declared.turn.Turn.{Turn}
+use Rattle.wbt_run_worker.proofs.Common.{times_in, Grows, Each, Flight, Wait, effect, moment_of, contexts, domains, Told, CheckEntry, CpuJournal, EstEntry, known_of, HasNoPageSteps, setting, Seated, Trace, waited_at, IsPhase, IsSteady, Phase, Failed, Kit, Seats, Turn, if_none, if_weaker, each_weaker, Desk, Tasks, Goes, JobAnswers, job_by, HaveEnded, IsPost, IsSide, Stands, Seen, Team, owed_in, owed_totals, flusher_at, worker_of, written_by, Idled, IsTold, TeamWent}
+use Rattle.wbt_kit.proofs.Common.{TotalSeated}
 use Rattle.wbt_kit.specs.declared.turn.Turn.TheVariants as turn
 use Rattle.wbt_published.specs.Passes as est
-use Rattle.wbt_published.specs.Passes.{known_of}
-use Rattle.wbt_table.specs.Calls.{HasNoPageSteps}
-use Rattle.wbt_table.specs.Layout.{setting}
-use Rattle.wbt_table.specs.Seat.{Seated}
-use Rattle.wbt_trace.specs.declared.trace.Trace.{Trace}
 use Rattle.wbt_run_laws.specs.Owns.{IsOfWriters}
 use Rattle.wbt_run_laws.specs.Noted.{NotedWriterTurn}
-use Rattle.wbt_run_laws.proofs.Effects.{if_none, if_weaker}
-use Rattle.wbt_run_laws.proofs.Lists.{each_weaker}
 use Rattle.wbt_run_laws.proofs.Noting.{noted_of_writers}
 use Rattle.wbt_writer.specs.Answers.{Idles, MayGoOn, Turned, WriterAnswers}
 use Rattle.wbt_writer.specs.Choice.{AllEnded}
-use Rattle.wbt_writer.specs.Desk.{Desk, Fits, IsAtKit, IsReady, Sight, sight}
+use Rattle.wbt_writer.specs.Desk.{Fits, IsAtKit, IsReady, Sight, sight}
 use Rattle.wbt_writer.specs.Over.{IsAllDone}
 use Rattle.wbt_writer.specs.Did.{IsTimed, OwesNoMore}
-use Rattle.wbt_writer.specs.declared.tasks.Tasks.{Tasks}
-use Rattle.wbt_run_worker.specs.Answers.{Goes, JobAnswers, job_by}
-use Rattle.wbt_run_worker.specs.Side.{HaveEnded, IsPost, IsSide, NoneFailed, Stands}
-use Rattle.wbt_run_worker.specs.Team.{Seen, Team, owed_in, owed_totals, flusher_at, worker_of, written_by}
-use Rattle.wbt_run_worker.specs.Went.{Idled, IsTold, TeamWent}
+use Rattle.wbt_run_worker.specs.Side.{NoneFailed}
 use Rattle.wbt_run_worker.proofs.Backing.{Grown, backed_still, no_faults, none_handed}
 use Rattle.wbt_run_worker.proofs.Lists.{each_and, has_it}
 use Rattle.wbt_run_worker.proofs.Posts.{grows_nothing, still_same}

@@ -1,15 +1,10 @@
 -- What two seats keep of limits, when they are brought together.
 use Rattle.std.proofs.Common.{◌≡◌, ℕ, ◌/◌, ◌<◌, List, [], length, get_or, Option, Some, None, sym, ◌∙◌, subst, arith, ⊎_elim}
-use Rattle.wbt_grant.specs.declared.record.TimerRecord.{TimerRecord}
-use Rattle.wbt_num.specs.Limits.{IsLawful}
+use Rattle.wbt_table.proofs.Common.{TimerRecord, IsLawful, IsKept, KeepsSequences, KeepsTriples, no_triple, domains, Cpus, Sat, both_of, merged, or_else, Agrees, IsSeat, KeepsTimer, States}
 use Rattle.wbt_table.specs.declared.answer.Triple.{Triple}
 use Rattle.wbt_table.specs.declared.held.HeldLimits.{HeldLimits}
 use Rattle.wbt_table.specs.declared.layout.Layout.{Layout}
 use Rattle.wbt_table.specs.declared.state.CpuState.{CpuState}
-use Rattle.wbt_table.specs.Held.{IsKept, KeepsSequences, KeepsTriples, no_triple}
-use Rattle.wbt_table.specs.Layout.{domains}
-use Rattle.wbt_table.specs.Rule.{Cpus, Sat, both_of, merged, or_else}
-use Rattle.wbt_table.specs.Seat.{Agrees, IsSeat, KeepsTimer, States}
 use Rattle.wbt_table.proofs.Joining.{Taken, either_is, merged_cases, none_there, seat_joined}
 use Rattle.wbt_table.proofs.Lists.{at_read}
 

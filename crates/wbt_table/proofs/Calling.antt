@@ -1,19 +1,8 @@
 -- What a call of a throttle knows of the seat that it is handed, and what it leaves of it.
 use Rattle.std.proofs.Common.{◌≡◌, ℕ, ◌<◌, List, set, Option, Some, None, sym, refl, ap, ◌∙◌, subst, arith}
-use Rattle.atomic_table.specs.Seated.{TableId}
-use Rattle.wbt_counter.specs.declared.counter.Counter.{Counter}
-use Rattle.wbt_grant.specs.declared.record.CpuRecord.{CpuRecord}
-use Rattle.wbt_grant.specs.Setting.{Setting}
-use Rattle.wbt_grant.specs.State.{writer_in}
-use Rattle.wbt_grant.specs.Kinds.{Step}
-use Rattle.wbt_grant.specs.Record.{one_more}
-use Rattle.wbt_grant.specs.Seats.{maker_of, own_told, record_after, RecordAllows}
+use Rattle.wbt_table.proofs.Common.{TableId, Counter, CpuRecord, Setting, writer_in, Step, one_more, maker_of, own_told, record_after, RecordAllows, setting, Cpus, Has, Holds, put_record, given, MayGive, Sat, Turned, turn, IsReady, Seated, Changes, Makes, Keeps, States, Knows, KeepsLefts, with_grants, IsSeat, seated, put_state, stepped}
 use Rattle.wbt_table.specs.declared.layout.Layout.{Layout}
 use Rattle.wbt_table.specs.declared.state.CpuState.{CpuState}
-use Rattle.wbt_table.specs.Layout.{setting}
-use Rattle.wbt_table.specs.Rule.{Cpus, Has, Holds, put_record, given, MayGive, Sat, Turned}
-use Rattle.wbt_table.specs.Steps.{turn, IsReady}
-use Rattle.wbt_table.specs.Seat.{Seated, Changes, Makes, Keeps, States, Knows, KeepsLefts, with_grants, IsSeat, seated, put_state, stepped}
 use Rattle.wbt_table.proofs.Lists.{at_less}
 use Rattle.wbt_table.proofs.Seating.{known_at, shown_at, lefts_stay, seat_after, changes_after, makes_after, changes_seen}
 use Rattle.wbt_table.proofs.Keeping.{KnownRecord, known_record, given_same, given_steps, own_same, keeps_step}

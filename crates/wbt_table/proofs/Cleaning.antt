@@ -2,19 +2,10 @@
 use Rattle.std.proofs.Common.{◌≡◌, ◌↔◌, ℕ, zero, suc, ◌<◌, Bool, true, false, not, eqb, IsTrue, IsBitSet, List, Option, None, true≢false, sym, refl, ap, ◌∙◌, subst, arith}
 use mathlib.Core.Logic.{dite}
 use native.Mathlib.Decide.{ℕ_discrete}
-use Rattle.atomic_table.specs.Seated.{TableId}
-use Rattle.wbt_counter.specs.Sums.{one_if}
-use Rattle.wbt_book.specs.Ledger.{times_in}
-use Rattle.wbt_grant.specs.declared.record.CpuRecord.{CpuRecord}
-use Rattle.wbt_grant.specs.Setting.{Setting}
-use Rattle.wbt_grant.specs.Kinds.{mark}
+use Rattle.wbt_table.proofs.Common.{TableId, one_if, times_in, CpuRecord, Setting, mark, setting, Has, given, MayGive, Sat, Found, Turned, turn, Seated, States, Knows, IsSeat, seated}
 use Rattle.wbt_grant.proofs.Whole.{unmarked_is_clean}
 use Rattle.wbt_table.specs.declared.layout.Layout.{Layout}
 use Rattle.wbt_table.specs.declared.state.CpuState.{CpuState}
-use Rattle.wbt_table.specs.Layout.{setting}
-use Rattle.wbt_table.specs.Rule.{Has, given, MayGive, Sat, Found, Turned}
-use Rattle.wbt_table.specs.Steps.{turn}
-use Rattle.wbt_table.specs.Seat.{Seated, States, Knows, IsSeat, seated}
 use Rattle.wbt_table.specs.Calls.{HoldsAll, HasRecords, OwesInodeNothing, HasNoDirtyPage}
 use Rattle.wbt_table.proofs.Calling.{state_here, record_here, cpu_here}
 use Rattle.wbt_table.proofs.Pending.{Pending, gives_all}

@@ -3,19 +3,11 @@ use Rattle.std.proofs.Common.{◌≡◌, ℕ, zero, suc, ◌/◌, ◌%◌, ◌^�
 use mathlib.Core.Option.{some}
 use lib.ListN.{get_elem?}
 use Rattle.atomic_table.specs.Table as table
-use Rattle.atomic_table.specs.Seated.{TableId}
-use Rattle.wbt_counter.specs.declared.counter.Counter.{Counter}
-use Rattle.wbt_counter.specs.Account.{amount, to_clear}
-use Rattle.wbt_counter.specs.Addends.{local_in}
-use Rattle.wbt_counter.specs.Counters.{debt_to}
+use Rattle.wbt_table.proofs.Common.{TableId, Counter, amount, to_clear, local_in, debt_to, one_if, bits_at, CpuRecord, Setting, batch_of, setting, HasCounter, own_at, Cpus, Has, Kept, Sat, Seated, States, with_grant, with_grants, debts_in, IsSeat, seated, Counted, OwnFits, word_at, LogsGrant}
 use Rattle.wbt_counter.specs.Word.{count_in}
 use Rattle.wbt_counter.proofs.Sums.{total_ℤ_same}
 use Rattle.wbt_counter.proofs.WordLaws.{own_word_fits, near_has_room}
-use Rattle.wbt_counter.specs.Sums.{one_if}
 use Rattle.wbt_book.specs.Book.{page_word, bits_in}
-use Rattle.wbt_book.specs.PageWords.{bits_at}
-use Rattle.wbt_grant.specs.declared.record.CpuRecord.{CpuRecord}
-use Rattle.wbt_grant.specs.Setting.{Setting, batch_of}
 use Rattle.wbt_grant.specs.State.{exact_count}
 use Rattle.wbt_grant.specs.SeatLaws.{WordsTell}
 use Rattle.wbt_grant.proofs.Ranges.{batch_fits}
@@ -24,15 +16,11 @@ use Rattle.wbt_grant.proofs.Whole.{rule_holds}
 use Rattle.wbt_table.specs.declared.layout.Layout.{Layout}
 use Rattle.wbt_table.specs.declared.rule.View.{View}
 use Rattle.wbt_table.specs.declared.state.CpuState.{CpuState}
-use Rattle.wbt_table.specs.Layout.{setting, HasCounter, own_at}
-use Rattle.wbt_table.specs.Rule.{Cpus, Has, Kept, Sat}
-use Rattle.wbt_table.specs.Seat.{Seated, States, with_grant, with_grants, debts_in, IsSeat, seated}
 use Rattle.wbt_table.specs.Calls.{HasRecords}
-use Rattle.wbt_table.specs.Census.{Counted, OwnFits, word_at, kept_state, debt_at, found_count, Closes}
+use Rattle.wbt_table.specs.Census.{kept_state, debt_at, found_count, Closes}
 use Rattle.wbt_table.proofs.Lists.{at_read}
 use Rattle.wbt_table.proofs.Keeping.{given_same}
 use Rattle.wbt_table.proofs.Calling.{state_here, record_here}
-use Rattle.wbt_table.specs.History.{LogsGrant}
 use Rattle.wbt_table.proofs.Joining.{followed}
 use Rattle.wbt_table.proofs.Logging.{are_allowed, runs_to, GivenTo}
 

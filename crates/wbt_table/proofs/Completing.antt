@@ -1,18 +1,9 @@
 -- What a completion leaves of its CPU's record.
 use Rattle.std.proofs.Common.{◌≡◌, ℕ, ◌+◌, ◌<◌, List, length, Option, negsuc, sym, refl, ap, ◌∙◌, subst, arith}
-use Rattle.atomic_table.specs.Seated.{TableId}
-use Rattle.wbt_grant.specs.declared.record.CpuRecord.{CpuRecord}
-use Rattle.wbt_grant.specs.Setting.{Setting}
-use Rattle.wbt_grant.specs.Kinds.{complete, MayComplete}
-use Rattle.wbt_grant.specs.Record.{one_more}
-use Rattle.wbt_grant.specs.Seats.{record_after}
+use Rattle.wbt_table.proofs.Common.{TableId, CpuRecord, Setting, complete, one_more, record_after, setting, IsLayout, Has, Sat, Turned, turn, IsReady, Seated, Keeps, States, Knows, IsSeat, seated, put_state, page_stepped, CanComplete, owing_event}
+use Rattle.wbt_grant.specs.Kinds.{MayComplete}
 use Rattle.wbt_table.specs.declared.layout.Layout.{Layout}
 use Rattle.wbt_table.specs.declared.state.CpuState.{CpuState}
-use Rattle.wbt_table.specs.Layout.{setting, IsLayout}
-use Rattle.wbt_table.specs.Rule.{Has, Sat, Turned}
-use Rattle.wbt_table.specs.Steps.{turn, IsReady}
-use Rattle.wbt_table.specs.Seat.{Seated, Keeps, States, Knows, IsSeat, seated, put_state, page_stepped}
-use Rattle.wbt_table.specs.Calls.{CanComplete, owing_event}
 use Rattle.wbt_table.proofs.Seating.{lefts_stay}
 use Rattle.wbt_table.proofs.Keeping.{given_same, given_steps}
 use Rattle.wbt_table.proofs.Calling.{record_here, cpu_here, lefts_here, step_seat}

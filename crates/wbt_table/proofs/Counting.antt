@@ -1,27 +1,14 @@
 -- The words of the steps on counters.
 use Rattle.std.proofs.Common.{◌≡◌, ℕ, ◌+◌, ◌-◌, ◌%◌, ◌^◌, ◌∷◌, length, get_or, set, Option, Some, None, ℤ, sym, refl, ap, ◌∙◌, subst}
 use Rattle.std.proofs.lemmas.Bool.{cond-true}
-use Rattle.wbt_counter.specs.declared.counter.Counter.{Counter}
-use Rattle.wbt_counter.specs.Account.{amount, to_clear}
-use Rattle.wbt_counter.specs.Addends.{addend_of, fold_addend, word_plus, word_minus}
-use Rattle.wbt_counter.specs.Counters.{is_same, put_counter, debt_to}
+use Rattle.wbt_table.proofs.Common.{Counter, amount, to_clear, addend_of, is_same, debt_to, put, packed, own_word, put_same, is_same-itself, Who, Writer, Cpu, Timer, CpuRecord, Setting, State, add, fold, clear, count, after, own_told, setting, HasCounter, shared_at, own_at, Cpus, Has, Holds, given}
+use Rattle.wbt_counter.specs.Addends.{fold_addend, word_plus, word_minus}
+use Rattle.wbt_counter.specs.Counters.{put_counter}
 use Rattle.wbt_counter.specs.History.{History, sum_of}
-use Rattle.wbt_counter.specs.Sums.{put}
-use Rattle.wbt_counter.specs.Word.{packed, own_word}
-use Rattle.wbt_counter.proofs.Sums.{put_same}
-use Rattle.wbt_counter.proofs.Debts.{is_same-itself}
-use Rattle.wbt_grant.specs.declared.who.Who.{Who}
-use Rattle.wbt_grant.specs.declared.who.Who.TheVariants.{Writer, Cpu, Timer}
-use Rattle.wbt_grant.specs.declared.record.CpuRecord.{CpuRecord}
-use Rattle.wbt_grant.specs.Setting.{Setting}
-use Rattle.wbt_grant.specs.State.{State}
-use Rattle.wbt_grant.specs.Kinds.{add, fold, clear, count, local_after, local_left, own_now, shared_now, after}
-use Rattle.wbt_grant.specs.Seats.{own_told}
+use Rattle.wbt_grant.specs.Kinds.{local_after, local_left, own_now, shared_now}
 use Rattle.wbt_grant.proofs.StepWords.{add_is_addition, fold_is_addition, clear_is_subtraction}
 use Rattle.wbt_table.specs.declared.layout.Layout.{Layout}
-use Rattle.wbt_table.specs.Layout.{setting, HasCounter, shared_at, own_at}
 use Rattle.wbt_table.specs.declared.rule.Granted.{Granted}
-use Rattle.wbt_table.specs.Rule.{Cpus, Has, Holds, given}
 use Rattle.wbt_table.proofs.Showing.{own_shown, shared_shown, shows_parts, load_shown}
 use Rattle.wbt_table.proofs.Turning.{Moves, one_record}
 

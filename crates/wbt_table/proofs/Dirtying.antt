@@ -1,23 +1,15 @@
 -- What a dirtying leaves of its CPU's record, by whether the page was dirty.
 use Rattle.std.proofs.Common.{◌≡◌, ℕ, ◌+◌, ◌-◌, ◌<◌, true, false, List, length, get_or, set, Option, None, pos, sym, refl, ap, ◌∙◌, subst, arith}
-use Rattle.atomic_table.specs.Seated.{TableId}
+use Rattle.wbt_table.proofs.Common.{TableId, bits_at, CpuRecord, Setting, writer_in, holding, dirty, one_more, with_writer, own_told, setting, no_writer, IsLayout, Has, put_record, given, MayGive, Sat, Turned, turn, IsReady, Seated, Makes, Keeps, KeepsLefts, States, Knows, IsSeat, seated, put_state, CanDirty, owing_event}
 use Rattle.std.proofs.lemmas.Bool.{cond-true, cond-false}
-use Rattle.wbt_book.specs.PageWords.{bits_at}
 use Rattle.wbt_grant.specs.declared.who.StepKind.TheVariants as kind
 use Rattle.wbt_grant.specs.declared.who.Word.TheVariants as word
-use Rattle.wbt_grant.specs.declared.record.CpuRecord.{CpuRecord}
-use Rattle.wbt_grant.specs.Setting.{Setting}
-use Rattle.wbt_grant.specs.State.{writer_in, holding}
-use Rattle.wbt_grant.specs.Kinds.{dirty, MayDirty}
-use Rattle.wbt_grant.specs.Record.{one_more, stepped, page_stepped, dirtied, found_already, with_writer}
-use Rattle.wbt_grant.specs.Seats.{own_told, dirty_record}
+use Rattle.wbt_grant.specs.Kinds.{MayDirty}
+use Rattle.wbt_grant.specs.Record.{stepped, page_stepped, dirtied, found_already}
+use Rattle.wbt_grant.specs.Seats.{dirty_record}
 use Rattle.wbt_table.specs.declared.layout.Layout.{Layout}
 use Rattle.wbt_table.specs.declared.state.CpuState.{CpuState}
-use Rattle.wbt_table.specs.Layout.{setting, no_writer, IsLayout}
-use Rattle.wbt_table.specs.Rule.{Has, put_record, given, MayGive, Sat, Turned}
-use Rattle.wbt_table.specs.Steps.{turn, IsReady}
-use Rattle.wbt_table.specs.Seat.{Seated, Makes, Keeps, KeepsLefts, States, Knows, IsSeat, seated, put_state, page_stepped as paged}
-use Rattle.wbt_table.specs.Calls.{CanDirty, owing_event}
+use Rattle.wbt_table.specs.Seat.{page_stepped as paged}
 use Rattle.wbt_table.proofs.Lists.{same_default}
 use Rattle.wbt_table.proofs.Seating.{lefts_stay}
 use Rattle.wbt_table.proofs.Keeping.{given_same, given_steps, own_same}

@@ -3,19 +3,13 @@ use Rattle.std.proofs.Common.{◌≡◌, ℕ, zero, suc, ◌*◌, ◌/◌, ◌%�
 use mathlib.Core.Option.{some, some-ne-none}
 use lib.ListN.{get_elem?}
 use Rattle.std.proofs.lemmas.List.{length-replicate, get_or-replicate}
-use Rattle.wbt_grant.specs.declared.record.CpuRecord.{CpuRecord}
-use Rattle.wbt_grant.specs.State.{no_record, writer_in, held_of, opening}
+use Rattle.wbt_table.proofs.Common.{CpuRecord, no_record, writer_in, held_of, opening, KeepsSequences, IsKept, first_triple, no_triple, triple_of, setting, domains, no_limits, Cpus, Has, first_view, Keeps, Agrees, with_grants, IsSeat, IsLawful}
 use Rattle.wbt_table.specs.declared.answer.Triple.{Triple}
 use Rattle.wbt_table.specs.declared.held.HeldLimits.{HeldLimits}
 use Rattle.wbt_table.specs.declared.layout.Layout.{Layout}
-use Rattle.wbt_table.specs.Held.{KeepsSequences, IsKept, first_triple, no_triple, triple_of}
-use Rattle.wbt_table.specs.Layout.{setting, domains, no_limits}
-use Rattle.wbt_table.specs.Rule.{Cpus, Has, first_view}
-use Rattle.wbt_table.specs.Seat.{Keeps, Agrees, with_grants, IsSeat}
 use Rattle.wbt_table.specs.Calls.{no_state}
 use Rattle.wbt_table.proofs.Seating.{some_is}
 use Rattle.wbt_table.proofs.Living.{at_replicate}
-use Rattle.wbt_num.specs.Limits.{IsLawful}
 use Rattle.wbt_table.proofs.Opening.{lawful_at}
 use Rattle.wbt_table.proofs.Triples.{sequences_after}
 

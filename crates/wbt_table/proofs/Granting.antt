@@ -1,22 +1,12 @@
 -- Grants: how one enters its CPU's record, and what the code keeps of one.
 use Rattle.std.proofs.Common.{◌≡◌, ℕ, zero, suc, List, [], ◌∷◌, length, set, Option, Some, None, sym, refl, ap, ◌∙◌, subst}
 use mathlib.Core.Option.{some-injective, some-ne-none}
-use Rattle.atomic_table.specs.Seated.{TableId}
-use Rattle.wbt_counter.specs.declared.counter.Counter.{Counter}
-use Rattle.wbt_counter.specs.declared.counter.Counter.TheVariants.{Domain, Context}
-use Rattle.wbt_grant.specs.declared.record.CpuRecord.{CpuRecord}
-use Rattle.wbt_grant.specs.Kinds.{grant, MayGrant, after}
-use Rattle.wbt_grant.specs.Record.{granted}
-use Rattle.wbt_grant.specs.Setting.{Setting}
-use Rattle.wbt_grant.specs.Seats.{own_told}
+use Rattle.wbt_table.proofs.Common.{TableId, Counter, Domain, Context, CpuRecord, grant, MayGrant, after, granted, Setting, own_told, setting, Cpus, Has, put_record, Logs, LogChanges, given, MayGive, Sat, Past, logged, LogsGrant, Seated, Changes, Keeps, States, Knows, Agrees, KeepsLefts, KeepsTimer, with_grants, IsSeat, seated}
 use Rattle.wbt_table.specs.declared.layout.Layout.{Layout}
 use Rattle.wbt_table.specs.declared.rule.Granted.{Granted}
 use Rattle.wbt_table.specs.declared.rule.Logged.{Logged}
 use Rattle.wbt_table.specs.declared.state.CpuState.{CpuState}
-use Rattle.wbt_table.specs.Layout.{setting}
-use Rattle.wbt_table.specs.Rule.{Cpus, Has, put_record, Logs, LogChanges, given, MayGive, Sat}
-use Rattle.wbt_table.specs.History.{Past, logged, log_granted, LogsGrant, LogsStep}
-use Rattle.wbt_table.specs.Seat.{Seated, Changes, Keeps, States, Knows, Agrees, KeepsLefts, KeepsTimer, with_grants, IsSeat, seated}
+use Rattle.wbt_table.specs.History.{log_granted, LogsStep}
 use Rattle.wbt_table.proofs.Lists.{at_less}
 use Rattle.wbt_table.proofs.Showing.{load_shown}
 use Rattle.wbt_table.proofs.Logging.{put_itself}

@@ -2,9 +2,9 @@
 use Rattle.std.proofs.Common.{◌≡◌, ◌≢◌, ℕ, zero, suc, ◌⊎◌, cond, eqb, List, [], ◌∷◌, ◌++◌, length, get_or, replicate, set, Option, Some, None, sym, refl, ap, ◌∙◌, subst, inl, inr, ⊎_elim, eq-eqb, ne_eqb, length-set}
 use mathlib.Core.Option.{some, some-injective, some-ne-none}
 use lib.ListN.{get_elem?}
-use Rattle.atomic_table.proofs.Lists.{at_set, set_else}
+use Rattle.wbt_table.proofs.Common.{at_set, set_else, or_else, merged}
 use Rattle.wbt_table.specs.declared.rule.View.{View}
-use Rattle.wbt_table.specs.Rule.{without_cpu, apart, or_else, merged}
+use Rattle.wbt_table.specs.Rule.{without_cpu, apart}
 use Rattle.wbt_table.proofs.Seating.{none_some}
 
 pub either_of : {A : Type 0} (a b : Option A) (x : A) → or_else a b ≡ Some x → (a ≡ Some x) ⊎ (b ≡ Some x)

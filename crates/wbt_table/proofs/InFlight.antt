@@ -1,21 +1,13 @@
 -- What tests know of marks that a CPU owes.
 use Rattle.std.proofs.Common.{◌≡◌, ℕ, ◌<◌, ◌/◌, ◌%◌, ◌^◌, Bool, true, cond, not, ◌&&◌, ◌||◌, eqb, refl, ap, sym, ◌∙◌, subst, arith, eq-eqb}
-use Rattle.wbt_book.specs.Book.{Bits}
-use Rattle.wbt_book.specs.Ledger.{times_in}
-use Rattle.wbt_book.specs.PageWords.{shift_of, bits_at, bits_of}
-use Rattle.wbt_grant.specs.declared.record.CpuRecord.{CpuRecord}
-use Rattle.wbt_grant.specs.Setting.{Setting}
-use Rattle.wbt_grant.specs.Kinds.{mark}
-use Rattle.wbt_grant.specs.Record.{looked, passed, owing_mark}
-use Rattle.wbt_grant.specs.Seats.{record_after, mark_record}
+use Rattle.wbt_table.proofs.Common.{Bits, times_in, bits_at, CpuRecord, Setting, mark, looked, passed, owing_mark, record_after, setting, Holds, Shape, Seated, Makes, looked_at}
+use Rattle.wbt_book.specs.PageWords.{shift_of, bits_of}
+use Rattle.wbt_grant.specs.Seats.{mark_record}
 use Rattle.wbt_grant.proofs.Entries.{times_in-filter}
 use Rattle.wbt_grant.proofs.Inodes.{is_first}
 use Rattle.wbt_table.specs.declared.layout.Layout.{Layout}
 use Rattle.wbt_table.specs.declared.answer.Claim.TheVariants.{NotDirty}
-use Rattle.wbt_table.specs.Layout.{setting}
-use Rattle.wbt_table.specs.Rule.{Holds}
-use Rattle.wbt_table.specs.Seat.{Shape, Seated, Makes}
-use Rattle.wbt_table.specs.Calls.{Claims, looked_at}
+use Rattle.wbt_table.specs.Calls.{Claims}
 use Rattle.wbt_table.specs.Callers.{StepsFor}
 use Rattle.wbt_table.proofs.Seating.{has_changed}
 

@@ -4,14 +4,9 @@ use mathlib.Core.Option.{some, some-injective, some-ne-none}
 use mathlib.Core.Logic.{dite}
 use native.Mathlib.Decide.{ℕ_discrete}
 use lib.ListN.{get_elem?}
-use Rattle.wbt_grant.specs.declared.record.CpuRecord.{CpuRecord}
-use Rattle.wbt_grant.specs.declared.record.TimerRecord.{TimerRecord}
+use Rattle.wbt_table.proofs.Common.{CpuRecord, TimerRecord, setting, Cpus, Has, Sat, or_else, merged, both_of, TableId, States, Knows, Agrees, with_grant, with_grants, KeepsLefts, KeepsTimer, IsSeat, seated}
 use Rattle.wbt_table.specs.declared.layout.Layout.{Layout}
 use Rattle.wbt_table.specs.declared.state.CpuState.{CpuState}
-use Rattle.wbt_table.specs.Layout.{setting}
-use Rattle.wbt_table.specs.Rule.{Cpus, Has, Sat, or_else, merged, both_of}
-use Rattle.atomic_table.specs.Seated.{TableId}
-use Rattle.wbt_table.specs.Seat.{States, Knows, Agrees, with_grant, with_grants, KeepsLefts, KeepsTimer, IsSeat, seated}
 use Rattle.wbt_table.specs.Calls.{joined_seat}
 use Rattle.wbt_table.proofs.Lists.{at_less, at_read}
 use Rattle.wbt_table.proofs.Seating.{none_some, known_at, shown_at}

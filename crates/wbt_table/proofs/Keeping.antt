@@ -2,21 +2,12 @@
 use Rattle.std.proofs.Common.{◌≡◌, ℕ, cond, ◌&&◌, ◌||◌, not, List, Option, Some, None, sym, refl, ap, ◌∙◌, subst}
 use mathlib.Core.Option.{some-injective}
 use Rattle.std.proofs.lemmas.Bool.{cond_both}
-use Rattle.wbt_counter.specs.declared.counter.Counter.{Counter}
-use Rattle.wbt_counter.specs.declared.counter.Counter.TheVariants.{Domain, Context}
-use Rattle.wbt_book.specs.Book.{Bits}
-use Rattle.wbt_grant.specs.declared.record.CpuRecord.{CpuRecord}
-use Rattle.wbt_grant.specs.Setting.{Setting}
-use Rattle.wbt_grant.specs.Record.{one_more, looked, passed, owing_mark}
-use Rattle.wbt_grant.specs.Seats.{own_told, look_record}
+use Rattle.wbt_table.proofs.Common.{Counter, Domain, Context, Bits, CpuRecord, Setting, one_more, looked, passed, owing_mark, own_told, look_record, setting, Has, given, Sat, Keeps, States, Knows, IsTold, IsDue, with_grants, IsSeat, stepped}
 use Rattle.wbt_table.specs.declared.layout.Layout.{Layout}
 use Rattle.wbt_table.specs.declared.rule.Granted.{Granted}
 use Rattle.wbt_table.specs.declared.state.CpuState.{CpuState}
 use Rattle.wbt_table.specs.declared.state.Due.{Due}
 use Rattle.wbt_table.specs.declared.state.Due.TheVariants.{Event, Fold, Clear}
-use Rattle.wbt_table.specs.Layout.{setting}
-use Rattle.wbt_table.specs.Rule.{Has, given, Sat}
-use Rattle.wbt_table.specs.Seat.{Keeps, States, Knows, IsTold, IsDue, with_grants, IsSeat, stepped}
 use Rattle.wbt_table.proofs.Seating.{known_at}
 
 -- what is kept is of one state

@@ -1,3 +1,4 @@
+pub mod Common
 pub mod Bringing
 pub mod Calling
 pub mod Cleaning

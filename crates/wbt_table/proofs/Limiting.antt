@@ -1,18 +1,10 @@
 -- The words of the steps on limits and peaks.
 use Rattle.std.proofs.Common.{◌≡◌, ℕ, suc, ◌+◌, ◌%◌, ◌^◌, ◌<◌, max, get_or, set, sym, refl, ap, ◌∙◌, subst, arith}
-use Rattle.wbt_num.specs.declared.limits.Limits.{Limits}
-use Rattle.wbt_limits.specs.Words.{sequence_word_of, thresh_word_of}
-use Rattle.wbt_counter.specs.Sums.{put}
-use Rattle.wbt_grant.specs.declared.who.Who.{Who}
-use Rattle.wbt_grant.specs.declared.who.Who.TheVariants.{Writer, Cpu, Timer}
-use Rattle.wbt_grant.specs.declared.record.CpuRecord.{CpuRecord}
-use Rattle.wbt_grant.specs.declared.record.TimerRecord.{TimerRecord}
-use Rattle.wbt_grant.specs.State.{State, sequence_of}
-use Rattle.wbt_grant.specs.Kinds.{peak, unseal, thresh, publish, first, middle, limits, sequence_now, after}
+use Rattle.wbt_table.proofs.Common.{Limits, thresh_word_of, put, Who, Writer, Cpu, Timer, CpuRecord, TimerRecord, State, sequence_of, peak, unseal, thresh, publish, first, middle, limits, sequence_now, after, setting, domains, sequence_at, thresh_at, peak_at}
+use Rattle.wbt_limits.specs.Words.{sequence_word_of}
 use Rattle.wbt_grant.specs.StepWords.{SequenceBecomes}
 use Rattle.wbt_grant.proofs.StepWords.{unseal_is_addition, thresh_is_swap, publish_is_swap}
 use Rattle.wbt_table.specs.declared.layout.Layout.{Layout}
-use Rattle.wbt_table.specs.Layout.{setting, domains, sequence_at, thresh_at, peak_at}
 use Rattle.wbt_table.proofs.Showing.{sequence_shown, thresh_shown, peak_shown, shows_parts, load_shown}
 use Rattle.wbt_table.proofs.Turning.{Moves}
 use Rattle.wbt_table.proofs.Ticking.{TimerMoves}

@@ -4,16 +4,13 @@ use mathlib.Core.Option.{some, some-injective, some-ne-none}
 use lib.ListN.{get_elem?}
 use Rattle.atomic_table.specs.Table as table
 use Rattle.atomic_table.specs.Table.{State}
-use Rattle.wbt_grant.specs.declared.record.CpuRecord.{CpuRecord}
-use Rattle.wbt_grant.specs.declared.record.TimerRecord.{TimerRecord}
-use Rattle.wbt_grant.specs.State.{no_record, opening}
+use Rattle.wbt_table.proofs.Common.{CpuRecord, TimerRecord, no_record, opening, setting, IsLayout, Has, HasLog, Kept, first_view, both_of, log_of, timer_log_of}
 use Rattle.wbt_grant.proofs.Whole.{opening_keeps}
 use Rattle.wbt_table.specs.declared.layout.Layout.{Layout}
 use Rattle.wbt_table.specs.declared.rule.View.{View}
 use Rattle.wbt_table.specs.declared.rule.Logged.{Logged}
-use Rattle.wbt_table.specs.Layout.{setting, opening_words, IsLayout}
-use Rattle.wbt_table.specs.Rule.{Has, HasLog, Kept, first_view, without, alone, without_timer, timer_alone, both_of, spent_view}
-use Rattle.wbt_table.specs.History.{log_of, timer_log_of}
+use Rattle.wbt_table.specs.Layout.{opening_words}
+use Rattle.wbt_table.specs.Rule.{without, alone, without_timer, timer_alone, spent_view}
 use Rattle.wbt_table.proofs.Seating.{some_is}
 use Rattle.wbt_table.proofs.Holding.{AreHeld, IsHeldOnce, held_apart, held_alone, held_together, timer_stays, timer_goes, timer_together}
 use Rattle.wbt_table.proofs.Opening.{lawful_setting, words_fit, long_opening, opening_shown}

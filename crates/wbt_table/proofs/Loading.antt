@@ -2,31 +2,14 @@
 use Rattle.std.proofs.Common.{◌≡◌, ℕ, zero, suc, ◌/◌, ◌<◌, ◌≤◌, Bool, true, false, List, [], ◌∷◌, All, get_or, set, Option, Some, None, sym, refl, ap, ◌∙◌, subst}
 use mathlib.Core.Option.{some, some-injective}
 use lib.ListN.{get_elem?}
-use Rattle.wbt_grant.specs.declared.record.CpuRecord.{CpuRecord}
-use Rattle.wbt_grant.specs.declared.record.TimerRecord.{TimerRecord}
-use Rattle.wbt_grant.specs.Setting.{Setting}
-use Rattle.wbt_grant.specs.Kinds.{Step}
-use Rattle.wbt_grant.specs.Seats.{cpu_for, maker_of, record_after, timer_after, RecordAllows}
-use Rattle.atomic_table.specs.Seated.{TableId}
-use Rattle.atomic_table.proofs.Lists.{set_here}
-use Rattle.wbt_num.specs.Limits.{IsLawful}
-use Rattle.wbt_limits.specs.Words.{sequence_in, limits_in}
-use Rattle.wbt_grant.specs.declared.who.Who.{Who}
-use Rattle.wbt_grant.specs.declared.record.DomainLimits.{DomainLimits}
-use Rattle.wbt_grant.specs.declared.record.Finding.TheVariants.{Words}
-use Rattle.wbt_grant.specs.Kinds.{limits}
-use Rattle.wbt_grant.specs.State.{found_of, held_of}
+use Rattle.wbt_table.proofs.Common.{CpuRecord, TimerRecord, Setting, Step, cpu_for, maker_of, record_after, timer_after, RecordAllows, TableId, set_here, IsLawful, sequence_in, Who, DomainLimits, Words, limits, found_of, held_of, KeepsTriples, IsKept, triple_of, triple_number, setting, domains, turn, IsReady, Made, Has, given, Sat, Turned, Seated, Changes, LogComes, LogsOne, Makes, States, Knows, IsSeat, seated, put_state, stepped, with_grants, MakesAll, is_whole_load, triple_in}
+use Rattle.wbt_limits.specs.Words.{limits_in}
 use Rattle.wbt_table.specs.declared.answer.Triple.{Triple}
 use Rattle.wbt_table.specs.declared.held.HeldLimits.{HeldLimits}
 use Rattle.wbt_table.specs.declared.layout.Layout.{Layout}
 use Rattle.wbt_table.specs.declared.state.CpuState.{CpuState}
-use Rattle.wbt_table.specs.Held.{KeepsTriples, IsKept, triple_of, triple_number}
-use Rattle.wbt_table.specs.Layout.{setting, domains}
-use Rattle.wbt_table.specs.Steps.{turn, IsReady}
-use Rattle.wbt_table.specs.History.{Made}
-use Rattle.wbt_table.specs.Rule.{Has, given, Sat, Turned}
-use Rattle.wbt_table.specs.Seat.{Seated, Changes, LogComes, LogsOne, Makes, Times, States, Knows, IsSeat, seated, put_state, stepped, with_grants}
-use Rattle.wbt_table.specs.Calls.{record_of, MakesAll, TimesAll, is_whole_load, triple_in}
+use Rattle.wbt_table.specs.Seat.{Times}
+use Rattle.wbt_table.specs.Calls.{record_of, TimesAll}
 use Rattle.wbt_table.proofs.Seating.{has_changed, changes_twice}
 use Rattle.wbt_table.proofs.Paying.{still_logged, one_logged, answered_at}
 use Rattle.wbt_table.proofs.Lists.{at_less}

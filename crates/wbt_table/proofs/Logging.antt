@@ -5,14 +5,11 @@ use mathlib.Core.Logic.{dite}
 use native.Mathlib.Decide.{ℕ_discrete}
 use lib.ListN.{get_elem?}
 use Rattle.std.proofs.lemmas.Bool.{cond-true, cond-false}
-use Rattle.wbt_grant.specs.Setting.{Setting}
-use Rattle.wbt_grant.specs.State.{State, opening}
-use Rattle.wbt_grant.specs.Kinds.{Step, Allowed, AreAllowed, after, run}
-use Rattle.wbt_grant.specs.Seats.{is_by_timer, maker_of}
+use Rattle.wbt_table.proofs.Common.{Setting, State, opening, Step, Allowed, after, is_by_timer, maker_of, Logs, HasLog, put_log, LogChanges, Made, Past, state_after, logged, log_of, timer_log_of, LogsGrant}
+use Rattle.wbt_grant.specs.Kinds.{AreAllowed, run}
 use Rattle.wbt_table.specs.declared.rule.Granted.{Granted}
 use Rattle.wbt_table.specs.declared.rule.Logged.{Logged}
-use Rattle.wbt_table.specs.Rule.{Logs, HasLog, put_log, LogChanges}
-use Rattle.wbt_table.specs.History.{Made, Past, state_after, AreMade, steps_of, logged, log_of, timer_log_of, LogsGrant}
+use Rattle.wbt_table.specs.History.{AreMade, steps_of}
 
 module _ (set' : Setting) (made : Made) (past : Past) where
   -- of a CPU

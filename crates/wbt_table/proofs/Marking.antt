@@ -1,13 +1,7 @@
 -- The words of the steps on marks.
 use Rattle.std.proofs.Common.{◌≡◌, ℕ, ◌<◌, Bool, true, false, length, get_or, set, bit_or, bit_and, sym, refl, ap, ◌∙◌}
-use Rattle.wbt_counter.specs.Sums.{put, one_if}
-use Rattle.wbt_book.specs.PageWords.{all_but}
-use Rattle.wbt_grant.specs.declared.record.CpuRecord.{CpuRecord}
-use Rattle.wbt_grant.specs.Setting.{Setting}
-use Rattle.wbt_grant.specs.State.{State}
-use Rattle.wbt_grant.specs.Kinds.{mark, unmark, after}
+use Rattle.wbt_table.proofs.Common.{put, one_if, all_but, CpuRecord, Setting, State, mark, unmark, after, setting, mark_at}
 use Rattle.wbt_table.specs.declared.layout.Layout.{Layout}
-use Rattle.wbt_table.specs.Layout.{setting, mark_at}
 use Rattle.wbt_table.proofs.Showing.{mark_shown, shows_parts}
 use Rattle.wbt_table.proofs.Turning.{Moves}
 

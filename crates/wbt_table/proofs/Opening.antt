@@ -2,21 +2,15 @@
 use Rattle.std.proofs.Common.{◌≡◌, ℕ, zero, suc, ◌+◌, ◌*◌, ◌-◌, ◌<◌, ◌≤◌, eqb, true≢false, nat_lt, false, List, [], ◌∷◌, ◌++◌, All, length, get_or, replicate, map, pos, sym, refl, ap, ◌∙◌, arith, ⊎_elim, length-append}
 use Rattle.std.proofs.lemmas.Bool.{cond_both}
 use Rattle.std.proofs.lemmas.List.{length-replicate, length-map, get_or_append_left, get_or-append_right, get_or-replicate, get_or-map}
-use Rattle.wbt_num.specs.declared.limits.Limits.{Limits}
-use Rattle.wbt_num.specs.Limits.{IsLawful}
-use Rattle.wbt_limits.specs.Words.{thresh_word_of}
+use Rattle.wbt_table.proofs.Common.{Limits, IsLawful, thresh_word_of, packed, own_word, IsSetting, FitsWords, opening, pages_in, inode_at, no_place, no_writer, no_limits, setting, domains, counters, stride, width, page_at, mark_at, shared_at, own_at, sequence_at, thresh_at, peak_at, first_sequence_word, IsLayout, Shows}
 use Rattle.wbt_limits.proofs.Rising.{sequence_in-word, limits_in-words}
-use Rattle.wbt_counter.specs.Word.{packed, own_word}
 use Rattle.wbt_book.specs.Book.{clean}
 use Rattle.wbt_book.specs.PageWords.{packed_pages}
 use Rattle.wbt_book.proofs.PageWords.{word_holds_page}
-use Rattle.wbt_grant.specs.Setting.{IsSetting, FitsWords}
-use Rattle.wbt_grant.specs.State.{opening}
 use Rattle.wbt_table.specs.declared.layout.Layout.{Layout}
 use Rattle.wbt_table.specs.declared.layout.Place.{Place}
 use Rattle.wbt_table.specs.declared.words.TheConstants.{SPARE_WORDS}
-use Rattle.wbt_table.specs.Layout.{pages_in, inode_at, no_place, no_writer, no_limits, setting, domains, counters, shared_from, stride, width, page_at, mark_at, shared_at, own_at, sequence_at, thresh_at, peak_at, first_sequence_word, opening_words, AreInOrder, IsLayout}
-use Rattle.wbt_table.specs.Rule.{Shows}
+use Rattle.wbt_table.specs.Layout.{shared_from, opening_words, AreInOrder}
 use Rattle.wbt_table.proofs.Places.{page_inside, shared_inside, own_inside}
 use Rattle.std.proofs.lemmas.Bool.{cases_lt}
 use borrow.Author.Tests.{lt-ltb}

@@ -2,29 +2,18 @@
 use Rattle.std.proofs.Common.{◌≡◌, ◌≢◌, ℕ, ◌+◌, ◌<◌, min, Bool, true, false, cond, eqb, List, [], ◌∷◌, length, get_or, set, map, Option, Some, None, ℤ, unsigned_abs, sym, refl, ap, ◌∙◌, subst, arith, ⊎_elim, eq-eqb, ne_eqb, get_or-set_same, get_or-set_other, length-set}
 use mathlib.Core.Logic.{dite}
 use native.Mathlib.Decide.{ℕ_discrete}
-use Rattle.atomic_table.proofs.Lists.{at_set}
+use Rattle.wbt_table.proofs.Common.{at_set, Counter, Domain, Context, Owed, CpuRecord, WriterRecord, Setting, holding, writer_in, with_writer, setting, IsLayout, Cpus, Has, put_record, MayGive, Keeps, IsDue, KeepsLefts, debts_in, page_stepped, owing_event, one_more, own_told}
 use Rattle.std.proofs.lemmas.Bool.{cond_both, cond-true, cond-false}
-use Rattle.wbt_counter.specs.declared.counter.Counter.{Counter}
-use Rattle.wbt_counter.specs.declared.counter.Counter.TheVariants.{Domain, Context}
 use Rattle.wbt_counter.specs.declared.record.Debt.TheVariants.{Event as OwesEvent}
-use Rattle.wbt_counter.specs.declared.record.Owed.{Owed}
-use Rattle.wbt_grant.specs.declared.record.CpuRecord.{CpuRecord}
-use Rattle.wbt_grant.specs.declared.record.WriterRecord.{WriterRecord}
-use Rattle.wbt_grant.specs.Setting.{Setting, counters_of}
-use Rattle.wbt_grant.specs.State.{holding, writer_in}
-use Rattle.wbt_grant.specs.Record.{debts_of, with_writer}
+use Rattle.wbt_grant.specs.Setting.{counters_of}
+use Rattle.wbt_grant.specs.Record.{debts_of}
 use Rattle.wbt_grant.proofs.Entries.{entry_of-with}
 use Rattle.wbt_table.specs.declared.layout.Layout.{Layout}
 use Rattle.wbt_table.specs.declared.rule.Granted.{Granted}
 use Rattle.wbt_table.specs.declared.state.CpuState.{CpuState}
 use Rattle.wbt_table.specs.declared.state.Due.{Due}
 use Rattle.wbt_table.specs.declared.state.Due.TheVariants.{Event}
-use Rattle.wbt_table.specs.Layout.{setting, IsLayout}
-use Rattle.wbt_table.specs.Rule.{Cpus, Has, put_record, MayGive}
-use Rattle.wbt_table.specs.Seat.{Keeps, IsDue, KeepsLefts, listed, debts_in, page_stepped}
-use Rattle.wbt_table.specs.Calls.{owing_event}
-use Rattle.wbt_grant.specs.Record.{one_more}
-use Rattle.wbt_grant.specs.Seats.{own_told}
+use Rattle.wbt_table.specs.Seat.{listed}
 use Rattle.wbt_table.proofs.Seating.{some_is}
 use Rattle.wbt_table.proofs.Keeping.{due_follows}
 

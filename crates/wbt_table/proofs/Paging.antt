@@ -2,20 +2,15 @@
 use Rattle.std.proofs.Common.{◌≡◌, ℕ, Bool, true, false, cond, eqb, eqb-true, Option, Some, None, get_or, set, bit_or, bit_and, sym, refl, ap, ◌∙◌, subst}
 use prog.Atomic.{either}
 use Rattle.std.proofs.lemmas.Bool.{cond_both}
-use Rattle.wbt_counter.specs.Sums.{put}
+use Rattle.wbt_table.proofs.Common.{put, Bits, all_but, CpuRecord, Setting, State, dirty, look, claim, complete, back, last_found, after, setting, page_at, Shows, given}
 use Rattle.wbt_book.specs.declared.event.Event.TheVariants as event
-use Rattle.wbt_book.specs.Book.{Bits, given_back, bits_after}
-use Rattle.wbt_book.specs.PageWords.{dirty_mask, writeback_mask, all_but, shared_word, back_in, word_after}
+use Rattle.wbt_book.specs.Book.{given_back, bits_after}
+use Rattle.wbt_book.specs.PageWords.{dirty_mask, writeback_mask, shared_word, back_in, word_after}
 use Rattle.wbt_book.proofs.PageWords.{event_follows}
-use Rattle.wbt_grant.specs.declared.record.CpuRecord.{CpuRecord}
-use Rattle.wbt_grant.specs.Setting.{Setting}
-use Rattle.wbt_grant.specs.State.{State}
 use Rattle.wbt_grant.specs.Record
-use Rattle.wbt_grant.specs.Kinds.{dirty, look, claim, complete, back, last_found, page_now, with_record, with_event, dirty_step, claim_step, event_back, back_step, after}
+use Rattle.wbt_grant.specs.Kinds.{page_now, with_record, with_event, dirty_step, claim_step, event_back, back_step}
 use Rattle.wbt_table.specs.declared.layout.Layout.{Layout}
-use Rattle.wbt_table.specs.Layout.{setting, page_at}
 use Rattle.wbt_table.specs.declared.rule.Granted.{Granted}
-use Rattle.wbt_table.specs.Rule.{Shows, given}
 use Rattle.wbt_table.proofs.Showing.{put_again, page_shown, shows_parts, load_shown}
 use Rattle.wbt_table.proofs.Turning.{Moves}
 

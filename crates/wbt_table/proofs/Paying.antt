@@ -4,29 +4,16 @@ use mathlib.Core.Option.{some, some-injective, some-ne-none}
 use lib.ListN.{get_elem?}
 use Rattle.std.proofs.lemmas.List.{append_assoc}
 use Rattle.std.proofs.lemmas.Bool.{cond-true, cond-false, cases_Bool}
-use Rattle.atomic_table.proofs.Lists.{set_here}
-use Rattle.wbt_counter.specs.declared.counter.Counter.{Counter}
-use Rattle.wbt_counter.specs.declared.counter.Counter.TheVariants.{Domain, Context}
-use Rattle.wbt_counter.specs.declared.record.Debt.{Debt}
-use Rattle.wbt_counter.specs.declared.record.Debt.TheVariants.{Event, FoldDue, ClearDue}
+use Rattle.wbt_table.proofs.Common.{set_here, Counter, Domain, Context, Debt, Event, FoldDue, ClearDue, Owed, IsPackable, version_in, CpuRecord, Setting, Step, add, fold, clear, own_told, record_after, Past, log_of, setting, Cpus, Has, Holds, put_record, Seated, Changes, LogComes, LogsOne, Makes, OwesFirst, OwesLater}
 use Rattle.wbt_counter.specs.declared.record.Fold.{Fold}
-use Rattle.wbt_counter.specs.declared.record.Owed.{Owed}
-use Rattle.wbt_counter.specs.Word.{IsPackable, version_in}
-use Rattle.wbt_grant.specs.declared.record.CpuRecord.{CpuRecord}
-use Rattle.wbt_grant.specs.Setting.{Setting}
-use Rattle.wbt_grant.specs.Kinds.{Step, add, fold, clear}
-use Rattle.wbt_grant.specs.Seats.{own_told, record_after}
 use Rattle.wbt_table.specs.declared.layout.Layout.{Layout}
 use Rattle.wbt_table.specs.declared.state.Slot.{Slot}
 use Rattle.wbt_table.specs.declared.state.Slot.TheVariants.{First, Second, Third}
 use Rattle.wbt_table.specs.declared.settle.Paid.{Paid}
 use Rattle.wbt_table.specs.declared.rule.Logged.{Logged}
-use Rattle.wbt_table.specs.History.{Past, log_of, LogsSteps}
-use Rattle.wbt_table.specs.Layout.{setting}
-use Rattle.wbt_table.specs.Rule.{Cpus, Has, Holds, put_record}
-use Rattle.wbt_table.specs.Seat.{Seated, Changes, LogComes, LogsOne, Makes}
+use Rattle.wbt_table.specs.History.{LogsSteps}
 use Rattle.wbt_table.specs.Calls.{Made, record_of, Pays, PayInOrder, told_fold, IsOf, is_context, is_global, is_group, Asked, SettlesLogged, Comes}
-use Rattle.wbt_table.specs.Settle.{rank, OwesFirst, OwesLater, IsFoldOf, PaysLogged}
+use Rattle.wbt_table.specs.Settle.{rank, IsFoldOf, PaysLogged}
 use Rattle.wbt_table.proofs.Lists.{at_less, set_set}
 use Rattle.wbt_table.proofs.Turning.{one_record}
 use Rattle.wbt_table.proofs.Counting.{of_record}

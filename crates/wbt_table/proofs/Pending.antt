@@ -2,18 +2,10 @@
 use Rattle.std.proofs.Common.{◌≡◌, ◌≢◌, ℕ, zero, suc, ◌<◌, ◌≤◌, Bool, Option, Some, None, sym, refl, ap, ◌∙◌, subst, arith}
 use mathlib.Core.Logic.{dite}
 use native.Mathlib.Decide.{ℕ_discrete}
-use Rattle.wbt_counter.specs.Sums.{put}
-use Rattle.wbt_counter.proofs.Sums.{put_same, put_other}
-use Rattle.wbt_grant.specs.declared.record.CpuRecord.{CpuRecord}
-use Rattle.wbt_grant.specs.Setting.{Setting, IsSetting}
-use Rattle.wbt_grant.specs.State.{State}
-use Rattle.wbt_grant.specs.Record.{granted}
+use Rattle.wbt_table.proofs.Common.{put, put_same, CpuRecord, Setting, IsSetting, State, granted, Step, MayGrant, after, Rule, step_keeps, Cpus, Has, given, MayGive}
+use Rattle.wbt_counter.proofs.Sums.{put_other}
 use Rattle.wbt_grant.specs.Kinds as kinds
-use Rattle.wbt_grant.specs.Kinds.{Step, MayGrant, after}
-use Rattle.wbt_grant.specs.Rule.{Rule}
-use Rattle.wbt_grant.proofs.Whole.{step_keeps}
 use Rattle.wbt_table.specs.declared.rule.Granted.{Granted}
-use Rattle.wbt_table.specs.Rule.{Cpus, Has, given, MayGive}
 use Rattle.wbt_table.proofs.Turning.{one_record}
 
 -- the state after the grant of one CPU

@@ -1,13 +1,10 @@
 -- Where words stand: each part has its range, and no two words one place.
 use Rattle.std.proofs.Common.{◌≡◌, ◌≢◌, ℕ, ◌+◌, ◌*◌, ◌<◌, true, false, sym, ◌∙◌, arith, true≢false, eq-eqb, ⊎_elim}
 use Rattle.std.proofs.lemmas.Bool.{cases_lt}
-use Rattle.wbt_counter.specs.declared.counter.Counter.{Counter}
-use Rattle.wbt_counter.specs.declared.counter.Counter.TheVariants.{Domain, Context}
-use Rattle.wbt_counter.specs.Counters.{is_same}
+use Rattle.wbt_table.proofs.Common.{Counter, Domain, Context, is_same, IsSetting, setting, pages_in, counters, stride, HasCounter, limits_from, page_at, shared_at, own_at}
 use Rattle.wbt_book.proofs.PageWords.{spots_fit}
-use Rattle.wbt_grant.specs.Setting.{IsSetting}
 use Rattle.wbt_table.specs.declared.layout.Layout.{Layout}
-use Rattle.wbt_table.specs.Layout.{setting, pages_in, counters, stride, number, HasCounter, inodes_from, own_from, limits_from, page_at, shared_at, own_at}
+use Rattle.wbt_table.specs.Layout.{number, inodes_from, own_from}
 
 -- a row of a grid and a place in it
 pub row_less : (i m c n : ℕ) → i < m → n < c → i * c + n < m * c

@@ -1,17 +1,11 @@
 -- The kinds of step that leave debts and what writers have left alone.
 use Rattle.std.proofs.Common.{◌≡◌, ℕ, cond, eqb, List, ℤ, refl, ap}
 use Rattle.std.proofs.lemmas.Bool.{cond_both}
-use Rattle.wbt_counter.specs.declared.counter.Counter.{Counter}
+use Rattle.wbt_table.proofs.Common.{Counter, net, CpuRecord, WriterRecord, Setting, covers, writer_in, last_found, one_more, claimed, own_told, look_record}
 use Rattle.wbt_counter.specs.Recorded as counter
-use Rattle.wbt_book.specs.Counts.{net}
-use Rattle.wbt_grant.specs.declared.record.CpuRecord.{CpuRecord}
-use Rattle.wbt_grant.specs.declared.record.WriterRecord.{WriterRecord}
 use Rattle.wbt_grant.proofs.Counts.{zero_more}
-use Rattle.wbt_grant.specs.Setting.{Setting, covers}
-use Rattle.wbt_grant.specs.State.{account_of, writer_in}
-use Rattle.wbt_grant.specs.Kinds.{last_found}
-use Rattle.wbt_grant.specs.Record.{one_more, claimed}
-use Rattle.wbt_grant.specs.Seats.{own_told, look_record, claim_record}
+use Rattle.wbt_grant.specs.State.{account_of}
+use Rattle.wbt_grant.specs.Seats.{claim_record}
 use Rattle.wbt_table.proofs.Keeping.{own_same, look_same, look_steps, look_writers}
 use Rattle.wbt_table.proofs.Calling.{Quiet}
 

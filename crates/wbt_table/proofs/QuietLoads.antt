@@ -1,30 +1,17 @@
 -- Loads of limits and counts: they leave debts, and what writers have left, alone; and what each tells.
 use Rattle.std.proofs.Common.{◌≡◌, ℕ, min, false, true≢false, eqb, eqb-true, List, Option, Some, None, sym, refl, ap, ◌∙◌, subst}
 use Rattle.std.proofs.lemmas.Bool.{cond_both}
-use Rattle.wbt_num.specs.declared.limits.Limits.{Limits}
-use Rattle.wbt_counter.specs.declared.counter.Counter.{Counter}
-use Rattle.wbt_counter.specs.declared.counter.Counter.TheVariants.{Domain, Context}
-use Rattle.wbt_counter.specs.Word.{version_in}
-use Rattle.wbt_grant.specs.declared.who.Who.{Who}
-use Rattle.wbt_grant.specs.declared.who.Who.TheVariants.{Writer, Cpu, Timer}
-use Rattle.wbt_grant.specs.declared.record.CpuRecord.{CpuRecord}
-use Rattle.wbt_grant.specs.declared.record.TimerRecord.{TimerRecord}
-use Rattle.wbt_grant.specs.declared.record.WriterRecord.{WriterRecord}
-use Rattle.wbt_grant.specs.Setting.{Setting}
-use Rattle.wbt_grant.specs.State.{State, holding, writer_in, held_of}
-use Rattle.wbt_grant.specs.Kinds.{count}
+use Rattle.wbt_table.proofs.Common.{Limits, Counter, Domain, Context, version_in, Who, Writer, Cpu, Timer, CpuRecord, TimerRecord, WriterRecord, Setting, State, holding, writer_in, held_of, count, with_writer, cpu_for, own_told, Found, given, turn, setting}
 use Rattle.wbt_grant.specs.Laws.{NoneAhead, AreBehind}
-use Rattle.wbt_grant.specs.Record.{keeping_reading, keeping_limits, with_writer, writers_counted, writers_limited, triples_after}
-use Rattle.wbt_grant.specs.Seats.{is_timer, cpu_for, own_told, count_record, first_record, middle_record, limits_record}
+use Rattle.wbt_grant.specs.Record.{keeping_reading, keeping_limits, writers_counted, writers_limited, triples_after}
+use Rattle.wbt_grant.specs.Seats.{is_timer, count_record, first_record, middle_record, limits_record}
 use Rattle.wbt_grant.specs.SeatLaws.{IsFresh}
 use Rattle.wbt_grant.proofs.Entries.{entry_of-with, writer_number}
 use Rattle.wbt_grant.proofs.Seats.{count_is_fresh}
 use Rattle.wbt_table.specs.declared.layout.Layout.{Layout}
 use Rattle.wbt_table.specs.declared.rule.View.{View}
 use Rattle.wbt_table.specs.declared.rule.Granted.{Granted}
-use Rattle.wbt_table.specs.Rule.{Found, TimerFound, given}
-use Rattle.wbt_table.specs.Steps.{turn}
-use Rattle.wbt_table.specs.Layout.{setting}
+use Rattle.wbt_table.specs.Rule.{TimerFound}
 use Rattle.wbt_table.proofs.Keeping.{own_same}
 use Rattle.wbt_table.proofs.Calling.{Quiet}
 

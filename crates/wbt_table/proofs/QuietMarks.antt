@@ -1,7 +1,6 @@
 -- The steps on marks leave debts and what writers have left alone.
 use Rattle.std.proofs.Common.{ℕ, refl}
-use Rattle.wbt_grant.specs.declared.record.CpuRecord.{CpuRecord}
-use Rattle.wbt_grant.specs.Setting.{Setting}
+use Rattle.wbt_table.proofs.Common.{CpuRecord, Setting}
 use Rattle.wbt_grant.specs.Seats.{mark_record, unmark_record}
 use Rattle.wbt_table.proofs.Keeping.{own_same}
 use Rattle.wbt_table.proofs.Calling.{Quiet}

@@ -1,27 +1,17 @@
 -- What giving a page back leaves of its CPU's record: where the exchange missed, where the page wasn't dirty, and where it was.
 use Rattle.std.proofs.Common.{◌≡◌, ◌≢◌, ℕ, ◌+◌, ◌<◌, Bool, true, false, cond, eqb, List, length, Option, None, ℤ, negsuc, sym, refl, ap, ◌∙◌, subst, eq-eqb, ne_eqb}
-use Rattle.atomic_table.specs.Seated.{TableId}
-use Rattle.wbt_counter.specs.declared.counter.Counter.{Counter}
+use Rattle.wbt_table.proofs.Common.{TableId, Counter, net, bits_at, CpuRecord, WriterRecord, Setting, covers, writer_in, back, last_found, one_more, own_told, setting, IsLayout, Has, put_record, given, Sat, Turned, turn, IsReady, Seated, Makes, Keeps, KeepsLefts, States, Knows, IsSeat, seated, put_state, owing_event}
 use Rattle.wbt_counter.specs.Recorded as counter
-use Rattle.wbt_book.specs.Counts.{net}
-use Rattle.wbt_book.specs.PageWords.{bits_at}
 use Rattle.wbt_grant.specs.declared.who.StepKind.TheVariants as kind
 use Rattle.wbt_grant.specs.declared.who.Word.TheVariants as word
-use Rattle.wbt_grant.specs.declared.record.CpuRecord.{CpuRecord}
-use Rattle.wbt_grant.specs.declared.record.WriterRecord.{WriterRecord}
-use Rattle.wbt_grant.specs.Setting.{Setting, covers}
-use Rattle.wbt_grant.specs.State.{account_of, writer_in}
-use Rattle.wbt_grant.specs.Kinds.{back, last_found}
-use Rattle.wbt_grant.specs.Record.{one_more, stepped, page_stepped, absorbed, redirtied, given_back}
-use Rattle.wbt_grant.specs.Seats.{own_told, back_record}
+use Rattle.wbt_grant.specs.State.{account_of}
+use Rattle.wbt_grant.specs.Record.{stepped, page_stepped, absorbed, redirtied, given_back}
+use Rattle.wbt_grant.specs.Seats.{back_record}
 use Rattle.wbt_grant.proofs.Counts.{zero_more}
 use Rattle.wbt_table.specs.declared.layout.Layout.{Layout}
 use Rattle.wbt_table.specs.declared.state.CpuState.{CpuState}
-use Rattle.wbt_table.specs.Layout.{setting, IsLayout}
-use Rattle.wbt_table.specs.Rule.{Has, put_record, given, Sat, Turned}
-use Rattle.wbt_table.specs.Steps.{turn, IsReady}
-use Rattle.wbt_table.specs.Seat.{Seated, Makes, Keeps, KeepsLefts, States, Knows, IsSeat, seated, put_state, stepped as kept_step, page_stepped as paged}
-use Rattle.wbt_table.specs.Calls.{CanGiveBack, owing_event}
+use Rattle.wbt_table.specs.Seat.{stepped as kept_step, page_stepped as paged}
+use Rattle.wbt_table.specs.Calls.{CanGiveBack}
 use Rattle.wbt_table.proofs.Seating.{lefts_stay}
 use Rattle.wbt_table.proofs.Keeping.{given_same, given_steps, own_same, keeps_step}
 use Rattle.wbt_table.proofs.Calling.{record_here, cpu_here, ready_by, lefts_here, step_seat, step_makes}

@@ -3,7 +3,8 @@ use Rattle.std.proofs.Common.{◌≡◌, ℕ, zero, suc, ◌+◌, ◌<◌, ◌�
 use Rattle.std.proofs.lemmas.Bool.{cond-true, cond-false, cases_lt}
 use borrow.Author.Tests.{lt-ltb, le-ltb}
 use Rattle.wbt_table.specs.declared.layout.Place.{Place}
-use Rattle.wbt_table.specs.Layout.{pages_in, inode_at, AreInOrder}
+use Rattle.wbt_table.proofs.Common.{pages_in, inode_at}
+use Rattle.wbt_table.specs.Layout.{AreInOrder}
 
 -- where an inode ends
 abbrev pub end_of : (inodes : List Place) (m : ℕ) (d : Place) → ℕ

@@ -1,22 +1,13 @@
 -- What a seat keeps, and what it shows after a step.
 use Rattle.std.proofs.Common.{◌≡◌, ℕ, zero, suc, ◌<◌, ◌^◌, List, [], ◌∷◌, length, get_or, set, Option, Some, None, sym, refl, ap, ◌∙◌, subst, arith, length-set, ⊎_elim}
 use mathlib.Core.Option.{some, some-injective, some-ne-none}
-use Rattle.atomic_table.specs.Seated.{TableId}
-use Rattle.atomic_table.proofs.Lists.{at_set, set_here, set_else}
-use Rattle.wbt_grant.specs.declared.record.CpuRecord.{CpuRecord}
-use Rattle.wbt_grant.specs.State.{writer_in}
-use Rattle.wbt_grant.specs.Kinds.{Step, look, claim}
-use Rattle.wbt_grant.specs.Setting.{Setting}
-use Rattle.wbt_grant.specs.Seats.{maker_of, record_after}
+use Rattle.wbt_table.proofs.Common.{TableId, at_set, set_here, set_else, CpuRecord, writer_in, Step, look, claim, Setting, maker_of, record_after, setting, Cpus, Has, put_record, Logs, HasLog, put_log, given, Sat, Turned, turn, log_of, Shape, Seated, Changes, LogComes, LogsOne, Makes, Keeps, States, Knows, Agrees, with_grant, with_grants, KeepsLefts, KeepsTimer, IsSeat, seated, put_state}
 use Rattle.wbt_table.specs.declared.layout.Layout.{Layout}
 use Rattle.wbt_table.specs.declared.state.CpuState.{CpuState}
 use Rattle.wbt_table.specs.declared.rule.Logged.{Logged}
-use Rattle.wbt_table.specs.Layout.{setting}
-use Rattle.wbt_table.specs.Rule.{Cpus, Has, put_record, Logs, HasLog, put_log, given, Sat, Turned}
-use Rattle.wbt_table.specs.Steps.{turn}
-use Rattle.wbt_table.specs.History.{log_of, LogsSteps}
+use Rattle.wbt_table.specs.History.{LogsSteps}
 use Rattle.wbt_table.specs.Calls.{LogsTry}
-use Rattle.wbt_table.specs.Seat.{Shape, Seated, IsAt, Changes, LogComes, LogsOne, Makes, Keeps, States, Knows, Agrees, with_grant, with_grants, KeepsLefts, KeepsTimer, IsSeat, seated, put_state}
+use Rattle.wbt_table.specs.Seat.{IsAt}
 use Rattle.wbt_table.proofs.Lists.{at_less, at_read, set_set}
 use Rattle.wbt_table.proofs.Logging.{put_log_here, put_log_twice}
 use Rattle.wbt_table.proofs.Turning.{one_record}

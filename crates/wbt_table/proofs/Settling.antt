@@ -2,25 +2,13 @@
 use Rattle.std.proofs.Common.{◌≡◌, ℕ, ◌+◌, ◌^◌, ◌<◌, ◌≤◌, false, eqb, List, ◌∷◌, Option, Some, None, ℤ, pos, negsuc, ◌+ℤ◌, ◌-ℤ◌, unsigned_abs, FitsSigned, to_z, of_z, to_z-of_z, w64, sym, refl, ap, ◌∙◌, subst, arith, eq-eqb, ne_eqb}
 use Rattle.std.proofs.lemmas.Bool.{cond-true, cond-false}
 use Rattle.std.proofs.lemmas.Int.{ints}
-use Rattle.atomic_table.specs.Seated.{TableId}
-use Rattle.wbt_counter.specs.declared.counter.Counter.{Counter}
-use Rattle.wbt_counter.specs.declared.record.Debt.{Debt}
-use Rattle.wbt_counter.specs.declared.record.Debt.TheVariants.{Event, FoldDue, ClearDue}
+use Rattle.wbt_table.proofs.Common.{TableId, Counter, Debt, Event, FoldDue, ClearDue, Owed, IsPackable, own_word, version_in, local_in, amount, to_clear, is_same, debt_to, is_same-itself, net, CpuRecord, Setting, covers, batch_of, Step, add, fold, clear, maker_of, own_told, record_after, setting, Has, Holds, given, Sat, Turned, Found, turn, Seated, Changes, Makes, Keeps, with_grants, States, Knows, IsSeat, seated, put_state, stepped, with_due, OwesFirst}
 use Rattle.wbt_counter.specs.declared.record.Fold.{Fold}
-use Rattle.wbt_counter.specs.declared.record.Owed.{Owed}
-use Rattle.wbt_counter.specs.Word.{IsPackable, own_word, version_in}
-use Rattle.wbt_counter.specs.Addends.{HasRoom, local_in}
-use Rattle.wbt_counter.specs.Account.{amount, to_clear}
-use Rattle.wbt_counter.specs.Counters.{is_same, debt_to, with_debt, without_debt, folds_of}
+use Rattle.wbt_counter.specs.Addends.{HasRoom}
+use Rattle.wbt_counter.specs.Counters.{with_debt, without_debt, folds_of}
 use Rattle.wbt_counter.specs.Recorded as counter
-use Rattle.wbt_counter.proofs.Debts.{is_same-itself}
 use Rattle.wbt_counter.proofs.WordLaws.{own_word_fits, near_has_room}
 use Rattle.wbt_book.specs.declared.event.Event.{Event as PageEvent}
-use Rattle.wbt_book.specs.Counts.{net}
-use Rattle.wbt_grant.specs.declared.record.CpuRecord.{CpuRecord}
-use Rattle.wbt_grant.specs.Setting.{Setting, covers, batch_of}
-use Rattle.wbt_grant.specs.Kinds.{Step, add, fold, clear}
-use Rattle.wbt_grant.specs.Seats.{maker_of, own_told, record_after}
 use Rattle.wbt_grant.proofs.Ranges.{batch_fits}
 use Rattle.wbt_grant.proofs.Seats.{own_is_told, words_are_read}
 use Rattle.wbt_table.specs.declared.layout.Layout.{Layout}
@@ -31,11 +19,6 @@ use Rattle.wbt_table.specs.declared.state.Due.{Due}
 use Rattle.wbt_table.specs.declared.state.Due.TheVariants as due
 use Rattle.wbt_table.specs.declared.state.Slot.{Slot}
 use Rattle.wbt_table.specs.declared.state.Slot.TheVariants.{First, Second, Third}
-use Rattle.wbt_table.specs.Layout.{setting}
-use Rattle.wbt_table.specs.Rule.{Has, Holds, given, Sat, Turned, Found}
-use Rattle.wbt_table.specs.Steps.{turn}
-use Rattle.wbt_table.specs.Seat.{Seated, Changes, Makes, Keeps, with_grants, States, Knows, IsSeat, seated, put_state, stepped}
-use Rattle.wbt_table.specs.Settle.{with_due, OwesFirst}
 use Rattle.wbt_table.proofs.Seating.{lefts_stay, has_changed}
 use Rattle.wbt_table.proofs.Keeping.{given_same, own_same}
 use Rattle.wbt_table.proofs.Calling.{record_here, lefts_here, step_seat, step_changes, step_makes}

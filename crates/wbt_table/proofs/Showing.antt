@@ -5,23 +5,19 @@ use mathlib.Core.Logic.{dite}
 use native.Mathlib.Decide.{ℕ_discrete}
 use Rattle.std.proofs.lemmas.Bool.{cond-true, cond-false, cases_Bool}
 use Rattle.std.proofs.lemmas.List.{set-get_or}
-use Rattle.wbt_counter.specs.declared.counter.Counter.{Counter}
-use Rattle.wbt_counter.specs.Word.{packed, own_word}
+use Rattle.wbt_table.proofs.Common.{Counter, packed, own_word, is_same, put, one_if, Bits, IsSetting, State, sequence_now, setting, domains, HasCounter, limits_from, width, page_at, mark_at, shared_at, own_at, sequence_at, thresh_at, peak_at, Shows}
 use Rattle.wbt_counter.specs.History.{History, sum_of}
-use Rattle.wbt_counter.specs.Counters.{is_same, put_counter}
-use Rattle.wbt_counter.specs.Sums.{put, one_if}
+use Rattle.wbt_counter.specs.Counters.{put_counter}
 use Rattle.wbt_counter.proofs.Sums.{put_each}
 use Rattle.wbt_counter.proofs.Debts.{is_same-true}
-use Rattle.wbt_book.specs.Book.{Bits, Book}
+use Rattle.wbt_book.specs.Book.{Book}
 use Rattle.wbt_book.specs.PageWords.{word_of, shared_word}
 use Rattle.wbt_book.proofs.PageWords.{word_holds_neighbours, other_words_stay}
-use Rattle.wbt_grant.specs.Setting.{IsSetting}
-use Rattle.wbt_grant.specs.State.{State}
-use Rattle.wbt_grant.specs.Kinds.{sequence_now, thresh_now}
+use Rattle.wbt_grant.specs.Kinds.{thresh_now}
 use Rattle.wbt_grant.specs.StepWords.{SequenceBecomes, ThreshBecomes}
 use Rattle.wbt_table.specs.declared.layout.Layout.{Layout}
-use Rattle.wbt_table.specs.Layout.{setting, domains, HasCounter, inodes_from, limits_from, peaks_from, width, page_at, mark_at, shared_at, own_at, sequence_at, thresh_at, peak_at}
-use Rattle.wbt_table.specs.Rule.{ShowsPages, ShowsMarks, ShowsShared, ShowsOwn, LimitWords, limit_words, ShowsLimits, ShowsPeaks, Shows}
+use Rattle.wbt_table.specs.Layout.{inodes_from, peaks_from}
+use Rattle.wbt_table.specs.Rule.{ShowsPages, ShowsMarks, ShowsShared, ShowsOwn, LimitWords, limit_words, ShowsLimits, ShowsPeaks}
 use Rattle.wbt_table.proofs.Places.{page_inside, shared_inside, own_inside, shared_apart, own_apart, own_other}
 
 -- nothing changes where a value is put again

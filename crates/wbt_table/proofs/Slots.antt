@@ -2,25 +2,16 @@
 use Rattle.std.proofs.Common.{◌≡◌, ◌≢◌, ℕ, suc, ◌<◌, ◌≤◌, Bool, false, cond, not, eqb, List, [], ◌∷◌, ◌++◌, Option, Some, None, sym, refl, ap, ◌∙◌, subst, arith, ⊎_elim, ne_eqb, append-nil}
 use Rattle.std.proofs.lemmas.List.{append_assoc}
 use Rattle.std.proofs.lemmas.Bool.{cond_both, cond-true, cond-false, cases_Bool}
-use Rattle.wbt_counter.specs.declared.counter.Counter.{Counter}
-use Rattle.wbt_counter.specs.declared.counter.Counter.TheVariants.{Domain, Context}
-use Rattle.wbt_counter.specs.declared.record.Debt.{Debt}
-use Rattle.wbt_counter.specs.declared.record.Owed.{Owed}
-use Rattle.wbt_counter.specs.Counters.{is_same, debt_to, without_debt, with_debt}
-use Rattle.wbt_counter.proofs.Debts.{is_same-true, is_same-itself, debts_are}
-use Rattle.wbt_grant.specs.declared.record.CpuRecord.{CpuRecord}
-use Rattle.wbt_grant.specs.State.{writer_in}
-use Rattle.wbt_grant.specs.Record.{one_more}
-use Rattle.wbt_grant.specs.Seats.{own_told}
+use Rattle.wbt_table.proofs.Common.{Counter, Domain, Context, Debt, Owed, is_same, debt_to, is_same-itself, CpuRecord, writer_in, one_more, own_told, setting, given, Keeps, IsTold, IsDue, debts_in, stepped, with_due, OwesFirst, OwesLater}
+use Rattle.wbt_counter.specs.Counters.{without_debt, with_debt}
+use Rattle.wbt_counter.proofs.Debts.{is_same-true, debts_are}
 use Rattle.wbt_table.specs.declared.layout.Layout.{Layout}
 use Rattle.wbt_table.specs.declared.state.CpuState.{CpuState}
 use Rattle.wbt_table.specs.declared.state.Due.{Due}
 use Rattle.wbt_table.specs.declared.state.Slot.{Slot}
 use Rattle.wbt_table.specs.declared.state.Slot.TheVariants.{First, Second, Third}
-use Rattle.wbt_table.specs.Layout.{setting}
-use Rattle.wbt_table.specs.Rule.{given}
-use Rattle.wbt_table.specs.Seat.{Keeps, IsTold, IsDue, counter_in, due_in, listed, debt_of, debts_in, stepped}
-use Rattle.wbt_table.specs.Settle.{rank, rank_of, with_due, AreFrom, OwesFirst, OwesFrom, OwesLater}
+use Rattle.wbt_table.specs.Seat.{counter_in, due_in, listed, debt_of}
+use Rattle.wbt_table.specs.Settle.{rank, rank_of, AreFrom, OwesFrom}
 use Rattle.wbt_table.proofs.Seating.{none_some}
 use Rattle.wbt_table.proofs.Keeping.{told_follows, due_follows, given_same, given_steps, own_same}
 

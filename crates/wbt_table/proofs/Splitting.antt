@@ -6,18 +6,13 @@ use Rattle.std.proofs.lemmas.Bool.{cond-true, cond-false}
 use Rattle.std.proofs.lemmas.List.{length-replicate}
 use Rattle.std.specs.Bool.{IsTrue}
 use Rattle.std.specs.Option.{is_some}
-use Rattle.atomic_table.specs.Seated.{TableId}
-use Rattle.atomic_table.proofs.Lists.{at_set, set_here, set_else}
-use Rattle.wbt_grant.specs.declared.record.CpuRecord.{CpuRecord}
-use Rattle.wbt_grant.specs.declared.record.TimerRecord.{TimerRecord}
+use Rattle.wbt_table.proofs.Common.{TableId, at_set, set_here, set_else, CpuRecord, TimerRecord, KeepsTriples, KeepsSequences, IsKept, setting, domains, Cpus, Has, given, Sat, Seated, as_timer, Keeps, States, Knows, Agrees, with_grant, with_grants, KeepsLefts, KeepsTimer, IsSeat, seated}
 use Rattle.wbt_table.specs.declared.answer.Triple.{Triple}
 use Rattle.wbt_table.specs.declared.held.HeldLimits.{HeldLimits}
 use Rattle.wbt_table.specs.declared.layout.Layout.{Layout}
 use Rattle.wbt_table.specs.declared.state.CpuState.{CpuState}
-use Rattle.wbt_table.specs.Held.{KeepsTriples, KeepsSequences, IsKept}
-use Rattle.wbt_table.specs.Layout.{setting, domains}
-use Rattle.wbt_table.specs.Rule.{Cpus, Has, given, Sat, without, without_cpu, alone, apart, without_timer, timer_alone}
-use Rattle.wbt_table.specs.Seat.{Seated, IsHeld, as_cpu, as_timer, Keeps, States, Knows, Agrees, with_grant, with_grants, KeepsLefts, KeepsTimer, IsSeat, seated}
+use Rattle.wbt_table.specs.Rule.{without, without_cpu, alone, apart, without_timer, timer_alone}
+use Rattle.wbt_table.specs.Seat.{IsHeld, as_cpu}
 use Rattle.wbt_table.specs.Calls.{left_seat, right_seat}
 use Rattle.wbt_table.proofs.Lists.{at_less, at_read}
 use Rattle.wbt_table.proofs.Seating.{none_some, some_is, shown_at}

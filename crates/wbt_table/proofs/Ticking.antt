@@ -1,23 +1,13 @@
 -- A step of the timer keeps the table's rule where the relation allows it and the word follows.
 use Rattle.std.proofs.Common.{◌≡◌, ℕ, true, List, ◌∷◌, length, get_or, set, Option, Some, None, sym, refl, ap, ◌∙◌, subst, ⊎_elim, length-set}
 use Rattle.atomic_table.specs.Table.{keeps, Allows}
-use Rattle.atomic_table.proofs.Lists.{at_set}
-use Rattle.wbt_grant.specs.declared.record.CpuRecord.{CpuRecord}
-use Rattle.wbt_grant.specs.declared.record.TimerRecord.{TimerRecord}
-use Rattle.wbt_grant.specs.Setting.{Setting, IsSetting, FitsWords}
-use Rattle.wbt_grant.specs.State.{State}
-use Rattle.wbt_grant.specs.Kinds.{Step, Allowed, after}
-use Rattle.wbt_grant.specs.Rule.{Rule}
-use Rattle.wbt_grant.specs.Seats.{is_by_timer, maker_of, found_by, timer_after, TimerAllows}
-use Rattle.wbt_grant.proofs.Whole.{step_keeps}
+use Rattle.wbt_table.proofs.Common.{at_set, CpuRecord, TimerRecord, Setting, IsSetting, FitsWords, State, Step, Allowed, after, Rule, is_by_timer, maker_of, timer_after, step_keeps, setting, width, Shows, Has, HasLog, Kept, GrantedStep, Sat, turn, Made, state_after, logged, timer_log_of}
+use Rattle.wbt_grant.specs.Seats.{found_by, TimerAllows}
 use Rattle.wbt_grant.proofs.Seats.{timer_may_is_known, timer_is_known}
 use Rattle.wbt_table.specs.declared.layout.Layout.{Layout}
 use Rattle.wbt_table.specs.declared.rule.View.{View}
 use Rattle.wbt_table.specs.declared.rule.Logged.{Logged}
-use Rattle.wbt_table.specs.Layout.{setting, width}
-use Rattle.wbt_table.specs.Rule.{Shows, Has, HasLog, Kept, GrantedStep, Sat, TimerFound, Ticked}
-use Rattle.wbt_table.specs.Steps.{turn}
-use Rattle.wbt_table.specs.History.{Made, state_after, logged, timer_log_of}
+use Rattle.wbt_table.specs.Rule.{TimerFound, Ticked}
 use Rattle.wbt_table.proofs.Logging.{in_timers, in_no_cpus}
 use Rattle.wbt_table.proofs.Turning.{Moves}
 use Rattle.wbt_table.proofs.Seating.{some_is}

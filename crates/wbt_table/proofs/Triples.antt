@@ -4,39 +4,23 @@ use Rattle.std.proofs.lemmas.Bool.{cond_both, cond-true, cond-false}
 use Rattle.std.proofs.lemmas.Nat.{div-mul-add, div-add-mod'}
 use mathlib.Core.Logic.{dite}
 use native.Mathlib.Decide.{ℕ_discrete}
-use Rattle.atomic_table.specs.Seated.{TableId}
-use Rattle.atomic_table.proofs.Lists.{at_set}
+use Rattle.wbt_table.proofs.Common.{TableId, at_set, put, one_if, IsLawful, LAST_SEQUENCE, sequence_in, Who, DomainLimits, Words, CpuRecord, TimerRecord, State, held_of, found_of, version_of, is_sealed, sequence_of, Step, limits, sequence_now, last_found, claimed, Setting, cpu_for, maker_of, record_after, timer_after, look_record, KeepsTriples, KeepsSequences, IsKept, no_triple, triple_of, triple_number, setting, domains, Cpus, Has, put_record, given, Sat, Found, Turned, Seated, States, Knows, Agrees, with_grants, KeepsTimer, KeepsLefts, IsSeat, seated, is_whole_load, triple_in, turn}
 use Rattle.wbt_grant.specs.declared.record.Stage.{Stage}
 use Rattle.wbt_grant.specs.declared.record.Stage.TheVariants.{Sealed, Unsealed, Drafted}
-use Rattle.wbt_counter.specs.Sums.{put, one_if}
 use Rattle.wbt_counter.proofs.Sums.{put_each}
-use Rattle.wbt_num.specs.Limits.{IsLawful}
-use Rattle.wbt_num.specs.declared.limits.TheConstants.{LAST_SEQUENCE}
-use Rattle.wbt_limits.specs.Words.{sequence_in, limits_in}
-use Rattle.wbt_grant.specs.declared.who.Who.{Who}
-use Rattle.wbt_grant.specs.declared.record.DomainLimits.{DomainLimits}
+use Rattle.wbt_limits.specs.Words.{limits_in}
 use Rattle.wbt_grant.specs.declared.record.Finding.{Finding}
-use Rattle.wbt_grant.specs.declared.record.Finding.TheVariants.{Words}
-use Rattle.wbt_grant.specs.declared.record.CpuRecord.{CpuRecord}
-use Rattle.wbt_grant.specs.declared.record.TimerRecord.{TimerRecord}
-use Rattle.wbt_grant.specs.State.{State, held_of, found_of, version_of, is_sealed, sequence_of}
-use Rattle.wbt_grant.specs.Kinds.{Step, limits, sequence_now, last_found}
 use Rattle.wbt_grant.proofs.Reading.{limits_are_whole}
-use Rattle.wbt_grant.specs.Record.{one_more as one_step_more, is_whole, read_triple, claimed, page_stepped, absorbed, redirtied, given_back, found_already, dirtied}
-use Rattle.wbt_grant.specs.Setting.{Setting}
-use Rattle.wbt_grant.specs.Seats.{cpu_for, maker_of, record_after, timer_after, look_record, claim_record, back_record, dirty_record}
+use Rattle.wbt_grant.specs.Record.{one_more as one_step_more, is_whole, read_triple, page_stepped, absorbed, redirtied, given_back, found_already, dirtied}
+use Rattle.wbt_grant.specs.Seats.{claim_record, back_record, dirty_record}
 use Rattle.wbt_table.specs.declared.answer.Triple.{Triple}
 use Rattle.wbt_table.specs.declared.held.HeldLimits.{HeldLimits}
 use Rattle.wbt_table.specs.declared.layout.Layout.{Layout}
 use Rattle.wbt_table.specs.declared.rule.Granted.{Granted}
 use Rattle.wbt_table.specs.declared.rule.View.{View}
 use Rattle.wbt_table.specs.declared.state.CpuState.{CpuState}
-use Rattle.wbt_table.specs.Held.{KeepsTriples, KeepsSequences, IsKept, no_triple, triple_of, triple_number}
-use Rattle.wbt_table.specs.Layout.{setting, domains}
-use Rattle.wbt_table.specs.Rule.{Cpus, Has, put_record, given, Sat, Found, Turned, Ticked}
-use Rattle.wbt_table.specs.Seat.{Seated, States, Knows, Agrees, with_grants, KeepsTimer, KeepsLefts, IsSeat, seated}
-use Rattle.wbt_table.specs.Calls.{ticked, is_whole_load, triple_in}
-use Rattle.wbt_table.specs.Steps.{turn}
+use Rattle.wbt_table.specs.Rule.{Ticked}
+use Rattle.wbt_table.specs.Calls.{ticked}
 use Rattle.wbt_table.proofs.Seating.{some_is, none_some}
 use Rattle.wbt_table.proofs.Keeping.{looked_each}
 use Rattle.wbt_table.proofs.Places.{row_less}

@@ -3,22 +3,11 @@ use Rattle.std.proofs.Common.{◌≡◌, ◌≢◌, ℕ, ◌+◌, ◌<◌, Bool,
 use mathlib.Core.Logic.{dite}
 use native.Mathlib.Decide.{ℕ_discrete}
 use Rattle.std.specs.Bool.{IsTrue}
-use Rattle.atomic_table.proofs.Lists.{set_here}
-use Rattle.wbt_counter.specs.declared.record.Owed.{Owed}
-use Rattle.wbt_book.specs.Ledger.{times_in}
-use Rattle.wbt_grant.specs.declared.record.CpuRecord.{CpuRecord}
-use Rattle.wbt_grant.specs.Setting.{Setting}
-use Rattle.wbt_grant.specs.State.{writer_in}
-use Rattle.wbt_grant.specs.Record.{claimed}
-use Rattle.wbt_grant.specs.Seats.{look_record}
-use Rattle.wbt_counter.specs.Sums.{one_if}
+use Rattle.wbt_table.proofs.Common.{set_here, Owed, times_in, CpuRecord, Setting, writer_in, claimed, look_record, one_if, setting, Cpus, Has, Holds, Shape, Seated, Changes, CanDirty, CanComplete, looked_at}
 use Rattle.wbt_table.specs.declared.layout.Layout.{Layout}
 use Rattle.wbt_table.specs.declared.answer.Claim.{Claim}
 use Rattle.wbt_table.specs.declared.answer.Claim.TheVariants.{Mine, NotDirty, Missed, Stopped}
-use Rattle.wbt_table.specs.Layout.{setting}
-use Rattle.wbt_table.specs.Rule.{Cpus, Has, Holds}
-use Rattle.wbt_table.specs.Seat.{Shape, Seated, Changes}
-use Rattle.wbt_table.specs.Calls.{CanDirty, CanComplete, Comes, Claims, Halts, before_its_look, after_its_look, looked_at, tried}
+use Rattle.wbt_table.specs.Calls.{Comes, Claims, Halts, before_its_look, after_its_look, tried}
 use Rattle.wbt_table.specs.Callers.{StepsFor, MayWrite, HasClaimed}
 use Rattle.wbt_table.proofs.Lists.{at_less}
 use Rattle.wbt_table.proofs.Turning.{one_record}

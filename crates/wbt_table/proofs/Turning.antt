@@ -4,27 +4,16 @@ use mathlib.Core.Option.{some, some-injective}
 use lib.ListN.{get_elem?}
 use Rattle.atomic_table.specs.Table as table
 use Rattle.atomic_table.specs.Table.{keeps, Allows}
-use Rattle.atomic_table.proofs.Lists.{at_set}
-use Rattle.wbt_counter.specs.Sums.{put}
-use Rattle.wbt_counter.proofs.Sums.{put_same, put_other}
-use Rattle.wbt_grant.specs.declared.record.CpuRecord.{CpuRecord}
-use Rattle.wbt_grant.specs.Setting.{Setting, IsSetting, FitsWords}
-use Rattle.wbt_grant.specs.State.{State}
-use Rattle.wbt_grant.specs.Record.{granted}
+use Rattle.wbt_table.proofs.Common.{at_set, put, put_same, CpuRecord, Setting, IsSetting, FitsWords, State, granted, Step, MayGrant, Allowed, after, Rule, is_by_timer, maker_of, record_after, RecordAllows, step_keeps, setting, width, Shows, Cpus, Has, put_record, HasLog, put_log, Kept, given, MayGive, GrantedStep, Sat, Found, Turned, turn, Made, Past, state_after, logged, log_of, timer_log_of, LogsGrant}
+use Rattle.wbt_counter.proofs.Sums.{put_other}
 use Rattle.wbt_grant.specs.Kinds as kinds
-use Rattle.wbt_grant.specs.Kinds.{Step, MayGrant, Allowed, after}
-use Rattle.wbt_grant.specs.Rule.{Rule}
-use Rattle.wbt_grant.specs.Seats.{is_by_timer, maker_of, found_by, record_after, RecordAllows}
-use Rattle.wbt_grant.proofs.Whole.{step_keeps}
+use Rattle.wbt_grant.specs.Seats.{found_by}
 use Rattle.wbt_grant.proofs.Seats.{may_is_known, record_is_known}
 use Rattle.wbt_table.specs.declared.layout.Layout.{Layout}
 use Rattle.wbt_table.specs.declared.rule.View.{View}
 use Rattle.wbt_table.specs.declared.rule.Granted.{Granted}
 use Rattle.wbt_table.specs.declared.rule.Logged.{Logged}
-use Rattle.wbt_table.specs.Layout.{setting, width}
-use Rattle.wbt_table.specs.Rule.{Shows, Cpus, Has, put_record, HasLog, put_log, Kept, given, MayGive, GrantedStep, Sat, Found, Turned}
-use Rattle.wbt_table.specs.Steps.{turn}
-use Rattle.wbt_table.specs.History.{Made, Past, state_after, AreMade, logged, log_of, timer_log_of, LogsGrant}
+use Rattle.wbt_table.specs.History.{AreMade}
 use Rattle.wbt_table.proofs.Logging.{in_own, in_no_other, in_no_timers, put_log_cases}
 use Rattle.wbt_table.proofs.Showing.{put_again, shows_parts}
 

@@ -1,21 +1,13 @@
 -- A page that is claimed was held by nobody, and one that is held is under writeback.
 use Rattle.std.proofs.Common.{◌≡◌, ℕ, zero, suc, ◌<◌, true, false, not, Bool, ◌&&◌, ◌||◌, cond, Option, sym, refl, ap, ◌∙◌, subst, arith, true≢false}
 use Rattle.std.proofs.lemmas.Bool.{cond_both}
-use Rattle.wbt_book.specs.Book.{Bits, is_claimable}
-use Rattle.wbt_book.specs.PageWords.{bits_at}
-use Rattle.wbt_book.specs.Ledger.{times_in}
+use Rattle.wbt_table.proofs.Common.{Bits, bits_at, times_in, look, claim, last_found, looked, owing_mark, passed, Setting, CpuRecord, setting, Found, given, turn}
+use Rattle.wbt_book.specs.Book.{is_claimable}
 use Rattle.wbt_book.proofs.Ledgers.{held_is_under_writeback}
-use Rattle.wbt_grant.specs.Kinds.{look, claim, last_found}
-use Rattle.wbt_grant.specs.Record.{looked, owing_mark, passed}
-use Rattle.wbt_grant.specs.Setting.{Setting}
 use Rattle.wbt_grant.specs.State.{deeds_of}
-use Rattle.wbt_grant.specs.declared.record.CpuRecord.{CpuRecord}
 use Rattle.wbt_table.specs.declared.rule.Granted.{Granted}
 use Rattle.wbt_table.specs.declared.layout.Layout.{Layout}
-use Rattle.wbt_table.specs.Layout.{setting}
 use Rattle.wbt_table.specs.declared.rule.View.{View}
-use Rattle.wbt_table.specs.Rule.{Found, given}
-use Rattle.wbt_table.specs.Steps.{turn}
 
 not_both : (dirty under : Bool) → (dirty && not under) ≡ true → under ≡ true → ⊥
 not_both true true claimable is = true≢false (sym claimable)

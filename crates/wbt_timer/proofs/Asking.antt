@@ -1,21 +1,11 @@
 -- The gate was asked before each step that publishes: where no step was made, where one was, in a publication, and where calls follow one another.
 use Rattle.std.proofs.Common.{◌≡◌, ℕ, Bool, true, Some, None, List, [], ◌∷◌, ◌++◌, refl, sym, ap, ◌∙◌, subst}
-use Rattle.wbt_num.specs.declared.limits.Limits.{Limits}
-use Rattle.wbt_counter.specs.declared.counter.Counter.TheVariants.{Domain}
-use Rattle.wbt_grant.specs.Kinds.{Step, count}
-use Rattle.wbt_grant.specs.Seats.{timer_after}
-use Rattle.wbt_grant.specs.Setting.{Setting}
-use Rattle.wbt_grant.specs.declared.record.TimerRecord.{TimerRecord}
-use Rattle.wbt_grant.specs.declared.who.Who.TheVariants.{Timer}
+use Rattle.wbt_kit.proofs.Common.{Limits, Domain, Step, count, timer_after, Setting, TimerRecord, Timer, Made, Puts, timer_of, LogsSteps, setting, Seated, Put, Done, Stopped, Last, Logged}
 use Rattle.wbt_kit.specs.declared.kit.Kit.{Kit}
 use Rattle.wbt_kit.specs.declared.kit.Seats.{Seats}
-use Rattle.wbt_table.specs.Calls.{AskedTimer, Made, Puts, TimesAll, timer_of}
-use Rattle.wbt_table.specs.History.{LogsSteps, timer_log_of}
-use Rattle.wbt_table.specs.Layout.{setting}
-use Rattle.wbt_table.specs.Seat.{Seated, Times}
-use Rattle.wbt_table.specs.declared.answer.Put.{Put}
-use Rattle.wbt_table.specs.declared.answer.Put.TheVariants.{Done, Stopped, Last}
-use Rattle.wbt_table.specs.declared.rule.Logged.{Logged}
+use Rattle.wbt_table.specs.Calls.{AskedTimer, TimesAll}
+use Rattle.wbt_table.specs.History.{timer_log_of}
+use Rattle.wbt_table.specs.Seat.{Times}
 use Rattle.wbt_timer.specs.Gate.{AskedBeforePublishing, AskedToPublish, LoadsCount, is_publishing}
 
 -- ---- steps one after another

@@ -2,24 +2,16 @@
 use Rattle.std.proofs.Common.{◌≡◌, ◌≢◌, ◌⊎◌, ⊎_elim, inl, inr, ℕ, suc, ◌+◌, ◌<◌, ◌≤◌, Bool, true, false, eqb, if◌then◌else◌, List, [], ◌∷◌, ◌++◌, map, flat_map, length, get_or, set, refl, sym, ap, ◌∙◌, subst, arith, append_assoc, eq-eqb, ne_eqb, length-set}
 use Rattle.std.proofs.lemmas.Bool.{lt-ltb, eqb-true, eqb-false}
 use Rattle.std.proofs.lemmas.List.{append-nil, get_or-set_same, get_or-set_other}
-use Rattle.wbt_fraction.specs.Laws.{begun, Falls}
-use Rattle.wbt_fraction.specs.Notes.{added_at}
+use Rattle.wbt_kit.proofs.Common.{begun, added_at, no_seat, Note, TimerRecord, Trace, domains, LastLine, is_opening, lines_after, TimerEntry, AreSeatsOf, Each, after}
+use Rattle.wbt_fraction.specs.Laws.{Falls}
 use Rattle.wbt_fraction.specs.Seat.{Seated as ShareSeat, Shape, Looks}
-use Rattle.wbt_fraction.specs.Several.{no_seat, Fits}
+use Rattle.wbt_fraction.specs.Several.{Fits}
 use Rattle.wbt_fraction.specs.Sums.{total as weigh}
-use Rattle.wbt_fraction.specs.declared.domain.note.Note.{Note}
 use Rattle.wbt_fraction.specs.declared.domain.note.Note.TheVariants.{Found, Period}
-use Rattle.wbt_grant.specs.declared.record.TimerRecord.{TimerRecord}
-use Rattle.wbt_trace.specs.declared.trace.Trace.{Trace}
-use Rattle.wbt_journal.specs.Machine.{domains}
-use Rattle.wbt_journal.specs.Timer.{LastLine, TimerGoesOn, is_opening, lines_after}
-use Rattle.wbt_journal.specs.declared.timer.TimerEntry.{TimerEntry}
+use Rattle.wbt_journal.specs.Timer.{TimerGoesOn}
 use Rattle.wbt_journal.specs.declared.timer.TimerEntry.TheVariants.{Period as PeriodLine}
-use Rattle.wbt_kit.specs.Kit.{AreSeatsOf}
 use Rattle.wbt_kit.specs.declared.kit.Kit.{Kit}
 use Rattle.wbt_kit.specs.declared.kit.Seats.{Seats}
-use Rattle.wbt_journal.specs.Each.{Each}
-use Rattle.wbt_journal.specs.Walk.{after}
 use Rattle.wbt_run_laws.specs.Grew.{onto}
 use Rattle.wbt_run_laws.specs.Ticks.{TimerSince, AreInOrder, begun_at_once, peak_for, period_line, published_after}
 use Rattle.wbt_run_laws.specs.Walks.{Walked}

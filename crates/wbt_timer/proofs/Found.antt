@@ -2,19 +2,14 @@
 use Rattle.std.proofs.Common.{◌≡◌, ℕ, zero, suc, ◌<◌, ◌≤◌, Bool, true, false, leb, Option, Some, None, refl, sym, ◌∙◌, subst, arith}
 use Rattle.std.proofs.lemmas.Bool.{leb-true, leb-false}
 use Rattle.std.proofs.lemmas.Option.{slice_get-get_or}
-use Rattle.wbt_num.specs.declared.limits.Limits.{Limits}
+use Rattle.wbt_kit.proofs.Common.{Limits, MAX_LIMIT, Count, Cgroup, Trace, domains, thresholds_at}
 use Rattle.wbt_num.specs.declared.limits.Settings.{Settings}
-use Rattle.wbt_num.specs.declared.limits.TheConstants.{MAX_LIMIT}
 use Rattle.wbt_num.specs.Limits.{IsLawful as AreLawful}
-use Rattle.wbt_counter.specs.declared.counter.Count.{Count}
 use Rattle.wbt_limits.specs.Cgroup.{available_to_cgroup}
 use Rattle.wbt_limits.specs.Thresholds.{thresholds_of, followed_limit, hard_limit}
 use Rattle.wbt_limits.specs.declared.domain.Pair.{Pair}
 use Rattle.wbt_limits.proofs.Rising.{limits_are_lawful, cgroup_thresh_is_between, following_is_hard, following_stays_in_range, following_rises_at_once, following_falls_slowly}
-use Rattle.wbt_trace.specs.declared.trace.Cgroup.{Cgroup}
-use Rattle.wbt_trace.specs.declared.trace.Trace.{Trace}
-use Rattle.wbt_journal.specs.Machine.{domains}
-use Rattle.wbt_rules.specs.Thresholds.{avail_at, thresholds_at, limits_after, cgroup_of}
+use Rattle.wbt_rules.specs.Thresholds.{avail_at, limits_after, cgroup_of}
 use Rattle.wbt_journal.specs.Timer.{IsCgroup, HasThresholds, HardBy, HardFollows}
 use Rattle.wbt_timer.specs.Turn.{limits_by, pages_read}
 

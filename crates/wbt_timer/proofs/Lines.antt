@@ -1,13 +1,7 @@
 -- Limits, lines, publications, readings and sides of one count more.
 use Rattle.std.proofs.Common.{◌≡◌, ℕ, zero, suc, ◌+◌, ◌<◌, ◌≤◌, List, [], ◌∷◌, ◌++◌, length, get_or, set, refl, sym, ap, ◌∙◌, subst, arith, append_assoc}
 use Rattle.std.proofs.lemmas.List.{append-nil}
-use Rattle.wbt_num.specs.declared.limits.Limits.{Limits}
-use Rattle.wbt_counter.specs.declared.counter.Count.{Count}
-use Rattle.wbt_counter.specs.declared.record.Reading.{Reading}
-use Rattle.wbt_grant.specs.declared.record.DomainLimits.{DomainLimits}
-use Rattle.wbt_grant.specs.declared.record.Raised.{Raised}
-use Rattle.wbt_trace.specs.declared.trace.Trace.{Trace}
-use Rattle.wbt_journal.specs.declared.timer.TimerEntry.{TimerEntry}
+use Rattle.wbt_kit.proofs.Common.{Limits, Count, Reading, DomainLimits, Raised, Trace, TimerEntry}
 use Rattle.wbt_timer.specs.Turn.{AreLast, IsLastPut, Outcome, global_in, limits_by, limits_each, line_for, lines_from, no_side, pages_read, published_by, published_from, raised_from, read_from, reading_of, side_after, with_limits}
 use Rattle.wbt_timer.specs.declared.side.DomainSide.{DomainSide}
 

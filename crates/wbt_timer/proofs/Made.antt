@@ -3,35 +3,22 @@ use Rattle.std.proofs.Common.{◌≡◌, ◌≢◌, ℕ, zero, suc, ◌+◌, ◌
 use Rattle.std.proofs.lemmas.List.{append-nil, length-replicate}
 use mathlib.Core.Logic.{dite}
 use native.Mathlib.Decide.{ℕ_discrete}
-use Rattle.wbt_num.specs.declared.limits.Limits.{Limits}
+use Rattle.wbt_kit.proofs.Common.{Limits, one_if, Step, timer_after, Setting, version_of, DomainLimits, TimerRecord, StepKind, HasTimer, Made, Puts, timer_of, LogsSteps, setting, Seated, Put, Done, Stopped, Last, Granted, Logged}
 use Rattle.wbt_num.specs.declared.limits.TheConstants.{LAST_SEQUENCE}
-use Rattle.wbt_counter.specs.Sums.{one_if}
 use Rattle.wbt_grant.specs.Effects.{effect}
-use Rattle.wbt_grant.specs.Kinds.{Step}
 use Rattle.wbt_grant.specs.Record.{with_stage}
-use Rattle.wbt_grant.specs.Seats.{timer_after}
-use Rattle.wbt_grant.specs.Setting.{Setting}
-use Rattle.wbt_grant.specs.State.{is_sealed, opening, stage_of, version_of}
-use Rattle.wbt_grant.specs.declared.record.DomainLimits.{DomainLimits}
+use Rattle.wbt_grant.specs.State.{is_sealed, opening, stage_of}
 use Rattle.wbt_grant.specs.declared.record.Draft.{Draft}
 use Rattle.wbt_grant.specs.declared.record.Stage.TheVariants.{Sealed, Unsealed, Drafted}
-use Rattle.wbt_grant.specs.declared.record.TimerRecord.{TimerRecord}
-use Rattle.wbt_grant.specs.declared.who.StepKind.{StepKind}
 use Rattle.wbt_grant.specs.declared.who.StepKind.TheVariants as kind
 use Rattle.wbt_grant.proofs.Sequences.{stage_here, stage_there}
 use Rattle.wbt_turns.specs.Words.{IsCutOff, IsTimerTurn, IsWhole, kind_of, publications, publications_but}
 use Rattle.wbt_turns.proofs.Following.{cut_more, timer_turns_follow, whole_more, whole_none}
-use Rattle.wbt_kit.specs.Kit.{HasTimer}
 use Rattle.wbt_kit.specs.declared.kit.Seats.{Seats}
-use Rattle.wbt_table.specs.Calls.{IsCutPut, IsWholePut, Made, Puts, TimesAll, timer_of}
+use Rattle.wbt_table.specs.Calls.{IsCutPut, IsWholePut, TimesAll}
 use Rattle.wbt_table.specs.Calls.IsCutPut.{at_once, after_unseal, after_thresh, after_both}
-use Rattle.wbt_table.specs.History.{LogsStep, LogsSteps, Past, log_granted, step_told, timer_log_of}
-use Rattle.wbt_table.specs.Layout.{setting}
-use Rattle.wbt_table.specs.Seat.{Seated, Times}
-use Rattle.wbt_table.specs.declared.answer.Put.{Put}
-use Rattle.wbt_table.specs.declared.answer.Put.TheVariants.{Done, Stopped, Last}
-use Rattle.wbt_table.specs.declared.rule.Granted.{Granted}
-use Rattle.wbt_table.specs.declared.rule.Logged.{Logged}
+use Rattle.wbt_table.specs.History.{LogsStep, Past, log_granted, step_told, timer_log_of}
+use Rattle.wbt_table.specs.Seat.{Times}
 use Rattle.wbt_timer.specs.Kinds.{CutsTurn, HasSealed, IsSealedFirst, PublishesAll, PutSteps, Steps, StepsAs, TakesTurn, TurnsFollowOneAnother, kinds_in, peak_and_put}
 use Rattle.wbt_timer.specs.Turn.{IsLastPut, Outcome, is_through, published_by, published_from}
 

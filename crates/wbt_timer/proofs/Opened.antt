@@ -1,19 +1,12 @@
 -- The timer at the opening.
 use Rattle.std.proofs.Common.{◌≡◌, ℕ, zero, suc, ◌+◌, ◌-◌, ◌*◌, ◌^◌, ◌<◌, ◌≤◌, List, [], ◌∷◌, ◌++◌, All, get_or, length, refl, sym, ap, ◌∙◌, subst, arith, append_assoc, length-append}
 use Rattle.std.proofs.lemmas.List.Elements.{All-nil}
-use Rattle.wbt_num.specs.declared.limits.Limits.{Limits}
-use Rattle.wbt_num.specs.declared.limits.TheConstants.{MAX_LIMIT}
-use Rattle.wbt_trace.specs.Lawful.{IsLawful}
-use Rattle.wbt_trace.specs.declared.trace.Cgroup.{Cgroup}
-use Rattle.wbt_trace.specs.declared.trace.Trace.{Trace}
-use Rattle.wbt_journal.specs.Machine.{domains}
-use Rattle.wbt_journal.specs.declared.timer.TimerEntry.{TimerEntry}
+use Rattle.wbt_kit.proofs.Common.{Limits, MAX_LIMIT, IsLawful, Cgroup, Trace, domains, TimerEntry, first_lawful}
 use Rattle.wbt_journal.specs.declared.timer.TimerEntry.TheVariants.{Limits as LimitsLine}
 use Rattle.wbt_rules.specs.declared.moments.TheConstants.{PERIOD_TICKS}
 use Rattle.wbt_rules.specs.Thresholds.{DomainFits}
 use Rattle.wbt_run_laws.specs.Closed.{first_lines}
 use Rattle.wbt_kit.proofs.Laid.{all_pushed, domain_fits}
-use Rattle.wbt_rules.proofs.Firsts.{first_lawful}
 use Rattle.wbt_timer.specs.Side.{IsSide, first_side, first_sides}
 use Rattle.wbt_timer.specs.declared.side.DomainSide.{DomainSide}
 

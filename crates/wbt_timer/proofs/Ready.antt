@@ -1,13 +1,8 @@
 -- The timer is ready at the opening, and after each of its turns.
 use Rattle.std.proofs.Common.{◌≡◌, ℕ, List, length, sym, ap, ◌∙◌, subst}
 use Rattle.wbt_grant.specs.State.{opening}
-use Rattle.wbt_trace.specs.declared.trace.Trace.{Trace}
-use Rattle.wbt_journal.specs.Machine.{domains}
-use Rattle.wbt_journal.specs.declared.timer.TimerEntry.{TimerEntry}
-use Rattle.wbt_table.specs.Layout.{setting}
+use Rattle.wbt_kit.proofs.Common.{Trace, domains, TimerEntry, setting, Layout, AreSeatsOf}
 use Rattle.wbt_table.specs.Layout as table
-use Rattle.wbt_table.specs.declared.layout.Layout.{Layout}
-use Rattle.wbt_kit.specs.Kit.{AreSeatsOf}
 use Rattle.wbt_kit.specs.declared.kit.Kit.{Kit}
 use Rattle.wbt_kit.specs.declared.kit.Seats.{Seats}
 use Rattle.wbt_kit.specs.declared.turn.Turn.{Turn}

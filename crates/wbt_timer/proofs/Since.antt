@@ -2,28 +2,14 @@
 use Rattle.std.proofs.Common.{◌≡◌, ℕ, zero, suc, ◌+◌, ◌<◌, ◌≤◌, Bool, true, false, Option, Some, List, [], ◌∷◌, ◌++◌, map, flat_map, drop, length, get_or, slice_get, set, refl, sym, ap, ◌∙◌, subst, arith, append_assoc, length-append, if◌then◌else◌}
 use Rattle.std.proofs.lemmas.Bool.{lt-ltb, le-ltb}
 use Rattle.std.proofs.lemmas.List.{length-map, set_at}
-use Rattle.wbt_counter.specs.declared.counter.Count.{Count}
-use Rattle.wbt_num.specs.declared.limits.Limits.{Limits}
-use Rattle.wbt_fraction.specs.declared.domain.note.Note.{Note}
-use Rattle.wbt_grant.specs.State.{version_of}
-use Rattle.wbt_grant.specs.declared.record.DomainLimits.{DomainLimits}
-use Rattle.wbt_grant.specs.declared.record.Raised.{Raised}
-use Rattle.wbt_grant.specs.declared.record.TimerRecord.{TimerRecord}
-use Rattle.wbt_trace.specs.declared.trace.Trace.{Trace}
-use Rattle.wbt_journal.specs.Each.{Each}
-use Rattle.wbt_journal.specs.Machine.{domains}
-use Rattle.wbt_journal.specs.Timer.{LastLine, LineFollows, LimitsBy, TimerGoesOn, is_opening, put_line, lines_after}
-use Rattle.wbt_journal.specs.Walk.{after}
-use Rattle.wbt_journal.specs.declared.timer.TimerEntry.{TimerEntry}
+use Rattle.wbt_kit.proofs.Common.{Count, Limits, Note, version_of, DomainLimits, Raised, TimerRecord, Trace, Each, domains, LastLine, is_opening, lines_after, after, TimerEntry, thresholds_at, Put, Done, Stopped, Last}
+use Rattle.wbt_journal.specs.Timer.{LineFollows, LimitsBy, TimerGoesOn, put_line}
 use Rattle.wbt_rules.specs.declared.moments.TheConstants.{TIMER_REST}
-use Rattle.wbt_rules.specs.Thresholds.{thresholds_at}
 use Rattle.wbt_run_laws.specs.Grew.{onto}
 use Rattle.wbt_run_laws.specs.Ticks.{Fate, has_line, gate_stopped, last_version, HasItsCause, IsLastBy, Peak, TimerSince, begun_at_once, one_stop, peak_for, period_line, published_after, raised_by, stops_in, told_by, told_so}
 use Rattle.wbt_run_laws.specs.Walks.{Walked}
 use Rattle.wbt_run_laws.proofs.Lists.{flat_append, onto_append}
 use Rattle.wbt_run_laws.proofs.Walking.{after_append, walked_more, walked_none}
-use Rattle.wbt_table.specs.declared.answer.Put.{Put}
-use Rattle.wbt_table.specs.declared.answer.Put.TheVariants.{Done, Stopped, Last}
 use Rattle.wbt_timer.specs.Side.{line_of}
 use Rattle.wbt_timer.specs.Turn.{AreLast, AreThrough, Outcome, is_through, limits_by, limits_each, limits_of, line_for, lines_from, IsLastPut, pages_read, published_by, published_from, raised_from, side_after, with_limits}
 use Rattle.wbt_timer.specs.declared.side.DomainSide.{DomainSide}

@@ -1,25 +1,14 @@
 -- What the timer's steps make of the seats, step by step.
 use Rattle.std.proofs.Common.{◌≡◌, ℕ, ◌+◌, ◌*◌, ◌<◌, ◌≤◌, Bool, true, false, cond, not, eq-eqb, Some, IsSomeAnd, List, [], ◌∷◌, ◌++◌, length, get_or, set, refl, sym, ap, ◌∙◌, subst, arith, append_assoc, length-append}
 use Rattle.std.proofs.lemmas.List.{append-nil, map-append}
-use Rattle.wbt_num.specs.declared.limits.Limits.{Limits}
-use Rattle.wbt_num.specs.declared.limits.TheConstants.{LAST_SEQUENCE, MAX_LIMIT}
+use Rattle.wbt_kit.proofs.Common.{Limits, MAX_LIMIT, one_if, Count, Reading, Setting, version_of, Raised, TimerRecord, TimerEntry, Trace, Made, Puts, timer_of, Seated, Put, Done, Stopped, Last}
+use Rattle.wbt_num.specs.declared.limits.TheConstants.{LAST_SEQUENCE}
 use Rattle.wbt_num.specs.Limits.{IsLawful}
-use Rattle.wbt_counter.specs.Sums.{one_if}
-use Rattle.wbt_counter.specs.declared.counter.Count.{Count}
-use Rattle.wbt_counter.specs.declared.record.Reading.{Reading}
 use Rattle.wbt_grant.specs.Kinds.{last_raised}
-use Rattle.wbt_grant.specs.Setting.{Setting}
-use Rattle.wbt_grant.specs.State.{is_sealed, stage_of, version_of}
-use Rattle.wbt_grant.specs.declared.record.Raised.{Raised}
-use Rattle.wbt_grant.specs.declared.record.TimerRecord.{TimerRecord}
-use Rattle.wbt_journal.specs.declared.timer.TimerEntry.{TimerEntry}
-use Rattle.wbt_trace.specs.declared.trace.Trace.{Trace}
+use Rattle.wbt_grant.specs.State.{is_sealed, stage_of}
 use Rattle.wbt_kit.specs.declared.kit.Seats.{Seats}
-use Rattle.wbt_table.specs.Calls.{IsCutPut, IsWholePut, Made, MayPut, Puts, timer_of}
+use Rattle.wbt_table.specs.Calls.{IsCutPut, IsWholePut, MayPut}
 use Rattle.wbt_table.specs.Calls.IsCutPut.{at_once, after_unseal, after_thresh, after_both}
-use Rattle.wbt_table.specs.Seat.{Seated}
-use Rattle.wbt_table.specs.declared.answer.Put.{Put}
-use Rattle.wbt_table.specs.declared.answer.Put.TheVariants.{Done, Stopped, Last}
 use Rattle.wbt_timer.specs.Turn.{Counted, IsLastPut, Outcome, Published, PublishedEach, PublishedFirst, SeatsKept, global_in, is_through, limits_by, limits_each, line_for, lines_from, no_side, published_by, reading_of, side_after, with_limits}
 use Rattle.wbt_timer.specs.declared.side.DomainSide.{DomainSide}
 use Rattle.wbt_timer.proofs.Lines.{lasts_more, limits_more, lines_more, published_more as more_published, raised_more, read_more, with_later, with_more}

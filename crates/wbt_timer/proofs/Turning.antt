@@ -2,33 +2,20 @@
 use Rattle.std.proofs.Common.{◌≡◌, ℕ, zero, suc, ◌+◌, ◌*◌, ◌^◌, ◌<◌, ◌≤◌, max, All, false, Some, None, List, [], ◌∷◌, ◌++◌, map, length, get_or, refl, sym, ap, ap₂, ◌∙◌, subst, arith, append_assoc}
 use Rattle.std.proofs.lemmas.Bool.{le-ltb}
 use Rattle.std.proofs.lemmas.List.{length-map, get_or_default}
-use Rattle.wbt_counter.specs.declared.counter.Count.{Count}
-use Rattle.wbt_num.specs.declared.limits.Limits.{Limits}
-use Rattle.wbt_num.specs.declared.limits.TheConstants.{MAX_LIMIT}
-use Rattle.wbt_fraction.specs.Several.{stakes_in, room_in, Seats as ShareSeats}
+use Rattle.wbt_kit.proofs.Common.{Count, Limits, MAX_LIMIT, stakes_in, room_in, TimerRecord, Trace, Cgroup, domains, thresholds_at, LastLine, is_opening, TimerEntry, HasTimer, Seated, Put, Done, Stopped, Last, Each}
+use Rattle.wbt_fraction.specs.Several.{Seats as ShareSeats}
 use Rattle.wbt_fraction.specs.Seat.{Seated as ShareSeat}
-use Rattle.wbt_grant.specs.declared.record.TimerRecord.{TimerRecord}
 use Rattle.wbt_limits.specs.Cgroup.{available_to_cgroup}
 use Rattle.wbt_limits.specs.Thresholds.{thresholds_of}
 use Rattle.wbt_limits.specs.declared.domain.Pair.{Pair}
-use Rattle.wbt_trace.specs.declared.trace.Trace.{Trace}
-use Rattle.wbt_trace.specs.declared.trace.Cgroup.{Cgroup}
-use Rattle.wbt_journal.specs.Machine.{domains}
-use Rattle.wbt_rules.specs.Thresholds.{avail_among, thresholds_at, limits_after}
-use Rattle.wbt_journal.specs.Timer.{LastLine, is_opening}
-use Rattle.wbt_journal.specs.declared.timer.TimerEntry.{TimerEntry}
-use Rattle.wbt_kit.specs.Kit.{HasTimer}
+use Rattle.wbt_rules.specs.Thresholds.{avail_among, limits_after}
 use Rattle.wbt_kit.specs.declared.kit.Seats.{Seats}
 use Rattle.wbt_rules.specs.declared.moments.TheConstants.{PERIOD_TICKS}
-use Rattle.wbt_table.specs.Seat.{Seated}
 use Rattle.wbt_run_laws.specs.Ticks.{TimerSince, stops_in}
 use Rattle.wbt_run_laws.proofs.Ticking.{ticked_more}
 use Rattle.wbt_timer.specs.Side.{Side, IsTimerOf, IsSide, next_of, ticked, line_of}
 use Rattle.wbt_rules.specs.Moments.{periods_by}
 use Rattle.wbt_timer.specs.Turn.{Outcome, PublishedEach, PublishedFirst, PublishedSome, TimerHalts, TimerPublishes, TimerSteps, TimerTurn, TriedEach, Tries, global_in, limits_each, limits_of, lines_from, no_side, noted, pages_read, seat_at, side_after, with_limits}
-use Rattle.wbt_table.specs.declared.answer.Put.{Put}
-use Rattle.wbt_table.specs.declared.answer.Put.TheVariants.{Done, Stopped, Last}
-use Rattle.wbt_journal.specs.Each.{Each}
 use Rattle.wbt_timer.specs.Turn.Tries.{none, begun, refused, came_between}
 use Rattle.wbt_timer.specs.declared.side.DomainSide.{DomainSide}
 use Rattle.wbt_timer.proofs.Lines.{with_long}

@@ -1,43 +1,26 @@
 -- What single calls did that read neither shares nor estimates: they told writes and folds, or nothing.
 use Rattle.std.proofs.Common.{◌≡◌, ℕ, List, [], ◌∷◌, None, Contains, refl, sym, ap, subst, arith}
 use Rattle.std.proofs.lemmas.List.Sums.{sum_by-cons}
-use Rattle.wbt_estimate.specs.declared.estimate.Estimate.{Estimate}
+use Rattle.wbt_writer.proofs.Common.{Estimate, reads_of, Each, tells, Side, side_after, Told, CheckEntry, known_of, setting, Trace, Grew, Logged, Notes, SharesGrew, EstimatesGrew, IsOwn, SideWalked, Wrote, each_map, longer_none, side_of, written_of, Sight, no_fractions, notes_of, record_in, Does, IsTimed, Keeps}
+use Rattle.wbt_kit.proofs.Common.{Note, effect, added_to, Known, first_estimates, Layout}
 use Rattle.wbt_fraction.specs.Several as fraction
-use Rattle.wbt_fraction.specs.declared.domain.note.Note.{Note}
 use Rattle.std.specs.Prelude.{get_or, slice_index_or}
-use Rattle.wbt_journal.specs.Counts.{reads_of}
-use Rattle.wbt_journal.specs.Each.{Each}
-use Rattle.wbt_journal.specs.Effects.{effect}
-use Rattle.wbt_journal.specs.Items.{tells}
-use Rattle.wbt_journal.specs.Reads.{added_by, added_to, PeriodsGoOn, periods_after}
-use Rattle.wbt_journal.specs.Side.{Event, Side, side_after}
-use Rattle.wbt_journal.specs.Told.{Told}
-use Rattle.wbt_journal.specs.declared.entry.CheckEntry.{CheckEntry}
+use Rattle.wbt_journal.specs.Reads.{added_by, PeriodsGoOn, periods_after}
+use Rattle.wbt_journal.specs.Side.{Event}
 use Rattle.wbt_published.specs.Passes as est
-use Rattle.wbt_published.specs.Passes.{known_of}
-use Rattle.wbt_published.specs.declared.known.Known.{Known}
-use Rattle.wbt_rules.specs.First.{first_estimates}
 use Rattle.wbt_run_steps.specs.Records.{firsts_of}
-use Rattle.wbt_table.specs.Layout.{setting}
-use Rattle.wbt_table.specs.declared.layout.Layout.{Layout}
-use Rattle.wbt_trace.specs.declared.trace.Trace.{Trace}
 use Rattle.wbt_run_laws.specs.Elsewhere.{IsPlain}
-use Rattle.wbt_run_laws.specs.Grew.{Grew}
-use Rattle.wbt_run_laws.specs.Log.{Logged}
 use Rattle.wbt_run_laws.specs.Noted.{DecidesAlong}
-use Rattle.wbt_run_laws.specs.Notes.{Notes, IsKept, TellsKept, KeepsPeriods, SharesGrew, EstimatesGrew}
-use Rattle.wbt_run_laws.specs.Owns.{IsOwn, IsOfWriters}
-use Rattle.wbt_run_laws.specs.Shown.{SideWalked, Wrote}
+use Rattle.wbt_run_laws.specs.Notes.{IsKept, TellsKept, KeepsPeriods}
+use Rattle.wbt_run_laws.specs.Owns.{IsOfWriters}
 use Rattle.wbt_run_laws.specs.Walks.{items_told}
 use Rattle.wbt_run_laws.proofs.Effects.{if_none, part_none}
 use Rattle.wbt_run_laws.proofs.Entering.{periods_silent}
 use Rattle.wbt_run_laws.proofs.Holding.{others_tell_none}
-use Rattle.wbt_run_laws.proofs.Lists.{each_weaker, each_map, longer_none}
+use Rattle.wbt_run_laws.proofs.Lists.{each_weaker}
 use Rattle.wbt_run_laws.proofs.Moving.{plain_estimates}
 use Rattle.wbt_run_laws.proofs.Walking.{IsSilent, walks_silent, along_any}
-use Rattle.wbt_writer.specs.Counted.{side_of, written_of}
-use Rattle.wbt_writer.specs.Desk.{Sight, fraction_in, no_fractions, notes_of, record_in}
-use Rattle.wbt_writer.specs.Did.{Does, IsTimed, Keeps}
+use Rattle.wbt_writer.specs.Desk.{fraction_in}
 use Rattle.wbt_writer.specs.declared.work.Fractions.{Fractions}
 
 -- entries of writers that are no checks

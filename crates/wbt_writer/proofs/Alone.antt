@@ -1,25 +1,15 @@
 -- Loads that no check tells, and other calls that tell nothing.
 use Rattle.std.proofs.Common.{◌≡◌, ℕ, ◌≤◌, List, [], refl, sym, ap, subst}
-use Rattle.wbt_num.specs.declared.most.TheConstants.{MOST_PAGE_STEPS}
-use Rattle.wbt_book.specs.Ledger.{times_in}
+use Rattle.wbt_writer.proofs.Common.{MOST_PAGE_STEPS, times_in, Setting, Side, side_after, CpuJournal, Trace, Seats, Grew, SideWalked, Wrote, side_of, written_of, record_in, sight, Does, Keeps, LoadedSome, OnTable}
+use Rattle.wbt_kit.proofs.Common.{writes_after}
 use Rattle.wbt_fraction.specs.Several as fraction
-use Rattle.wbt_grant.specs.Setting.{Setting}
 use Rattle.wbt_journal.specs.Checks.{Stands}
-use Rattle.wbt_journal.specs.Pages.{PagesAreNext, writes_after}
-use Rattle.wbt_journal.specs.Side.{Side, side_after}
-use Rattle.wbt_journal.specs.declared.entry.CpuJournal.{CpuJournal}
-use Rattle.wbt_kit.specs.declared.kit.Seats.{Seats}
-use Rattle.wbt_trace.specs.declared.trace.Trace.{Trace}
-use Rattle.wbt_run_laws.specs.Grew.{Grew}
-use Rattle.wbt_run_laws.specs.Shown.{HaveWritten, SideWalked, Wrote}
+use Rattle.wbt_journal.specs.Pages.{PagesAreNext}
+use Rattle.wbt_run_laws.specs.Shown.{HaveWritten}
 use Rattle.wbt_run_laws.proofs.Logging.{logged_nothing}
 use Rattle.wbt_run_laws.proofs.Stepping.{untold_grows}
 use Rattle.wbt_run_laws.proofs.Walking.{walked_none, walks_none}
 use Rattle.wbt_queue.specs.Passes as queue
-use Rattle.wbt_writer.specs.Counted.{side_of, written_of}
-use Rattle.wbt_writer.specs.Desk.{record_in, sight}
-use Rattle.wbt_writer.specs.Did.{Does, Keeps}
-use Rattle.wbt_writer.specs.Loads.{LoadedSome, OnTable}
 use Rattle.wbt_writer.specs.declared.work.WriterWork.{WriterWork}
 use Rattle.wbt_writer.proofs.Acting.{does_act}
 

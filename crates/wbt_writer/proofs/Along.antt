@@ -5,19 +5,14 @@ use Rattle.std.proofs.lemmas.Bool.Decides.{nat_tests}
 use Rattle.std.proofs.lemmas.List.Elements.{All-get_or}
 use Rattle.std.proofs.lemmas.List.{drop_more, drop_all, drop-drop, drop-append-le}
 use Rattle.std.proofs.lemmas.Option.{slice_get_within, get_or_from_slice_get, slice_get-get_or}
-use Rattle.wbt_journal.specs.Machine.{numbers, pages_of_action, pages_of_task, rests_after}
-use Rattle.wbt_rules.specs.Pace.{pace_of, pause_of, since_after}
-use Rattle.wbt_trace.specs.Lawful.{HasPace, IsAction, IsLawful, IsPace}
-use Rattle.wbt_trace.specs.declared.trace.Action.{Action}
-use Rattle.wbt_trace.specs.declared.trace.Action.TheVariants.{Write, Rest}
-use Rattle.wbt_trace.specs.declared.trace.Inode.{Inode}
-use Rattle.wbt_trace.specs.declared.trace.Pace.{Pace}
-use Rattle.wbt_trace.specs.declared.trace.Trace.{Trace}
+use Rattle.wbt_writer.proofs.Common.{pages_of_action, pages_of_task, pace_of, since_after, IsLawful, Action, Write, Rest, Inode, Pace, Trace, MOST_PAGES, Skips, IsAlong, HasPage, first_page}
+use Rattle.wbt_journal.specs.Machine.{numbers, rests_after}
+use Rattle.wbt_rules.specs.Pace.{pause_of}
+use Rattle.wbt_trace.specs.Lawful.{HasPace, IsAction, IsPace}
 use Rattle.wbt_writer.specs.declared.task.TaskPlace.{TaskPlace}
-use Rattle.wbt_writer.specs.Ahead.{by_of, pages_in, pages_from, ahead, Skips, IsUnderWay, IsAlong, ComesNext, HasPage, first_page}
+use Rattle.wbt_writer.specs.Ahead.{by_of, pages_in, pages_from, ahead, IsUnderWay, ComesNext}
 use Rattle.wbt_writer.specs.declared.task.Next.TheVariants as next
 use Rattle.std.proofs.lemmas.List.Sums.{get_or-le-sum_by}
-use Rattle.wbt_num.specs.declared.most.TheConstants.{MOST_PAGES}
 use Rattle.wbt_trace.specs.declared.ranges.TheConstants.{MOST_COUNT}
 
 -- ---- lists

@@ -3,39 +3,22 @@ use Rattle.std.proofs.Common.{◌≡◌, ◌≢◌, ℕ, ℤ, pos, negsuc, ◌^�
 use Rattle.std.specs.Prelude.{IfSome, unsigned_abs}
 use Rattle.std.proofs.lemmas.List.Elements.{All-get_or}
 use Rattle.wbt_num.specs.Limits.{IsLawful as AreLawful}
-use Rattle.wbt_flex.specs.declared.share.Fraction.{Fraction}
-use Rattle.wbt_run_steps.specs.declared.loads.DomainLoad.{DomainLoad}
-use Rattle.wbt_counter.specs.History.{at_least_zero}
-use Rattle.wbt_counter.specs.declared.counter.Count.{Count}
+use Rattle.wbt_writer.proofs.Common.{at_least_zero, Count, Estimate, IsInRange, CheckEntry, DomainLine, IsCounted, Decision, note_of, known_of, is_strict, context_at, writer_of, IsLawful, Trace, DomainLoad, Kit, Seats, Wait, reads_for, cpu_of, task_at, AreProper, fractions_of, HasGroupLine, HasLines, LinesRead, fractions_after}
+use Rattle.wbt_kit.proofs.Common.{Fraction, after_read, first_in, least_shares, Device}
 use Rattle.wbt_estimate.specs.Estimate.{IsSound}
-use Rattle.wbt_estimate.specs.declared.estimate.Estimate.{Estimate}
-use Rattle.wbt_journal.specs.Checks.{IsInRange, IsPart, IsRead, cgroup_read, domain_read}
-use Rattle.wbt_journal.specs.declared.entry.CheckEntry.{CheckEntry}
-use Rattle.wbt_journal.specs.declared.entry.DomainLine.{DomainLine}
-use Rattle.wbt_kit.specs.declared.kit.Kit.{Kit}
-use Rattle.wbt_kit.specs.declared.kit.Seats.{Seats}
+use Rattle.wbt_journal.specs.Checks.{IsPart, IsRead, cgroup_read, domain_read}
 use Rattle.wbt_pause.specs.Claims.{MayBeGranted}
-use Rattle.wbt_pause.specs.Reads.{EachDomain, IsCounted, StaysSmall}
-use Rattle.wbt_pause.specs.declared.decision.Decision.{Decision}
-use Rattle.wbt_pause.specs.declared.decision.Kind.TheVariants.{Wait}
+use Rattle.wbt_pause.specs.Reads.{EachDomain, StaysSmall}
 use Rattle.wbt_pause.specs.declared.reads.Reads.{Reads}
 use Rattle.wbt_pause.specs.declared.reads.Task.{Task as Numbers}
 use Rattle.wbt_position.specs.declared.ratio.DomainRead.{DomainRead}
-use Rattle.wbt_published.specs.Known.{after_read, first_in, note_of}
-use Rattle.wbt_published.specs.Passes.{known_of}
 use Rattle.wbt_rules.proofs.Parts.{part_is_within}
-use Rattle.wbt_rules.specs.Strict.{is_strict}
-use Rattle.wbt_rules.specs.Things.{context_at, device_at}
+use Rattle.wbt_rules.specs.Things.{device_at}
 use Rattle.wbt_strict.specs.Decision.{decision_for}
-use Rattle.wbt_task.specs.History.{writer_of}
-use Rattle.wbt_trace.specs.Lawful.{IsDevice, IsLawful}
-use Rattle.wbt_trace.specs.Sofar.{least_shares}
-use Rattle.wbt_trace.specs.declared.trace.Device.{Device}
-use Rattle.wbt_trace.specs.declared.trace.Trace.{Trace}
-use Rattle.wbt_writer.specs.Asked.{Asked, reads_for}
-use Rattle.wbt_writer.specs.Counted.{cpu_of, task_at}
-use Rattle.wbt_writer.specs.Desk.{AreProper, IsProper, fractions_of}
-use Rattle.wbt_writer.specs.Lines.{HasGroupLine, HasLines, LinesRead, fractions_after, share_after}
+use Rattle.wbt_trace.specs.Lawful.{IsDevice}
+use Rattle.wbt_writer.specs.Asked.{Asked}
+use Rattle.wbt_writer.specs.Desk.{IsProper}
+use Rattle.wbt_writer.specs.Lines.{share_after}
 use Rattle.wbt_writer.specs.Loads.{AreInRange}
 use Rattle.wbt_writer.specs.Loads.{IsInRange as IsLoadInRange}
 use Rattle.wbt_writer.specs.declared.lines.Lines.{Lines}

@@ -1,15 +1,9 @@
 -- A step of the CPU changes its record, and nothing else of the seats.
 use Rattle.std.proofs.Common.{◌≡◌, ℕ, refl, sym, ap, ◌∙◌, subst}
-use Rattle.wbt_grant.specs.declared.record.CpuRecord.{CpuRecord}
-use Rattle.wbt_kit.specs.declared.kit.Kit.{Kit}
-use Rattle.wbt_kit.specs.declared.kit.Seats.{Seats}
-use Rattle.wbt_run_steps.specs.Records.{IsApart, OnlyCpu}
-use Rattle.wbt_run_steps.proofs.Changing.{apart_changed, apart_more, record_is, seats_stay}
-use Rattle.wbt_table.specs.Rule.{Has}
-use Rattle.wbt_table.specs.Seat.{Seated, Changes}
-use Rattle.wbt_table.proofs.Seating.{has_changed}
-use Rattle.wbt_writer.specs.Desk.{Fits, record_in}
-use Rattle.wbt_writer.specs.Loads.{OnTable}
+use Rattle.wbt_writer.proofs.Common.{CpuRecord, Has, Seated, Changes, Kit, Seats, OnlyCpu, apart_more, record_is, Fits, record_in, OnTable}
+use Rattle.wbt_kit.proofs.Common.{has_changed}
+use Rattle.wbt_run_steps.specs.Records.{IsApart}
+use Rattle.wbt_run_steps.proofs.Changing.{apart_changed, seats_stay}
 
 pub apart_same : (c : ℕ) (old new : Seated) → new ≡ old → IsApart c old new
 apart_same c old new same = record {

@@ -3,66 +3,29 @@ use Rattle.std.proofs.Common.{◌≡◌, ◌≢◌, ℕ, ◌<◌, ◌≤◌, inl
 use Rattle.std.specs.Prelude.{Contains}
 use Rattle.std.proofs.lemmas.Bool.{cases_eq, cond-true}
 use Rattle.std.proofs.lemmas.List.{get_or-set_same, get_or-set_other, length-map, length-set}
-use Rattle.wbt_num.specs.declared.most.TheConstants.{MOST_PAGE_STEPS}
-use Rattle.wbt_book.specs.Ledger.{times_in}
-use Rattle.wbt_estimate.specs.declared.estimate.Estimate.{Estimate}
+use Rattle.wbt_writer.proofs.Common.{MOST_PAGE_STEPS, times_in, Estimate, Setting, writer_in, CpuRecord, WriterRecord, note_of, IsInRange, tells, context_domain, ratelimit_pages, contexts, Side, all_writers, item, settle, task_of, is_own_task, checked, CheckEntry, CpuJournal, Decision, Kind, known_of, DomainLine, is_strict, setting, Seated, Cpu, cpu_step, new_writer, writer_of, Checked, Writer, Trace, IsOwn, Grew, WereHeld, limits_in, Kit, Seats, Wait, record_of, EstimatesGrew, Notes, SharesGrew, SideWalked, Wrote, writer_at, Gives, given_by, reads_for, Checks, OthersStay, cpu_of, is_due_at, rest_after, side_of, task_at, written_of, no_name, state_of, AreAt, HaveLefts, HaveRead, IsGoing, OwesNothing, Sight, fractions_of, notes_of, record_in, sight, Did, Keeps, HasLines, LinesRead, fractions_after, Gets, LoadedAll, loads_in, triples_in, IsCheck, apart_more}
+use Rattle.wbt_kit.proofs.Common.{fits_length, domains, first_estimates, Layout}
 use Rattle.wbt_fraction.specs.Several as fraction
-use Rattle.wbt_fraction.proofs.Fitting.{fits_length}
-use Rattle.wbt_grant.specs.Setting.{Setting}
-use Rattle.wbt_grant.specs.State.{writer_in}
-use Rattle.wbt_grant.specs.declared.record.CpuRecord.{CpuRecord}
-use Rattle.wbt_grant.specs.declared.record.WriterRecord.{WriterRecord}
 use Rattle.wbt_fraction.specs.Seat.{Seated as ShareSeat}
-use Rattle.wbt_run_laws.specs.Owns.{IsOwn}
 use Rattle.wbt_run_laws.specs.Noted.{DecidesByRead}
-use Rattle.wbt_run_laws.specs.Grew.{Grew}
-use Rattle.wbt_run_laws.specs.Held.{WereHeld, limits_in}
-use Rattle.wbt_published.specs.Known.{note_of}
-use Rattle.wbt_journal.specs.Checks.{IsInRange, asked_by}
-use Rattle.wbt_journal.specs.Items.{tells}
-use Rattle.wbt_journal.specs.Machine.{context_domain, ratelimit_pages, contexts, domains}
-use Rattle.wbt_journal.specs.Side.{Side, all_writers, check_by as check_side, item, settle, task_of, is_own_task}
-use Rattle.wbt_journal.specs.Told.{checked}
-use Rattle.wbt_journal.specs.declared.entry.CheckEntry.{CheckEntry}
-use Rattle.wbt_journal.specs.declared.entry.CpuJournal.{CpuJournal}
-use Rattle.wbt_kit.specs.declared.kit.Kit.{Kit}
-use Rattle.wbt_kit.specs.declared.kit.Seats.{Seats}
-use Rattle.wbt_pause.specs.declared.decision.Decision.{Decision}
-use Rattle.wbt_pause.specs.declared.decision.Kind.{Kind}
-use Rattle.wbt_pause.specs.declared.decision.Kind.TheVariants.{Wait}
+use Rattle.wbt_journal.specs.Checks.{asked_by}
+use Rattle.wbt_journal.specs.Side.{check_by as check_side}
 use Rattle.wbt_pause.specs.declared.reads.Task.{Task as Numbers}
 use Rattle.wbt_published.specs.Passes as est
-use Rattle.wbt_published.specs.Passes.{known_of}
-use Rattle.wbt_journal.specs.declared.entry.DomainLine.{DomainLine}
-use Rattle.wbt_run_steps.specs.Records.{firsts_of, record_of}
+use Rattle.wbt_run_steps.specs.Records.{firsts_of}
 use Rattle.wbt_queue.specs.Passes as queue
-use Rattle.wbt_rules.specs.First.{first_estimates}
-use Rattle.wbt_rules.specs.Strict.{is_strict}
 use Rattle.wbt_strict.specs.Decision.{decision_for}
-use Rattle.wbt_table.specs.Layout.{setting}
-use Rattle.wbt_table.specs.Seat.{Seated}
-use Rattle.wbt_table.specs.declared.layout.Layout.{Layout}
-use Rattle.wbt_task.specs.History.{Cpu, checked_writer, cpu_step, due_again, new_writer, writer_of}
+use Rattle.wbt_task.specs.History.{checked_writer, due_again}
 use Rattle.wbt_task.specs.declared.allowance.Due.TheVariants as due
-use Rattle.wbt_task.specs.declared.history.Event.TheVariants.{Checked}
-use Rattle.wbt_task.specs.declared.history.Writer.{Writer}
-use Rattle.wbt_trace.specs.declared.trace.Trace.{Trace}
 use Rattle.wbt_run_laws.specs.Log.{with_check}
-use Rattle.wbt_run_laws.specs.Notes.{AreKept, EstimatesGrew, Notes, SharesGrew}
-use Rattle.wbt_run_laws.specs.Shown.{SideWalked, Wrote}
-use Rattle.wbt_run_laws.specs.Throttle.{writer_at}
+use Rattle.wbt_run_laws.specs.Notes.{AreKept}
 use Rattle.wbt_run_laws.proofs.Entering.{others_write_none}
 use Rattle.wbt_run_laws.proofs.Lists.{here}
 use Rattle.wbt_run_laws.proofs.Logging.{logged_check}
 use Rattle.wbt_run_steps.specs.Reads.{ReadsEstimate}
-use Rattle.wbt_writer.specs.Asked.{Gives, check_by, given_by, reads_for}
-use Rattle.wbt_writer.specs.Checks.{Checks}
-use Rattle.wbt_writer.specs.Counted.{OthersStay, cpu_of, is_due_at, rest_after, side_of, task_at, written_of, no_name, state_of}
-use Rattle.wbt_writer.specs.Desk.{AreAt, HaveLefts, HaveRead, IsGoing, OwesNothing, Sight, fractions_of, notes_of, record_in, sight}
-use Rattle.wbt_writer.specs.Did.{Did, Keeps, OwesNoMore}
-use Rattle.wbt_writer.specs.Lines.{HasLines, LinesRead, ReadsGroup, fractions_after}
-use Rattle.wbt_writer.specs.Loads.{Gets, LoadedAll, loads_in, triples_in}
-use Rattle.wbt_writer.specs.Took.{IsCheck}
+use Rattle.wbt_writer.specs.Asked.{check_by}
+use Rattle.wbt_writer.specs.Did.{OwesNoMore}
+use Rattle.wbt_writer.specs.Lines.{ReadsGroup}
 use Rattle.wbt_writer.specs.declared.lines.Lines.{Lines}
 use Rattle.wbt_writer.specs.declared.loads.Loads.{Loads}
 use Rattle.wbt_writer.specs.declared.task.TaskPlace.{TaskPlace}
@@ -70,7 +33,6 @@ use Rattle.wbt_writer.specs.declared.tasks.Tasks.{Tasks}
 use Rattle.wbt_writer.specs.declared.work.Fractions.{Fractions}
 use Rattle.wbt_writer.specs.declared.work.WriterWork.{WriterWork}
 use Rattle.wbt_writer.proofs.Acting.{notes_with}
-use Rattle.wbt_run_steps.proofs.Changing.{apart_more}
 use Rattle.wbt_writer.proofs.Changing.{apart_same}
 use Rattle.wbt_writer.proofs.Facts.{context_there, group_line_is, inside, is_own, may_check, number_is, own_check, domain_below}
 use Rattle.wbt_writer.proofs.Judging.{Left, check_estimates, check_grew, check_held, check_holds, check_readings, check_triples, given_leaves, given_others, given_own, has_note}

@@ -1,8 +1,8 @@
 -- The search for the next turn goes on.
 use Rattle.std.proofs.Common.{◌≡◌, ℕ, ◌+◌, ◌<◌, ◌≤◌, inl, inr, Bool, true, false, ◌&&◌, cond, nat_le, min, Option, Some, None, length, refl, sym, ap, ◌∙◌, subst, arith, true≢false}
 use Rattle.std.proofs.lemmas.Bool.{cases_Bool, leb-true, leb-false}
-use Rattle.wbt_writer.specs.Choice.{AllEnded, AllRest, HasLeast, IsChosen, IsFirst, IsLeast, IsOpen, end_of, is_open, sooner_of}
-use Rattle.wbt_writer.specs.Counted.{task_at}
+use Rattle.wbt_writer.proofs.Common.{AllEnded, task_at}
+use Rattle.wbt_writer.specs.Choice.{AllRest, HasLeast, IsChosen, IsFirst, IsLeast, IsOpen, end_of, is_open, sooner_of}
 use Rattle.wbt_writer.specs.declared.choose.Chosen.TheVariants as chosen
 use Rattle.wbt_writer.specs.declared.task.TaskPlace.{TaskPlace}
 use Rattle.wbt_writer.specs.declared.tasks.Tasks.{Tasks}

@@ -2,19 +2,17 @@
 use Rattle.std.proofs.Common.{◌≡◌, ◌≢◌, ℕ, ◌+◌, ◌^◌, ◌<◌, ◌≤◌, inl, inr, false, ◌&&◌, eqb, List, [], ◌∷◌, length, map, drop, get_or, All, refl, sym, ap, ◌∙◌, subst, arith, eq-eqb, ne_eqb}
 use Rattle.std.proofs.lemmas.Bool.{cond-true, cond-false, cases_eq}
 use Rattle.std.proofs.lemmas.List.{drop_more, drop_all}
-use Rattle.wbt_journal.specs.Side.{numbers_from, number_from}
-use Rattle.wbt_task.specs.Allowance.{first, ended}
+use Rattle.wbt_writer.proofs.Common.{numbers_from, number_from, AllHavePagesLeft, counted, Cpu, cpu_after, cpu_step, new_writer, writer_of, Ended, Writer, same_writers, others_stay, first, OnlyEnds}
+use Rattle.wbt_task.specs.Allowance.{ended}
 use Rattle.std.proofs.lemmas.List.Elements.{All-cons, All-nil}
-use Rattle.wbt_task.specs.Counts.{AllHavePagesLeft, LeavesPages, Settles, counted, is_write}
-use Rattle.wbt_task.specs.History.{Along, Cpu, HasRoom, IsOfWriter, cpu_after, cpu_step, new_writer, writer_of}
+use Rattle.wbt_task.specs.Counts.{LeavesPages, Settles, is_write}
+use Rattle.wbt_task.specs.History.{Along, HasRoom, IsOfWriter}
 use Rattle.wbt_task.specs.declared.allowance.Due.TheVariants as due
 use Rattle.wbt_task.specs.declared.history.Event.{Event}
-use Rattle.wbt_task.specs.declared.history.Event.TheVariants.{Ended}
-use Rattle.wbt_task.specs.declared.history.Writer.{Writer}
-use Rattle.wbt_task.proofs.Keeping.{same_writers, others_stay, event_keeps, new_is}
+use Rattle.wbt_task.proofs.Keeping.{event_keeps, new_is}
 use Rattle.wbt_task.proofs.Leaving.{pages_are_left, room_is_kept}
 use Rattle.wbt_trace.specs.declared.writers.Writer.{Writer as Name}
-use Rattle.wbt_writer.specs.Counted.{OnlyEnds, ends_from}
+use Rattle.wbt_writer.specs.Counted.{ends_from}
 
 -- ---- one event
 

@@ -2,69 +2,31 @@
 use Rattle.std.proofs.Common.{◌≡◌, ◌≢◌, ℕ, zero, suc, ◌+◌, ◌-◌, ◌<◌, ◌≤◌, inl, inr, Bool, true, false, ◌&&◌, cond, not, eqb, List, [], ◌∷◌, length, map, drop, get_or, slice_get, Option, Some, refl, sym, ap, ◌∙◌, subst, arith, nat_lt, ne_eqb, pos, true≢false}
 use Rattle.std.proofs.lemmas.Bool.{cases_eq, cond_both, cond-true, lt-ltb}
 use Rattle.std.proofs.lemmas.List.{get_or-set_same, get_or-set_other, length-map, length-set}
-use Rattle.wbt_book.specs.Ledger.{times_in}
-use Rattle.wbt_book.specs.PageWords.{bits_at}
-use Rattle.wbt_counter.specs.Sums.{one_if}
-use Rattle.wbt_counter.specs.declared.counter.Counter.{Counter}
-use Rattle.wbt_counter.specs.declared.counter.Counter.TheVariants.{Domain}
+use Rattle.wbt_writer.proofs.Common.{times_in, Counter, Domain, record_after, Setting, writer_in, CpuRecord, WriterRecord, is_due, Each, tells, pages_of_task, ratelimit_pages, Side, all_writers, is_own_task, item, number_of, settle, task_of, with_page, write_fresh, wrote, CpuJournal, HasCounter, setting, Has, Holds, Changes, Makes, Dirtied, Fresh, Already, Cpu, cpu_step, new_writer, writer_of, Writer, inode_at, Trace, Kit, Seats, OnlyCpu, record_is, Due, Grew, Logged, SideWalked, Wrote, writer_at, each_map, steps_grow, HasPage, first_page, AreTasksOf, KeepsFixed, OthersStay, cpu_of, no_name, side_of, state_of, task_at, written_of, AreAt, HaveLefts, IsGoing, OwesNothing, record_in, sight, Does, Keeps, StepsToDirty, AreOver, IsOver, own_of, Dirties}
+use Rattle.wbt_kit.proofs.Common.{bits_at, one_if, Owed, dirty, counters_of, page_context, pages, CanDirty, HasPageSteps}
 use Rattle.wbt_counter.specs.declared.record.Debt.TheVariants as debt
-use Rattle.wbt_counter.specs.declared.record.Owed.{Owed}
 use Rattle.wbt_fraction.specs.Several as fraction
-use Rattle.wbt_grant.specs.Kinds.{dirty}
 use Rattle.wbt_grant.specs.Record
-use Rattle.wbt_grant.specs.Seats.{record_after}
-use Rattle.wbt_grant.specs.Setting.{Setting, counters_of}
-use Rattle.wbt_grant.specs.State.{writer_in}
-use Rattle.wbt_grant.specs.declared.record.CpuRecord.{CpuRecord}
-use Rattle.wbt_grant.specs.declared.record.WriterRecord.{WriterRecord}
 use Rattle.wbt_grant.specs.declared.who.StepKind.TheVariants as kind
 use Rattle.wbt_grant.specs.declared.who.Word.TheVariants as word
-use Rattle.wbt_journal.specs.Checks.{is_due}
-use Rattle.wbt_journal.specs.Each.{Each}
-use Rattle.wbt_journal.specs.Items.{tells}
-use Rattle.wbt_journal.specs.Machine.{page_context, pages, pages_of_task, ratelimit_pages}
-use Rattle.wbt_journal.specs.Side.{Side, all_writers, is_own_task, item, number_of, settle, task_of, with_page, write_fresh, write_page}
-use Rattle.wbt_journal.specs.Told.{wrote}
-use Rattle.wbt_journal.specs.declared.entry.CpuJournal.{CpuJournal}
+use Rattle.wbt_journal.specs.Side.{write_page}
 use Rattle.wbt_journal.specs.declared.entry.Entry.TheVariants as entry
-use Rattle.wbt_kit.specs.declared.kit.Kit.{Kit}
-use Rattle.wbt_kit.specs.declared.kit.Seats.{Seats}
 use Rattle.wbt_run_steps.specs.Debts.{AreOnce}
 use Rattle.wbt_run_steps.proofs.Logging.{makes_as}
-use Rattle.wbt_run_steps.specs.Records.{OnlyCpu}
 use Rattle.wbt_run_steps.specs.Steps.{AreOwed}
-use Rattle.wbt_run_steps.proofs.Changing.{record_is}
 use Rattle.wbt_run_steps.proofs.Ordering.{page_once}
 use Rattle.wbt_queue.specs.Passes as queue
-use Rattle.wbt_table.specs.Calls.{CanDirty, HasPageSteps, TellsDirty}
-use Rattle.wbt_table.specs.Layout.{HasCounter, setting}
-use Rattle.wbt_table.specs.Rule.{Has, Holds}
-use Rattle.wbt_table.specs.Seat.{Changes, Makes}
-use Rattle.wbt_table.specs.declared.answer.Dirtied.{Dirtied}
-use Rattle.wbt_table.specs.declared.answer.Dirtied.TheVariants.{Fresh, Already}
-use Rattle.wbt_task.specs.History.{Cpu, cpu_step, new_writer, wrote_page, wrote_writer, writer_of}
-use Rattle.wbt_task.specs.declared.allowance.Due.{Due}
+use Rattle.wbt_table.specs.Calls.{TellsDirty}
+use Rattle.wbt_task.specs.History.{wrote_page, wrote_writer}
 use Rattle.wbt_task.specs.declared.allowance.Due.TheVariants as due
 use Rattle.wbt_task.specs.declared.history.Event.TheVariants as history
-use Rattle.wbt_task.specs.declared.history.Writer.{Writer}
-use Rattle.wbt_trace.specs.Sofar.{inode_at}
-use Rattle.wbt_trace.specs.declared.trace.Trace.{Trace}
 use Rattle.wbt_trace.specs.declared.writers.Writer.{Writer as Name}
-use Rattle.wbt_run_laws.specs.Grew.{Grew}
-use Rattle.wbt_run_laws.specs.Log.{Logged, with_entry}
-use Rattle.wbt_run_laws.specs.Shown.{SideWalked, Wrote}
-use Rattle.wbt_run_laws.specs.Throttle.{writer_at}
+use Rattle.wbt_run_laws.specs.Log.{with_entry}
 use Rattle.wbt_run_laws.proofs.Entering.{write_is_next}
-use Rattle.wbt_run_laws.proofs.Lists.{each_map}
 use Rattle.wbt_run_laws.proofs.Logging.{logged_entry}
-use Rattle.wbt_run_laws.proofs.Stepping.{steps_grow}
-use Rattle.wbt_writer.specs.Ahead.{HasPage, first_page}
-use Rattle.wbt_writer.specs.Counted.{AreTasksOf, IsJob, KeepsFixed, OthersStay, Passes, cpu_of, no_name, side_of, state_of, task_at, written_of}
-use Rattle.wbt_writer.specs.Desk.{AreAt, HaveLefts, IsGoing, OwesNothing, record_in, sight}
-use Rattle.wbt_writer.specs.Did.{Does, Keeps}
-use Rattle.wbt_writer.specs.Kinds.{OwesEvents, StepsToDirty}
-use Rattle.wbt_writer.specs.Over.{AreOver, IsOver, own_of}
-use Rattle.wbt_writer.specs.Writes.{Dirties, OwesMark, is_fresh}
+use Rattle.wbt_writer.specs.Counted.{IsJob, Passes}
+use Rattle.wbt_writer.specs.Kinds.{OwesEvents}
+use Rattle.wbt_writer.specs.Writes.{OwesMark, is_fresh}
 use Rattle.wbt_writer.specs.declared.task.TaskPlace.{TaskPlace}
 use Rattle.wbt_writer.specs.declared.tasks.TaskJob.TheVariants as job
 use Rattle.wbt_writer.specs.declared.work.WriterWork.{WriterWork}

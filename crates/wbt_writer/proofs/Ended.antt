@@ -2,37 +2,14 @@
 use Rattle.std.proofs.Common.{◌≡◌, ◌≢◌, ℕ, ◌^◌, ◌<◌, ◌≤◌, inl, inr, true, sym, ap, ◌∙◌, subst, arith}
 use Rattle.std.proofs.lemmas.Bool.{cases_eq}
 use Rattle.std.proofs.lemmas.List.Sums.{get_or-le-sum_by}
-use Rattle.wbt_grant.specs.Kinds.{MayGrant}
-use Rattle.wbt_journal.specs.Machine.{context_domain, ratelimit_pages}
-use Rattle.wbt_journal.specs.Side.{check_by as check_side, settle}
-use Rattle.wbt_journal.specs.declared.entry.CheckEntry.{CheckEntry}
-use Rattle.wbt_journal.specs.declared.entry.CpuJournal.{CpuJournal}
-use Rattle.wbt_kit.specs.declared.kit.Kit.{Kit}
-use Rattle.wbt_kit.specs.declared.kit.Seats.{Seats}
+use Rattle.wbt_writer.proofs.Common.{MayGrant, context_domain, ratelimit_pages, settle, CheckEntry, CpuJournal, Decision, is_strict, setting, Seated, dirtied_by, new_writer, writer_of, IsLawful, Trace, IsInRange, all_writers, number_of, Kit, Seats, Wait, record_of, Gives, reads_for, Checks, AreTasksOf, KeepsFixed, OthersStay, cpu_of, is_due_at, rest_after, side_of, task_at, AreAt, Fits, HaveLefts, HaveRead, IsGoing, OwesNothing, record_in, sight, LoadedAll, AreOver, IsOver, own_of, no_name, state_of}
+use Rattle.wbt_journal.specs.Side.{check_by as check_side}
 use Rattle.wbt_rules.specs.Things.{group_of}
-use Rattle.wbt_pause.specs.declared.decision.Decision.{Decision}
-use Rattle.wbt_pause.specs.declared.decision.Kind.TheVariants.{Wait}
 use Rattle.wbt_pause.specs.declared.reads.Task.{Task as Numbers}
-use Rattle.wbt_rules.specs.Strict.{is_strict}
-use Rattle.wbt_run_steps.specs.Records.{record_of}
 use Rattle.wbt_strict.proofs.Deciding.{leaves_within_cap}
-use Rattle.wbt_table.specs.Layout.{setting}
-use Rattle.wbt_table.specs.Seat.{Seated}
-use Rattle.wbt_task.specs.Counts.{dirtied_by}
-use Rattle.wbt_task.specs.History.{new_writer, writer_of}
-use Rattle.wbt_trace.specs.Lawful.{IsLawful}
-use Rattle.wbt_trace.specs.declared.trace.Trace.{Trace}
 use Rattle.wbt_run_laws.specs.Log.{with_check}
-use Rattle.wbt_writer.specs.Asked.{Asked, Gives, check_by, reads_for}
-use Rattle.wbt_journal.specs.Checks.{IsInRange}
-use Rattle.wbt_writer.specs.Checks.{Checks}
-use Rattle.wbt_writer.specs.Counted.{AreTasksOf, KeepsFixed, OthersStay, cpu_of, is_due_at, rest_after, side_of, task_at}
-use Rattle.wbt_writer.specs.Desk.{AreAt, Fits, HaveLefts, HaveRead, IsGoing, OwesNothing, record_in, sight}
-use Rattle.wbt_writer.specs.Loads.{LoadedAll}
-use Rattle.wbt_writer.specs.Over.{AreOver, IsOver, own_of}
-use Rattle.wbt_journal.specs.Side.{all_writers, number_of}
+use Rattle.wbt_writer.specs.Asked.{Asked, check_by}
 use Rattle.wbt_trace.specs.declared.writers.Writer.{Writer as Name}
-use Rattle.wbt_writer.specs.Counted.{no_name, state_of}
 use Rattle.std.specs.Prelude.{get_or, length}
 use Rattle.std.proofs.lemmas.List.{length-map}
 use Rattle.wbt_writer.proofs.Checking.{step_others}

@@ -1,22 +1,12 @@
 -- A turn of a CPU's writers from state to state.
 use Rattle.std.proofs.Common.{◌≡◌, ℕ, suc, ◌+◌, ◌<◌, Bool, true, false, List, length, get_or, set, refl, sym, ap, ◌∙◌, subst, arith, eq-eqb, eqb-true, true≢false}
 use Rattle.std.proofs.lemmas.List.{get_or-set_same, length-set}
-use Rattle.wbt_grant.specs.Kinds.{mark}
-use Rattle.wbt_journal.specs.declared.entry.CpuJournal.{CpuJournal}
-use Rattle.wbt_kit.specs.declared.kit.Kit.{Kit}
-use Rattle.wbt_kit.specs.declared.kit.Seats.{Seats}
+use Rattle.wbt_writer.proofs.Common.{mark, CpuJournal, setting, Makes, Seated, Fresh, Trace, Kit, Seats, Stepped, Resting, Done, Halted, Spent, no_task, task_at, Sight, sight, OnlyPuts}
 use Rattle.wbt_kit.specs.declared.turn.Turn.{Turn}
-use Rattle.wbt_kit.specs.declared.turn.Turn.TheVariants.{Stepped, Resting, Done, Halted, Faulted, Spent, NoMemory}
+use Rattle.wbt_kit.specs.declared.turn.Turn.TheVariants.{Faulted, NoMemory}
 use Rattle.wbt_queue.specs.Passes as queue
 use Rattle.wbt_run_steps.specs.Inodes.{MarksInode as Marked}
-use Rattle.wbt_table.specs.Layout.{setting}
-use Rattle.wbt_table.specs.Seat.{Makes, Seated}
-use Rattle.wbt_table.specs.declared.answer.Dirtied.TheVariants.{Fresh}
-use Rattle.wbt_trace.specs.declared.trace.Trace.{Trace}
 use Rattle.wbt_writer.specs.Answers.{Goes}
-use Rattle.wbt_writer.specs.Counted.{no_task, task_at}
-use Rattle.wbt_writer.specs.Desk.{Sight, sight}
-use Rattle.wbt_writer.specs.Did.{OnlyPuts}
 use Rattle.wbt_writer.specs.Exact.{DirtiesPage, FinishTook, IsFirstFrom, MarksInode, PutsBefore, PutsInode, PutsNext, PutsWaiting, TakesSome, TakesTurn, TookBy, WriteTook, WriterTakes, WritesNone, after_its_page, was_clean}
 use Rattle.wbt_writer.specs.declared.task.TaskPlace.{TaskPlace}
 use Rattle.wbt_writer.specs.declared.tasks.Tasks.{Tasks}

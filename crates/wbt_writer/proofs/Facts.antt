@@ -2,31 +2,15 @@
 use Rattle.std.proofs.Common.{◌≡◌, ℕ, ◌<◌, true, eqb, [], ◌∷◌, length, get_or, Option, Some, None, refl, sym, ap, ◌∙◌, subst, arith, eq-eqb, ne_eqb, true≢false, nat_lt}
 use Rattle.std.proofs.lemmas.Bool.{cond-false, cond-true, lt-ltb, ltb-true}
 use Rattle.std.proofs.lemmas.List.Elements.{All-get_or}
-use Rattle.wbt_journal.specs.Checks.{MayCheck, domains_asked, domains_read, due_of, is_due}
-use Rattle.wbt_journal.specs.Counts.{cgroup_reads}
-use Rattle.wbt_journal.specs.Each.{Each}
-use Rattle.wbt_journal.specs.Machine.{context_domain, contexts, domains}
-use Rattle.wbt_journal.specs.Side.{all_writers, is_own_task, number_of}
-use Rattle.wbt_journal.specs.declared.entry.CheckEntry.{CheckEntry}
-use Rattle.wbt_journal.specs.declared.entry.DomainLine.{DomainLine}
-use Rattle.wbt_kit.specs.declared.kit.Kit.{Kit}
-use Rattle.wbt_kit.specs.declared.kit.Seats.{Seats}
-use Rattle.wbt_rules.specs.Things.{context_at}
-use Rattle.wbt_task.specs.History.{writer_of}
-use Rattle.wbt_task.specs.declared.allowance.Due.{Due}
+use Rattle.wbt_writer.proofs.Common.{is_due, cgroup_reads, Each, context_domain, contexts, all_writers, is_own_task, number_of, CheckEntry, DomainLine, context_at, writer_of, IsLawful, Trace, Kit, Seats, Due, IsTaskOf, cpu_of, is_due_at, no_name, side_of, task_at, AreAt, IsGoing, IsGroup, DomainLoad, HasGroupLine}
+use Rattle.wbt_kit.proofs.Common.{domains, Context}
+use Rattle.wbt_journal.specs.Checks.{MayCheck, domains_asked, domains_read, due_of}
 use Rattle.wbt_task.specs.declared.allowance.Due.TheVariants as due
-use Rattle.wbt_trace.specs.Lawful.{IsContext, IsLawful}
-use Rattle.wbt_trace.specs.declared.trace.Context.{Context}
-use Rattle.wbt_trace.specs.declared.trace.Trace.{Trace}
+use Rattle.wbt_trace.specs.Lawful.{IsContext}
 use Rattle.wbt_trace.specs.declared.writers.Writer.{Writer as Name}
 use Rattle.wbt_run_laws.specs.Owns.{IsOwnCheck}
-use Rattle.wbt_writer.specs.Counted.{IsTaskOf, cpu_of, is_due_at, no_name, side_of, task_at}
-use Rattle.wbt_writer.specs.Desk.{AreAt, IsGoing}
-use Rattle.wbt_writer.specs.Loads.{IsGroup}
 use Rattle.wbt_writer.specs.declared.task.TaskPlace.{TaskPlace}
-use Rattle.wbt_run_steps.specs.declared.loads.DomainLoad.{DomainLoad}
 use Rattle.wbt_writer.specs.declared.work.WriterWork.{WriterWork}
-use Rattle.wbt_writer.specs.Lines.{HasGroupLine}
 use Rattle.wbt_writer.proofs.Pairs.{its_pair}
 use Rattle.wbt_writer.proofs.Settling.{and_left, and_right}
 use Rattle.wbt_writer.proofs.Sharing.{IsGroupLine}

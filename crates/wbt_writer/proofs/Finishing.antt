@@ -1,33 +1,19 @@
 -- What follows a write of a clean page: folds are told, and the inode is marked.
 use Rattle.std.proofs.Common.{◌≡◌, ℕ, ◌≤◌, Bool, true, List, [], append-nil, refl, sym, ◌∙◌, subst, arith}
 use Rattle.std.proofs.lemmas.Bool.{lt-ltb}
-use Rattle.wbt_book.specs.Ledger.{times_in}
-use Rattle.wbt_counter.specs.declared.counter.Counter.{Counter}
-use Rattle.wbt_counter.specs.declared.counter.Counter.TheVariants.{Domain, Context}
-use Rattle.wbt_counter.specs.declared.record.Fold.{Fold}
+use Rattle.wbt_writer.proofs.Common.{times_in, Counter, Domain, tells, contexts, item, side_after, Told, CpuJournal, HasCounter, Trace, Context, Kit, Seats, IsStopped, IsOwn, SideWalked, Wrote, each_map, side_of, written_of, AreAt, OwesNothing, sight, Does, CutOff}
+use Rattle.wbt_kit.proofs.Common.{Fold, domains, writes_after, folded}
 use Rattle.wbt_journal.specs.Checks.{Stands}
-use Rattle.wbt_journal.specs.Items.{tells}
-use Rattle.wbt_journal.specs.Machine.{contexts, domains, has_counter}
-use Rattle.wbt_journal.specs.Pages.{PagesAreNext, writes_after}
-use Rattle.wbt_journal.specs.Side.{item, side_after}
-use Rattle.wbt_journal.specs.Told.{Told, folded}
-use Rattle.wbt_journal.specs.declared.entry.CpuJournal.{CpuJournal}
-use Rattle.wbt_kit.specs.declared.kit.Kit.{Kit}
-use Rattle.wbt_kit.specs.declared.kit.Seats.{Seats}
-use Rattle.wbt_run_steps.specs.Steps.{IsStopped}
-use Rattle.wbt_table.specs.Layout.{HasCounter}
-use Rattle.wbt_trace.specs.declared.trace.Trace.{Trace}
-use Rattle.wbt_run_laws.specs.Owns.{IsOwn}
-use Rattle.wbt_run_laws.specs.Shown.{HaveWritten, SideWalked, Wrote}
+use Rattle.wbt_journal.specs.Machine.{has_counter}
+use Rattle.wbt_journal.specs.Pages.{PagesAreNext}
+use Rattle.wbt_run_laws.specs.Shown.{HaveWritten}
 use Rattle.wbt_run_laws.specs.Walks.{items_told}
-use Rattle.wbt_run_laws.proofs.Lists.{each_map, each_weaker}
+use Rattle.wbt_run_laws.proofs.Lists.{each_weaker}
 use Rattle.wbt_run_laws.proofs.Turning.{as_events, as_items}
 use Rattle.wbt_run_laws.proofs.Walking.{IsSilent, walked_silent, walks_silent}
-use Rattle.wbt_writer.specs.Counted.{side_of, written_of}
-use Rattle.wbt_writer.specs.Desk.{AreAt, OwesNothing, Suits, sight}
-use Rattle.wbt_writer.specs.Did.{Does}
+use Rattle.wbt_writer.specs.Desk.{Suits}
 use Rattle.wbt_writer.specs.Settles.{IsFoldAt}
-use Rattle.wbt_writer.specs.Writes.{CutOff, Finished, Marked}
+use Rattle.wbt_writer.specs.Writes.{Finished, Marked}
 use Rattle.wbt_writer.specs.declared.work.WriterWork.{WriterWork}
 use Rattle.wbt_writer.proofs.Acting.{IsQuietEntry, IsQuietEvent, does_act}
 use Rattle.wbt_writer.proofs.Alone.{keeps_table}

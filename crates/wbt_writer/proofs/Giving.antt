@@ -1,21 +1,9 @@
 -- A writer gets the pages that are left to it.
 use Rattle.std.proofs.Common.{◌≡◌, ◌≢◌, ℕ, refl, sym, ap, ◌∙◌, subst}
-use Rattle.wbt_grant.specs.Kinds.{MayGrant}
+use Rattle.wbt_writer.proofs.Common.{MayGrant, Decision, Kind, CpuRecord, setting, Holds, Changes, Kit, Seats, Wait, OnlyCpu, record_is, Gives, given_by, Fits, record_in}
 use Rattle.wbt_grant.specs.Record.{granted}
-use Rattle.wbt_kit.specs.declared.kit.Kit.{Kit}
-use Rattle.wbt_kit.specs.declared.kit.Seats.{Seats}
-use Rattle.wbt_pause.specs.declared.decision.Decision.{Decision}
-use Rattle.wbt_pause.specs.declared.decision.Kind.{Kind}
-use Rattle.wbt_pause.specs.declared.decision.Kind.TheVariants.{Exempt, Free, Go, Wait}
-use Rattle.wbt_grant.specs.declared.record.CpuRecord.{CpuRecord}
+use Rattle.wbt_pause.specs.declared.decision.Kind.TheVariants.{Exempt, Free, Go}
 use Rattle.wbt_run_steps.specs.Gate.{steps_of}
-use Rattle.wbt_run_steps.specs.Records.{OnlyCpu}
-use Rattle.wbt_run_steps.proofs.Changing.{record_is}
-use Rattle.wbt_table.specs.Layout.{setting}
-use Rattle.wbt_table.specs.Rule.{Holds}
-use Rattle.wbt_table.specs.Seat.{Changes}
-use Rattle.wbt_writer.specs.Asked.{Gives, given_by}
-use Rattle.wbt_writer.specs.Desk.{Fits, record_in}
 use Rattle.wbt_writer.proofs.Changing.{changed}
 
 pub may_give : (cpu : ℕ) (kit : Kit) (w left : ℕ) (seats : Seats) → Fits cpu kit seats → (setting kit.throttle.layout).seat w ≡ cpu

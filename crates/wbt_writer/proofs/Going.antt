@@ -4,37 +4,19 @@ use Rattle.std.proofs.lemmas.Bool.{cases_eq, cases_Bool, ltb-true, ltb-false}
 use Rattle.std.proofs.lemmas.List.{append-nil, length-map}
 use Rattle.std.proofs.lemmas.Option.{slice_get_within}
 use Rattle.wbt_journal.specs.Checks.{MayEnd}
-use Rattle.wbt_journal.specs.Counts.{reads_of}
-use Rattle.wbt_journal.specs.Each.{Each}
+use Rattle.wbt_writer.proofs.Common.{reads_of, Each, Side, end_task, task_of, Told, wrote, CpuJournal, setting, writer_of, Writer, Trace, Kit, Seats, Stepped, Halted, Spent, IsStopped, IsHeld, limits_of, SideWalked, Wrote, writer_at, first_page, Turned, Checks, AreTasksOf, KeepsFixed, OthersStay, cpu_of, side_of, state_of, task_at, written_of, AreOver, IsOver, own_of, AreAt, HaveLefts, HaveRead, IsGoing, OwesNothing, Sight, record_in, sight, Did, Does, IsCheck, CutOff}
+use Rattle.wbt_kit.proofs.Common.{HasNoPageSteps}
 use Rattle.wbt_run_laws.specs.Shown.{none_shown}
-use Rattle.wbt_journal.specs.Side.{Side, end_task, ends, task_of}
-use Rattle.wbt_journal.specs.Told.{Told, wrote}
-use Rattle.wbt_journal.specs.declared.entry.CpuJournal.{CpuJournal}
-use Rattle.wbt_kit.specs.declared.kit.Kit.{Kit}
-use Rattle.wbt_kit.specs.declared.kit.Seats.{Seats}
-use Rattle.wbt_kit.specs.declared.turn.Turn.TheVariants.{Stepped, Halted, Spent}
-use Rattle.wbt_run_steps.specs.Steps.{IsStopped}
-use Rattle.wbt_table.specs.Calls.{HasNoPageSteps}
-use Rattle.wbt_table.specs.Layout.{setting}
-use Rattle.wbt_task.specs.History.{writer_of}
-use Rattle.wbt_task.specs.declared.history.Writer.{Writer}
-use Rattle.wbt_trace.specs.declared.trace.Trace.{Trace}
-use Rattle.wbt_run_laws.specs.Held.{IsHeld, limits_of}
-use Rattle.wbt_run_laws.specs.Shown.{SideWalked, Wrote}
-use Rattle.wbt_run_laws.specs.Throttle.{writer_at}
+use Rattle.wbt_journal.specs.Side.{ends}
 use Rattle.wbt_run_laws.proofs.Growing.{by_nothing}
 use Rattle.wbt_run_laws.proofs.Logging.{logged_nothing}
-use Rattle.wbt_writer.specs.Ahead.{first_page}
-use Rattle.wbt_writer.specs.Answers.{AreHeld, Goes, Turned, WorkMayGoOn}
-use Rattle.wbt_writer.specs.Checks.{Checks, LoadsAlone}
-use Rattle.wbt_writer.specs.Counted.{AreTasksOf, IsJob, KeepsFixed, OthersStay, RestsFor, cpu_of, side_of, state_of, task_at, written_of}
-use Rattle.wbt_writer.specs.Over.{AreOver, IsOver, own_of}
+use Rattle.wbt_writer.specs.Answers.{AreHeld, Goes, WorkMayGoOn}
+use Rattle.wbt_writer.specs.Checks.{LoadsAlone}
+use Rattle.wbt_writer.specs.Counted.{IsJob, RestsFor}
 use Rattle.wbt_writer.proofs.Over.{end_over, no_due_of, own_over}
 use Rattle.wbt_writer.proofs.Standing.{at_tasks}
-use Rattle.wbt_writer.specs.Desk.{AreAt, HaveLefts, HaveRead, IsGoing, OwesNothing, Sight, record_in, sight}
-use Rattle.wbt_writer.specs.Did.{Did, Does}
-use Rattle.wbt_writer.specs.Took.{IsCheck, checks, rests, writes_already, writes_fresh}
-use Rattle.wbt_writer.specs.Writes.{CutOff, Written, WrittenFresh}
+use Rattle.wbt_writer.specs.Took.{checks, rests, writes_already, writes_fresh}
+use Rattle.wbt_writer.specs.Writes.{Written, WrittenFresh}
 use Rattle.wbt_writer.specs.declared.task.TaskPlace.{TaskPlace}
 use Rattle.wbt_writer.specs.declared.tasks.TaskJob.TheVariants as job
 use Rattle.wbt_writer.specs.declared.tasks.Tasks.{Tasks}

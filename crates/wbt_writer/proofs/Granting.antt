@@ -3,29 +3,17 @@ use Rattle.std.proofs.Common.{◌≡◌, ◌≢◌, ℕ, ◌<◌, ◌≤◌, ◌
 use Rattle.std.specs.Prelude.{IfSome}
 use Rattle.std.proofs.lemmas.Bool.{cases_eq, or_cases}
 use Rattle.wbt_counter.specs.Batch.{stat_error}
-use Rattle.wbt_counter.specs.History.{at_least_zero}
+use Rattle.wbt_writer.proofs.Common.{at_least_zero, Count, MayGrant, Setting, WriterRecord, DomainLine, Decision, Trace, Seats, reads_for, record_in, HasGroupLine, HasLines, IsGroup, LoadedAll, DomainLoad}
+use Rattle.wbt_kit.proofs.Common.{Limits}
 use Rattle.wbt_counter.specs.Through.{lets_through}
-use Rattle.wbt_counter.specs.declared.counter.Count.{Count}
 use Rattle.wbt_grant.specs.Bound.{hard_in, is_let_through}
-use Rattle.wbt_grant.specs.Kinds.{MayGrant}
-use Rattle.wbt_grant.specs.Setting.{Setting}
 use Rattle.wbt_grant.specs.State.{kept_of}
 use Rattle.wbt_grant.specs.declared.record.Kept.{Kept}
-use Rattle.wbt_grant.specs.declared.record.WriterRecord.{WriterRecord}
-use Rattle.wbt_journal.specs.declared.entry.DomainLine.{DomainLine}
-use Rattle.wbt_kit.specs.declared.kit.Seats.{Seats}
 use Rattle.wbt_pause.specs.Claims.{MayBeGranted}
-use Rattle.wbt_pause.specs.declared.decision.Decision.{Decision}
 use Rattle.wbt_position.specs.declared.ratio.DomainRead.{DomainRead}
-use Rattle.wbt_num.specs.declared.limits.Limits.{Limits}
 use Rattle.wbt_journal.specs.Checks.{cgroup_read}
-use Rattle.wbt_trace.specs.declared.trace.Trace.{Trace}
-use Rattle.wbt_writer.specs.Asked.{reads_for}
-use Rattle.wbt_writer.specs.Desk.{record_in}
-use Rattle.wbt_writer.specs.Lines.{HasGroupLine, HasLines}
-use Rattle.wbt_writer.specs.Loads.{HasKeptGroup, IsGroup, LoadedAll, kept_by, kept_for}
+use Rattle.wbt_writer.specs.Loads.{HasKeptGroup, kept_by, kept_for}
 use Rattle.wbt_writer.specs.declared.lines.Lines.{Lines}
-use Rattle.wbt_run_steps.specs.declared.loads.DomainLoad.{DomainLoad}
 use Rattle.wbt_writer.specs.declared.loads.Loads.{Loads}
 
 -- the kept loads of a domain let the writer through where what was read of it does

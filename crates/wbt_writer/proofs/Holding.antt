@@ -2,32 +2,10 @@
 use Rattle.std.proofs.Common.{◌≡◌, ◌≢◌, ◌⊎◌, inl, inr, ℕ, eqb, List, [], ◌∷◌, ◌++◌, map, flat_map, Option, Some, None, Contains, arith, refl, sym, ap, ◌∙◌, subst, eq-eqb, ne_eqb}
 use Rattle.std.specs.Prelude.{IfSome}
 use Rattle.std.proofs.lemmas.Bool.{cond-true, cond-false, cond_both}
-use Rattle.wbt_num.specs.declared.limits.Limits.{Limits}
-use Rattle.wbt_grant.specs.Kinds.{limits}
-use Rattle.wbt_grant.specs.Record.{is_whole, read_triple}
-use Rattle.wbt_grant.specs.Seats.{record_after}
-use Rattle.wbt_grant.specs.Setting.{Setting}
-use Rattle.wbt_grant.specs.State.{found_of, held_of, newest_of}
-use Rattle.wbt_grant.specs.declared.record.CpuRecord.{CpuRecord}
-use Rattle.wbt_grant.specs.declared.record.DomainLimits.{DomainLimits}
-use Rattle.wbt_grant.specs.declared.who.Who.{Who}
-use Rattle.wbt_journal.specs.Counts.{reads_of}
-use Rattle.wbt_journal.specs.Each.{Each}
-use Rattle.wbt_journal.specs.Effects.{effect, of_part}
-use Rattle.wbt_journal.specs.Told.{Told}
-use Rattle.wbt_journal.specs.declared.entry.CheckEntry.{CheckEntry}
-use Rattle.wbt_kit.specs.declared.kit.Kit.{Kit}
-use Rattle.wbt_kit.specs.declared.kit.Seats.{Seats}
-use Rattle.wbt_run_laws.specs.Held.{IsHeld, WereHeld, limits_in, limits_of}
-use Rattle.wbt_run_laws.specs.Notes.{Longer}
-use Rattle.wbt_run_steps.specs.Loads.{held_as, triple_of}
-use Rattle.wbt_run_steps.specs.declared.loads.DomainLoad.{DomainLoad}
-use Rattle.wbt_table.specs.Layout.{setting}
-use Rattle.wbt_table.specs.declared.answer.Triple.{Triple}
+use Rattle.wbt_writer.proofs.Common.{record_after, Setting, held_of, CpuRecord, DomainLimits, reads_of, Each, Told, CheckEntry, setting, Triple, Kit, Seats, IsHeld, WereHeld, limits_in, limits_of, Longer, held_as, triple_of, DomainLoad, record_in, IsTimed, IsGroup, group_triples}
+use Rattle.wbt_kit.proofs.Common.{Limits, limits, is_whole, read_triple, found_of, newest_of, Who, effect, of_part}
 use Rattle.wbt_writer.specs.Answers.{AreHeld}
-use Rattle.wbt_writer.specs.Desk.{record_in}
-use Rattle.wbt_writer.specs.Did.{IsTimed}
-use Rattle.wbt_writer.specs.Loads.{HoldsEach, IsGroup, group_triples}
+use Rattle.wbt_writer.specs.Loads.{HoldsEach}
 
 module _ (firsts : ℕ → Limits) where
   -- ---- one after another

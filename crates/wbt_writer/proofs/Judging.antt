@@ -3,43 +3,29 @@ use Rattle.std.proofs.Common.{◌≡◌, ◌≢◌, ℕ, ◌<◌, ◌≤◌, inl
 use Rattle.std.proofs.lemmas.Bool.{cases_eq, cond_both}
 use Rattle.std.proofs.lemmas.List.{get_or-set_same, get_or-set_other}
 use Rattle.std.proofs.lemmas.List.Elements.{Contains-push}
-use Rattle.wbt_counter.specs.declared.counter.Counter.TheVariants.{Context, Domain}
-use Rattle.wbt_counter.specs.declared.record.Reading.{Reading}
+use Rattle.wbt_writer.proofs.Common.{Domain, Estimate, Setting, writer_in, CpuRecord, DomainLimits, WriterRecord, cgroup_reads, reads_of, Each, checked, CheckEntry, DomainLine, Kind, note_of, known_of, Context, Wait, Grew, IsHeld, WereHeld, limits_in, limits_of, EstimatesGrew, Longer, Notes, one, triple_of, given_by, HasGroupLine, HasLines, Gets, group_triples, loads_in, triples_in, DomainLoad}
+use Rattle.wbt_kit.proofs.Common.{Reading, Load, after_read, first_in, Known}
 use Rattle.wbt_estimate.specs.Estimate.{first_at}
-use Rattle.wbt_estimate.specs.declared.estimate.Estimate.{Estimate}
 use Rattle.wbt_grant.specs.Record.{granted}
-use Rattle.wbt_grant.specs.Setting.{Setting}
-use Rattle.wbt_grant.specs.State.{holding, writer_in}
-use Rattle.wbt_grant.specs.declared.record.CpuRecord.{CpuRecord}
-use Rattle.wbt_grant.specs.declared.record.DomainLimits.{DomainLimits}
-use Rattle.wbt_grant.specs.declared.record.WriterRecord.{WriterRecord}
-use Rattle.wbt_journal.specs.Counts.{Load, cgroup_reads, loads_of, read_loads, reads_of}
-use Rattle.wbt_journal.specs.Each.{Each}
-use Rattle.wbt_journal.specs.Told.{checked}
-use Rattle.wbt_journal.specs.declared.entry.CheckEntry.{CheckEntry}
-use Rattle.wbt_journal.specs.declared.entry.DomainLine.{DomainLine}
-use Rattle.wbt_pause.specs.declared.decision.Kind.{Kind}
-use Rattle.wbt_pause.specs.declared.decision.Kind.TheVariants.{Exempt, Free, Go, Wait}
-use Rattle.wbt_published.specs.Known.{after_read, first_in, first_one, note_of}
-use Rattle.wbt_published.specs.Passes.{known_of, Seats as EstPass}
-use Rattle.wbt_published.specs.declared.known.Known.{Known}
+use Rattle.wbt_grant.specs.State.{holding}
+use Rattle.wbt_journal.specs.Counts.{loads_of, read_loads}
+use Rattle.wbt_pause.specs.declared.decision.Kind.TheVariants.{Exempt, Free, Go}
+use Rattle.wbt_published.specs.Known.{first_one}
+use Rattle.wbt_published.specs.Passes.{Seats as EstPass}
 use Rattle.wbt_run_laws.specs.Entries.{NamesSeen}
-use Rattle.wbt_run_laws.specs.Grew.{Gained, Grew, onto, reading_of}
-use Rattle.wbt_run_laws.specs.Held.{IsHeld, WereHeld, limits_in, limits_of}
-use Rattle.wbt_run_laws.specs.Notes.{EstimatesGrew, IsTold, Longer, Notes}
+use Rattle.wbt_run_laws.specs.Grew.{Gained, onto, reading_of}
+use Rattle.wbt_run_laws.specs.Notes.{IsTold}
 use Rattle.wbt_run_laws.specs.Steps.{Gathered}
 use Rattle.wbt_run_laws.proofs.Calling.{read_tells_nothing}
 use Rattle.wbt_run_laws.proofs.Entering.{check_names_seen}
 use Rattle.wbt_run_laws.proofs.Holding.{check_tells}
 use Rattle.wbt_run_laws.proofs.Noting.{told_none}
 use Rattle.wbt_run_laws.proofs.Stepping.{check_grows}
-use Rattle.wbt_run_steps.specs.Loads.{load_of, one, triple_of}
+use Rattle.wbt_run_steps.specs.Loads.{load_of}
 use Rattle.wbt_run_steps.specs.Reads.{ReadsEstimate}
-use Rattle.wbt_writer.specs.Asked.{given_by}
-use Rattle.wbt_writer.specs.Lines.{HasGroupLine, HasLine, HasLines}
-use Rattle.wbt_writer.specs.Loads.{Gets, HoldsEach, group_loads, group_triples, loads_in, triples_in}
+use Rattle.wbt_writer.specs.Lines.{HasLine}
+use Rattle.wbt_writer.specs.Loads.{HoldsEach, group_loads}
 use Rattle.wbt_writer.specs.declared.lines.Lines.{Lines}
-use Rattle.wbt_run_steps.specs.declared.loads.DomainLoad.{DomainLoad}
 use Rattle.wbt_writer.specs.declared.loads.Loads.{Loads}
 use Rattle.wbt_writer.proofs.Holding.{were_held}
 use Rattle.wbt_writer.proofs.Loading.{other_with, own_with}

@@ -3,14 +3,9 @@ use Rattle.std.proofs.Common.{◌≡◌, ◌≢◌, ℕ, suc, ◌+◌, ◌<◌, 
 use Rattle.std.proofs.lemmas.Bool.{cases_eq, cond_both}
 use Rattle.std.proofs.Math.ListN.{get_or-map}
 use Rattle.std.proofs.lemmas.List.{get_or-set_same, get_or-set_other}
-use Rattle.wbt_journal.specs.Machine.{ratelimit_pages, rests_last}
-use Rattle.wbt_journal.specs.Each.{Each}
-use Rattle.wbt_journal.specs.Side.{Side, TaskState, all_writers, end_task, is_none_due, numbers_from, numbers_of, settle, task_of, no_task as no_state}
-use Rattle.wbt_task.specs.History.{Cpu, cpu_after, cpu_step, new_writer, writer_of}
-use Rattle.wbt_task.specs.declared.history.Event.TheVariants.{Ended}
-use Rattle.wbt_trace.specs.declared.trace.Trace.{Trace}
+use Rattle.wbt_writer.proofs.Common.{ratelimit_pages, rests_last, Each, Side, TaskState, all_writers, end_task, is_none_due, numbers_from, settle, task_of, Cpu, cpu_after, cpu_step, new_writer, writer_of, Ended, Trace, no_name, no_task, side_of, state_of, task_at}
+use Rattle.wbt_journal.specs.Side.{numbers_of, no_task as no_state}
 use Rattle.wbt_trace.specs.declared.writers.Writer.{Writer as Name}
-use Rattle.wbt_writer.specs.Counted.{no_name, no_task, side_of, state_of, task_at}
 use Rattle.wbt_writer.specs.declared.tasks.Tasks.{Tasks}
 
 -- ---- ends of other writers

@@ -2,38 +2,20 @@
 use Rattle.std.proofs.Common.{◌≡◌, ◌≢◌, ℕ, inl, inr, eqb, min, List, [], ◌∷◌, ◌++◌, map, Option, Some, None, refl, sym, ap, ◌∙◌, subst, eq-eqb, ne_eqb}
 use Rattle.std.proofs.lemmas.Bool.{cond-true, cond-false, cases_eq}
 use Rattle.std.proofs.lemmas.List.{append-nil, map-append}
-use Rattle.wbt_counter.specs.History.{at_least_zero}
-use Rattle.wbt_counter.specs.Word.{version_in, count_in}
-use Rattle.wbt_counter.specs.declared.counter.Count.{Count}
-use Rattle.wbt_counter.specs.declared.counter.Counter.TheVariants.{Domain, Context}
-use Rattle.wbt_counter.specs.declared.record.Reading.{Reading}
-use Rattle.wbt_grant.specs.Kinds.{count, first, limits, middle}
-use Rattle.wbt_grant.specs.Laws.{NoneAhead}
+use Rattle.wbt_writer.proofs.Common.{at_least_zero, Count, Domain, count, record_after, Setting, held_of, writer_in, CpuRecord, DomainLimits, WriterRecord, Each, Triple, Context, Seats, IsHeld, longer_none, steps_grow, held_as, one, triple_of, record_in, Gets, LoadedAll, LoadedSome, OnTable, group_triples, loads_in, triples_in, DomainLoad}
+use Rattle.wbt_kit.proofs.Common.{version_in, Reading, first, limits, middle, NoneAhead, Load, IsCutLoad, Made, record_of, whole_load, at_once, after_first, after_middle}
+use Rattle.wbt_counter.specs.Word.{count_in}
 use Rattle.wbt_grant.specs.Record.{keeping, keeping_limits, keeping_reading, with_writer}
-use Rattle.wbt_grant.specs.Seats.{record_after}
-use Rattle.wbt_grant.specs.Setting.{Setting}
-use Rattle.wbt_grant.specs.State.{held_of, holding, kept_of, writer_in}
-use Rattle.wbt_grant.specs.declared.record.CpuRecord.{CpuRecord}
-use Rattle.wbt_grant.specs.declared.record.DomainLimits.{DomainLimits}
+use Rattle.wbt_grant.specs.State.{holding, kept_of}
 use Rattle.wbt_grant.specs.declared.record.Kept.{Kept}
-use Rattle.wbt_grant.specs.declared.record.WriterRecord.{WriterRecord}
 use Rattle.wbt_grant.specs.declared.who.Who.TheVariants.{Writer}
 use Rattle.wbt_grant.proofs.Entries.{entry_of-with, kept_of-with, writer_number}
-use Rattle.wbt_journal.specs.Counts.{Load}
-use Rattle.wbt_journal.specs.Each.{Each}
-use Rattle.wbt_kit.specs.declared.kit.Seats.{Seats}
 use Rattle.wbt_run_laws.specs.Grew.{onto, reading_of}
-use Rattle.wbt_run_laws.specs.Held.{IsHeld}
 use Rattle.wbt_run_laws.specs.Steps.{load_made}
-use Rattle.wbt_run_laws.proofs.Lists.{onto_append, gained_none, longer_none}
-use Rattle.wbt_run_laws.proofs.Stepping.{gathered_more, steps_grow}
-use Rattle.wbt_run_steps.specs.Loads.{held_as, load_of, one, triple_of}
-use Rattle.wbt_writer.specs.Desk.{record_in}
-use Rattle.wbt_writer.specs.Loads.{Gets, HasKeptGroup, Loaded, LoadedAll, LoadedContext, LoadedCount, LoadedDomain, LoadedGroup, LoadedLimits, LoadedSome, OnTable, group_loads, group_triples, kept_by, loads_in, triples_in}
-use Rattle.wbt_run_steps.specs.declared.loads.DomainLoad.{DomainLoad}
-use Rattle.wbt_table.specs.Calls.{IsCutLoad, Made, record_of, whole_load}
-use Rattle.wbt_table.specs.Calls.IsCutLoad.{at_once, after_first, after_middle}
-use Rattle.wbt_table.specs.declared.answer.Triple.{Triple}
+use Rattle.wbt_run_laws.proofs.Lists.{onto_append, gained_none}
+use Rattle.wbt_run_laws.proofs.Stepping.{gathered_more}
+use Rattle.wbt_run_steps.specs.Loads.{load_of}
+use Rattle.wbt_writer.specs.Loads.{HasKeptGroup, Loaded, LoadedContext, LoadedCount, LoadedDomain, LoadedGroup, LoadedLimits, group_loads, kept_by}
 use Rattle.wbt_writer.specs.declared.loads.Loads.{Loads}
 use Rattle.wbt_writer.proofs.Changing.{on_more, on_same}
 use Rattle.wbt_writer.proofs.Holding.{all_hold, holds_loaded, holds_more}

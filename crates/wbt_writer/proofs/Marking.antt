@@ -1,28 +1,12 @@
 -- A mark of an inode, and puts into queues.
 use Rattle.std.proofs.Common.{◌≡◌, ◌≢◌, ℕ, ◌≤◌, inl, inr, Bool, cond, not, eqb, List, [], filter, refl, sym, ap, ◌∙◌, subst, arith, eq-eqb, ne_eqb}
 use Rattle.std.proofs.lemmas.Bool.{cases_eq, cond_both}
-use Rattle.wbt_num.specs.declared.most.TheConstants.{MOST_PAGE_STEPS}
-use Rattle.wbt_book.specs.Ledger.{times_in}
+use Rattle.wbt_writer.proofs.Common.{MOST_PAGE_STEPS, times_in, mark, record_after, Setting, CpuRecord, CpuJournal, setting, Seated, Makes, Trace, Kit, Seats, OnlyCpu, record_of, Grew, steps_grow, side_of, written_of, AreAt, Fits, record_in, sight, Does, Keeps, OnlyPuts}
 use Rattle.wbt_fraction.specs.Several as fraction
-use Rattle.wbt_grant.specs.Kinds.{mark}
-use Rattle.wbt_grant.specs.Seats.{record_after}
-use Rattle.wbt_grant.specs.Setting.{Setting}
-use Rattle.wbt_grant.specs.declared.record.CpuRecord.{CpuRecord}
 use Rattle.wbt_grant.proofs.Entries.{times_in-filter}
-use Rattle.wbt_journal.specs.declared.entry.CpuJournal.{CpuJournal}
-use Rattle.wbt_kit.specs.declared.kit.Kit.{Kit}
-use Rattle.wbt_kit.specs.declared.kit.Seats.{Seats}
 use Rattle.wbt_queue.specs.Passes as queue
-use Rattle.wbt_run_steps.specs.Records.{OnlyCpu, record_of}
-use Rattle.wbt_table.specs.Layout.{setting}
-use Rattle.wbt_table.specs.Seat.{Seated, Makes}
-use Rattle.wbt_trace.specs.declared.trace.Trace.{Trace}
-use Rattle.wbt_run_laws.specs.Grew.{Grew}
 use Rattle.wbt_run_laws.proofs.Growing.{by_nothing}
-use Rattle.wbt_run_laws.proofs.Stepping.{steps_grow, untold_grows}
-use Rattle.wbt_writer.specs.Counted.{side_of, written_of}
-use Rattle.wbt_writer.specs.Desk.{AreAt, Fits, record_in, sight}
-use Rattle.wbt_writer.specs.Did.{Does, Keeps, OnlyPuts}
+use Rattle.wbt_run_laws.proofs.Stepping.{untold_grows}
 use Rattle.wbt_writer.specs.Took.{IsPut}
 use Rattle.wbt_writer.specs.Writes.{Marked}
 use Rattle.wbt_writer.specs.declared.work.WriterWork.{WriterWork}

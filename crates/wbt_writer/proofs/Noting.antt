@@ -1,18 +1,13 @@
 -- What calls did, one after another.
 use Rattle.std.proofs.Common.{◌≡◌, ℕ, List, ◌++◌, refl, ◌∙◌}
-use Rattle.wbt_journal.specs.Told.{Told}
-use Rattle.wbt_kit.specs.declared.kit.Seats.{Seats}
-use Rattle.wbt_trace.specs.declared.trace.Trace.{Trace}
+use Rattle.wbt_writer.proofs.Common.{Told, Trace, Seats, Notes, Sight, notes_of, IsTimed, Did, Does, Keeps, apart_more}
 use Rattle.wbt_run_laws.specs.Noted.{NotedWriterTurn, NotedSince}
-use Rattle.wbt_run_laws.specs.Notes.{Notes}
 use Rattle.wbt_run_laws.specs.Owns.{IsOfWriters}
 use Rattle.wbt_run_laws.specs.Shown.{Shown}
 use Rattle.wbt_run_laws.proofs.Lists.{each_append}
 use Rattle.wbt_run_laws.proofs.Logging.{logged_both}
 use Rattle.wbt_run_laws.proofs.Noting.{noted_of_writers, noted_more}
-use Rattle.wbt_writer.specs.Desk.{Sight, shown_of, notes_of}
-use Rattle.wbt_writer.specs.Did.{IsTimed, Did, Does, Keeps}
-use Rattle.wbt_run_steps.proofs.Changing.{apart_more}
+use Rattle.wbt_writer.specs.Desk.{shown_of}
 
 pub keeps_more : (cpu : ℕ) (old mid new : Seats) → Keeps cpu old mid → Keeps cpu mid new → Keeps cpu old new
 keeps_more cpu old mid new p q = record {

@@ -1,21 +1,8 @@
 -- Pages left before the first turn.
 use Rattle.std.proofs.Common.{◌≡◌, ℕ, zero, suc, ◌<◌, min, List, [], length, get_or, replicate, sym, ap, ◌∙◌, subst, arith}
 use Rattle.std.proofs.lemmas.List.{get_or-replicate, length-replicate}
-use Rattle.wbt_grant.specs.State.{writer_in}
-use Rattle.wbt_grant.specs.declared.record.WriterRecord.{WriterRecord}
-use Rattle.wbt_journal.specs.Side.{Side, all_writers, first_side}
-use Rattle.wbt_kit.specs.declared.kit.Kit.{Kit}
-use Rattle.wbt_kit.specs.declared.kit.Seats.{Seats}
-use Rattle.wbt_table.specs.Layout.{setting}
-use Rattle.wbt_task.specs.Allowance.{first}
-use Rattle.wbt_task.specs.History.{new_cpu, new_writer, writer_of}
-use Rattle.wbt_task.specs.declared.history.Writer.{Writer}
-use Rattle.wbt_trace.specs.declared.trace.Trace.{Trace}
-use Rattle.wbt_journal.specs.Machine.{contexts}
-use Rattle.wbt_trace.specs.Lawful.{IsLawful}
-use Rattle.wbt_writer.specs.Counted.{AreTasksOf, side_of}
-use Rattle.wbt_writer.specs.Desk.{AreProper, HaveLefts, IsWork, no_fractions, record_in}
-use Rattle.wbt_writer.specs.Over.{own_of}
+use Rattle.wbt_writer.proofs.Common.{writer_in, WriterRecord, Side, all_writers, first_side, setting, new_cpu, new_writer, writer_of, Writer, Trace, contexts, IsLawful, Kit, Seats, first, AreTasksOf, side_of, AreProper, HaveLefts, no_fractions, record_in, own_of}
+use Rattle.wbt_writer.specs.Desk.{IsWork}
 use Rattle.wbt_writer.specs.declared.work.Fractions.{Fractions}
 use Rattle.wbt_writer.specs.declared.work.WriterWork.{WriterWork}
 use Rattle.wbt_writer.proofs.Over.{first_over}

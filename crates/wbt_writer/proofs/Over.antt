@@ -3,23 +3,13 @@ use Rattle.std.proofs.Common.{◌≡◌, ◌≢◌, ℕ, zero, suc, ◌+◌, ◌
 use Rattle.std.proofs.lemmas.Bool.{cases_eq, cases_Bool, cond_both, cond-true}
 use Rattle.std.proofs.lemmas.List.{get_or-set_same, get_or-set_other, get_or-replicate, length-map, length-set}
 use Rattle.std.proofs.Math.ListN.{get_or-map}
-use Rattle.wbt_journal.specs.Each.{Each}
-use Rattle.wbt_journal.specs.Machine.{pages_of_task, ratelimit_pages, rests_last}
-use Rattle.wbt_journal.specs.Side.{Side, TaskState, all_writers, end_task, first_side, first_states, is_empty, is_none_due, is_quiet, is_not_due, numbers_from, numbers_of, settle, task_of, with_page, no_task as no_state}
-use Rattle.wbt_task.specs.History.{Cpu, cpu_after, cpu_step, new_cpu, new_writer, writer_of}
-use Rattle.wbt_task.specs.declared.allowance.Due.{Due}
+use Rattle.wbt_writer.proofs.Common.{Each, pages_of_task, ratelimit_pages, rests_last, Side, TaskState, all_writers, end_task, first_side, is_none_due, numbers_from, settle, task_of, with_page, Cpu, cpu_after, cpu_step, new_cpu, new_writer, writer_of, Ended, Writer, TaskLine, Trace, IsLawful, Due, AllEnded, AreTasksOf, no_name, no_task, side_of, state_of, task_at, AreOver, IsOver}
+use Rattle.wbt_journal.specs.Side.{first_states, is_empty, is_quiet, is_not_due, numbers_of, no_task as no_state}
 use Rattle.wbt_task.specs.declared.allowance.Due.TheVariants as due
-use Rattle.wbt_task.specs.declared.history.Event.TheVariants.{Ended}
-use Rattle.wbt_task.specs.declared.history.Writer.{Writer}
-use Rattle.wbt_trace.specs.declared.trace.TaskLine.{TaskLine}
-use Rattle.wbt_trace.specs.declared.trace.Trace.{Trace}
 use Rattle.wbt_trace.specs.declared.writers.Writer.{Writer as Name}
 use Rattle.wbt_writer.specs.Ahead.{ahead}
-use Rattle.wbt_writer.specs.Choice.{AllEnded}
-use Rattle.wbt_writer.specs.Counted.{AreTasksOf, no_name, no_task, side_of, state_of, task_at}
-use Rattle.wbt_writer.specs.Over.{AreOver, HasNoDue, IsAllDone, IsOver}
+use Rattle.wbt_writer.specs.Over.{HasNoDue, IsAllDone}
 use Rattle.wbt_writer.specs.declared.tasks.Tasks.{Tasks}
-use Rattle.wbt_trace.specs.Lawful.{IsLawful}
 use Rattle.wbt_writer.proofs.Lefts.{has_ended_is}
 use Rattle.wbt_writer.proofs.Pairs.{its_pair}
 use Rattle.wbt_writer.proofs.Settling.{and_left, and_right, some_due}

@@ -1,24 +1,10 @@
 -- What was settled was paid by folds, which are told.
 use Rattle.std.proofs.Common.{◌≡◌, ℕ, Bool, true, false, List, refl, sym, ap, ◌∙◌, subst}
-use Rattle.wbt_counter.specs.declared.record.Fold.{Fold}
-use Rattle.wbt_grant.specs.declared.record.CpuRecord.{CpuRecord}
-use Rattle.wbt_journal.specs.Each.{Each}
-use Rattle.wbt_journal.specs.Told.{Told}
-use Rattle.wbt_journal.specs.declared.entry.CpuJournal.{CpuJournal}
-use Rattle.wbt_kit.specs.Kit.{AreSeatsOf}
-use Rattle.wbt_kit.specs.declared.kit.Kit.{Kit}
-use Rattle.wbt_kit.specs.declared.kit.Seats.{Seats}
-use Rattle.wbt_run_steps.specs.Steps.{IsStopped, Settled, tells_folds}
-use Rattle.wbt_run_steps.proofs.Changing.{apart_changed, record_is}
+use Rattle.wbt_writer.proofs.Common.{CpuRecord, Each, Told, CpuJournal, HasCounter, Has, Trace, Kit, Seats, IsStopped, record_is, Grew, Logged, AreAt, Fits, OwesNothing, record_in, OnTable}
+use Rattle.wbt_kit.proofs.Common.{Fold, AreSeatsOf, has_changed}
+use Rattle.wbt_run_steps.specs.Steps.{Settled, tells_folds}
+use Rattle.wbt_run_steps.proofs.Changing.{apart_changed}
 use Rattle.wbt_run_steps.proofs.Telling.{each_fold_of}
-use Rattle.wbt_table.specs.Layout.{HasCounter}
-use Rattle.wbt_table.specs.Rule.{Has}
-use Rattle.wbt_table.proofs.Seating.{has_changed}
-use Rattle.wbt_trace.specs.declared.trace.Trace.{Trace}
-use Rattle.wbt_run_laws.specs.Grew.{Grew}
-use Rattle.wbt_run_laws.specs.Log.{Logged}
-use Rattle.wbt_writer.specs.Desk.{AreAt, Fits, OwesNothing, record_in}
-use Rattle.wbt_writer.specs.Loads.{OnTable}
 use Rattle.wbt_writer.specs.Settles.{IsFoldAt}
 use Rattle.wbt_writer.specs.declared.work.WriterWork.{WriterWork}
 

@@ -4,18 +4,12 @@ use Rattle.std.specs.Prelude.{slice_get}
 use Rattle.std.proofs.lemmas.Bool.{cond_both}
 use Rattle.std.proofs.lemmas.List.Elements.{All-get_or}
 use Rattle.std.proofs.lemmas.List.Sums.{sum_by-cons}
-use Rattle.wbt_journal.specs.Side.{all_writers, number_from, number_of}
+use Rattle.wbt_writer.proofs.Common.{all_writers, number_from, number_of, IsLawful, inode_at, Action, Write, Rest, Inode, Trace, no_name}
 use Rattle.wbt_kit.proofs.Laid.{IsPair, writers_in_range}
-use Rattle.wbt_trace.specs.Lawful.{IsLawful, writers_after, writers_of}
-use Rattle.wbt_trace.specs.Sofar.{inode_at}
+use Rattle.wbt_trace.specs.Lawful.{writers_after, writers_of}
 use Rattle.wbt_trace.specs.WriterList.{is_writer, with_writer}
-use Rattle.wbt_trace.specs.declared.trace.Action.{Action}
-use Rattle.wbt_trace.specs.declared.trace.Action.TheVariants.{Write, Rest}
-use Rattle.wbt_trace.specs.declared.trace.Inode.{Inode}
-use Rattle.wbt_trace.specs.declared.trace.Trace.{Trace}
 use Rattle.wbt_trace.specs.declared.writers.Writer.{Writer}
 use Rattle.wbt_trace.proofs.InOrder.{counts_stay}
-use Rattle.wbt_writer.specs.Counted.{no_name}
 
 abbrev is_pair : (task context : ℕ) (w : Writer) → Bool
 is_pair task context w = eqb w.task task && eqb w.context context

@@ -2,16 +2,11 @@
 use Rattle.std.proofs.Common.{◌≡◌, ℕ, zero, suc, ◌+◌, ◌<◌, ◌≤◌, Bool, true, false, ◌&&◌, List, [], ◌∷◌, length, map, get_or, Some, refl, ap, ◌∙◌, arith, nat_lt, nat_le, le-leb}
 use Rattle.std.proofs.lemmas.Bool.{cond-true, cond-false, lt-ltb, le-ltb}
 use Rattle.std.proofs.lemmas.List.Sums.{sum_by-cons}
-use Rattle.wbt_kit.specs.Opening.{place_of}
+use Rattle.wbt_writer.proofs.Common.{IsLawful, inode_at, Inode, Trace, MOST_PAGES, HasPage, first_page}
+use Rattle.wbt_kit.proofs.Common.{place_of, Place, page_context, pages, AreFirsts}
 use Rattle.wbt_table.specs.Layout.{inode_at as place_at}
-use Rattle.wbt_table.specs.declared.layout.Place.{Place}
-use Rattle.wbt_journal.specs.Machine.{context_among, page_context, pages}
-use Rattle.wbt_trace.specs.Lawful.{AreFirsts, IsLawful}
-use Rattle.wbt_trace.specs.Sofar.{inode_at, pages_in}
-use Rattle.wbt_trace.specs.declared.trace.Inode.{Inode}
-use Rattle.wbt_trace.specs.declared.trace.Trace.{Trace}
-use Rattle.wbt_writer.specs.Ahead.{HasPage, first_page}
-use Rattle.wbt_num.specs.declared.most.TheConstants.{MOST_PAGES}
+use Rattle.wbt_journal.specs.Machine.{context_among}
+use Rattle.wbt_trace.specs.Sofar.{pages_in}
 
 abbrev none : Inode
 none = record { context = 0; first = 0; pages = 0 }

@@ -4,25 +4,18 @@ use Rattle.std.proofs.lemmas.Bool.{cases_eq, ltb-true, lt-ltb}
 use Rattle.std.proofs.lemmas.List.{get_or-map, get_or-set_same, get_or-set_other, length-set, map-set, set-get_or}
 use Rattle.std.proofs.lemmas.Bool.Decides.{nat_tests}
 use Rattle.std.proofs.lemmas.List.Sums.{sum_by-set}
-use Rattle.wbt_journal.specs.Checks.{is_due}
-use Rattle.wbt_journal.specs.Machine.{ratelimit_pages}
-use Rattle.wbt_journal.specs.Side.{TaskState, all_writers, check_by, number_of, task_of, with_page, write_fresh}
-use Rattle.wbt_pause.specs.declared.decision.Decision.{Decision}
-use Rattle.wbt_rules.specs.Pace.{since_after}
+use Rattle.wbt_writer.proofs.Common.{is_due, ratelimit_pages, TaskState, all_writers, number_of, task_of, with_page, write_fresh, Decision, since_after, AllHavePagesLeft, counted, Cpu, cpu_step, writer_of, Checked, Writer, same_writers, others_stay, Pace, Trace, IsAlong, AreTasksOf, GoesOn, IsLast, IsTaskOf, KeepsFixed, OthersStay, all_todo, cpu_of, is_due_at, no_name, no_task, side_of, state_of, task_at}
+use Rattle.wbt_journal.specs.Side.{check_by}
 use Rattle.wbt_task.specs.Allowance.{page_after}
-use Rattle.wbt_task.specs.Counts.{AllHavePagesLeft, LeavesPages, Settles, counted, is_write}
-use Rattle.wbt_task.specs.History.{Cpu, cpu_step, writer_in, writer_of, wrote_page}
+use Rattle.wbt_task.specs.Counts.{LeavesPages, Settles, is_write}
+use Rattle.wbt_task.specs.History.{writer_in, wrote_page}
 use Rattle.wbt_task.specs.declared.allowance.CpuLocal.{CpuLocal}
 use Rattle.wbt_task.specs.declared.allowance.Due.TheVariants as due
 use Rattle.wbt_task.specs.declared.history.Event.{Event}
-use Rattle.wbt_task.specs.declared.history.Event.TheVariants.{Checked, Wrote}
-use Rattle.wbt_task.specs.declared.history.Writer.{Writer}
-use Rattle.wbt_task.proofs.Keeping.{same_writers, others_stay, event_keeps, written_is, checked_is}
-use Rattle.wbt_trace.specs.declared.trace.Pace.{Pace}
-use Rattle.wbt_trace.specs.declared.trace.Trace.{Trace}
+use Rattle.wbt_task.specs.declared.history.Event.TheVariants.{Wrote}
+use Rattle.wbt_task.proofs.Keeping.{event_keeps, written_is, checked_is}
 use Rattle.wbt_trace.specs.declared.writers.Writer.{Writer as Name}
-use Rattle.wbt_writer.specs.Ahead.{IsAlong}
-use Rattle.wbt_writer.specs.Counted.{AreCounted, AreFew, AreTasksOf, GoesOn, IsLast, IsTaskOf, KeepsFixed, OthersStay, Passes, all_todo, cpu_of, is_due_at, no_name, no_task, side_of, state_of, task_at}
+use Rattle.wbt_writer.specs.Counted.{AreCounted, AreFew, Passes}
 use Rattle.wbt_writer.specs.Exact.{IsFirstFrom, MovesAlong, StandsBehind, goes_on, was_last}
 use Rattle.wbt_writer.specs.declared.task.TaskPlace.{TaskPlace}
 use Rattle.wbt_writer.specs.declared.tasks.Tasks.{Tasks}

@@ -1,28 +1,10 @@
 -- Single loads of a writer, as seats show them.
 use Rattle.std.proofs.Common.{◌≡◌, ℕ, ◌<◌, inl, inr, [], ◌∷◌, length, refl, sym, ap, ◌∙◌, subst}
-use Rattle.wbt_counter.specs.Word.{version_in}
-use Rattle.wbt_counter.specs.declared.counter.Count.{Count}
-use Rattle.wbt_counter.specs.declared.counter.Counter.{Counter}
-use Rattle.wbt_counter.specs.declared.counter.Counter.TheVariants.{Domain, Context}
-use Rattle.wbt_grant.specs.Kinds.{count}
-use Rattle.wbt_grant.specs.Laws.{NoneAhead}
-use Rattle.wbt_grant.specs.Seats.{record_after}
-use Rattle.wbt_grant.specs.Setting.{Setting}
-use Rattle.wbt_grant.specs.State.{held_of}
-use Rattle.wbt_grant.specs.declared.record.CpuRecord.{CpuRecord}
+use Rattle.wbt_writer.proofs.Common.{Count, Counter, Domain, count, record_after, Setting, held_of, CpuRecord, setting, Has, Changes, Triple, Context, Kit, Seats, held_as, DomainLoad, record_is, Fits, record_in, Gets, LoadedSome}
+use Rattle.wbt_kit.proofs.Common.{version_in, NoneAhead, record_of, whole_load}
 use Rattle.wbt_grant.specs.declared.who.Who.TheVariants.{Writer}
-use Rattle.wbt_kit.specs.declared.kit.Kit.{Kit}
-use Rattle.wbt_kit.specs.declared.kit.Seats.{Seats}
-use Rattle.wbt_run_steps.specs.Loads.{HoldsLoader, LoadsCount, LoadsDomain, LoadsLimits, LoadsPart, LoadsSome, held_as}
-use Rattle.wbt_run_steps.specs.declared.loads.DomainLoad.{DomainLoad}
-use Rattle.wbt_run_steps.proofs.Changing.{record_is}
-use Rattle.wbt_table.specs.Calls.{record_of, whole_load}
-use Rattle.wbt_table.specs.Layout.{setting}
-use Rattle.wbt_table.specs.Rule.{Has}
-use Rattle.wbt_table.specs.Seat.{Changes}
-use Rattle.wbt_table.specs.declared.answer.Triple.{Triple}
-use Rattle.wbt_writer.specs.Desk.{Fits, record_in}
-use Rattle.wbt_writer.specs.Loads.{Gets, LoadedContext, LoadedCount, LoadedDomain, LoadedLimits, LoadedSome}
+use Rattle.wbt_run_steps.specs.Loads.{HoldsLoader, LoadsCount, LoadsDomain, LoadsLimits, LoadsPart, LoadsSome}
+use Rattle.wbt_writer.specs.Loads.{LoadedContext, LoadedCount, LoadedDomain, LoadedLimits}
 use Rattle.wbt_writer.proofs.Changing.{Changed, changed}
 use Rattle.wbt_writer.proofs.Loading.{context_by, count_by, domain_by, gets_cut, limits_by}
 

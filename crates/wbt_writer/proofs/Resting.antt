@@ -2,18 +2,11 @@
 use Rattle.std.proofs.Common.{◌≡◌, ℕ, suc, ◌+◌, ◌<◌, inl, inr, true, false, ◌&&◌, eqb, List, [], ◌∷◌, length, map, get_or, set, sym, ap, ◌∙◌, subst, arith, eq-eqb, ne_eqb, true≢false}
 use Rattle.std.proofs.lemmas.Bool.{cond-true, cond-false, cases_eq, lt-ltb}
 use Rattle.std.proofs.lemmas.List.{get_or-map, set-set, map-set, set-get_or}
-use Rattle.wbt_journal.specs.Checks.{MayEnd, is_due}
-use Rattle.wbt_journal.specs.Each.{Each}
-use Rattle.wbt_journal.specs.Machine.{ratelimit_pages}
-use Rattle.wbt_journal.specs.Side.{TaskState, all_writers, end_task, numbers_from, task_of}
-use Rattle.wbt_task.specs.Counts.{AllHavePagesLeft}
-use Rattle.wbt_task.specs.History.{Cpu, cpu_after, writer_of}
+use Rattle.wbt_writer.proofs.Common.{is_due, Each, ratelimit_pages, TaskState, all_writers, end_task, numbers_from, task_of, AllHavePagesLeft, Cpu, cpu_after, writer_of, Ended, Trace, IsAlong, AreTasksOf, GoesOn, IsLast, IsTaskOf, KeepsFixed, cpu_of, is_due_at, no_name, no_task, side_of, state_of, task_at}
+use Rattle.wbt_journal.specs.Checks.{MayEnd}
 use Rattle.wbt_task.specs.declared.allowance.Due.TheVariants as due
-use Rattle.wbt_task.specs.declared.history.Event.TheVariants.{Ended}
-use Rattle.wbt_trace.specs.declared.trace.Trace.{Trace}
 use Rattle.wbt_trace.specs.declared.writers.Writer.{Writer as Name}
-use Rattle.wbt_writer.specs.Ahead.{IsAlong}
-use Rattle.wbt_writer.specs.Counted.{AreFew, AreTasksOf, GoesOn, IsLast, IsTaskOf, KeepsFixed, cpu_of, is_due_at, no_name, no_task, side_of, state_of, task_at}
+use Rattle.wbt_writer.specs.Counted.{AreFew}
 use Rattle.wbt_writer.specs.declared.task.TaskPlace.{TaskPlace}
 use Rattle.wbt_writer.specs.declared.tasks.Tasks.{Tasks}
 use Rattle.wbt_writer.proofs.Settling.{not_due}

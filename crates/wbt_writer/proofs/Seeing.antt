@@ -5,26 +5,16 @@ use Rattle.std.proofs.lemmas.List.{drop_all, length-append, get_or-set_same, get
 use Rattle.std.proofs.lemmas.List.Sums.{sum_by-le, get_or-le-sum_by}
 use Rattle.std.proofs.lemmas.List.Folds.{sum_by-replicate}
 use Rattle.std.proofs.lemmas.Option.{slice_get_within, get_or_from_slice_get, slice_get-get_or}
-use Rattle.wbt_journal.specs.Machine.{pages_of_action, pages_of_task, rests_after, rests_last, cpu_of_task}
-use Rattle.wbt_journal.specs.Side.{TaskState, all_writers, first_side, first_state, first_states, is_empty, is_on, is_own_task}
-use Rattle.wbt_journal.proofs.Few.{few_writers}
-use Rattle.wbt_num.specs.declared.most.TheConstants.{MOST_ACTIONS, MOST_PAGES}
-use Rattle.wbt_task.specs.Allowance.{first}
-use Rattle.wbt_task.specs.Counts.{AllHavePagesLeft, HasPagesLeft, counted, dirtied_by}
-use Rattle.wbt_task.specs.History.{new_cpu, new_writer, writer_of}
+use Rattle.wbt_writer.proofs.Common.{pages_of_action, pages_of_task, rests_last, TaskState, all_writers, first_side, is_own_task, MOST_PAGES, AllHavePagesLeft, counted, dirtied_by, new_cpu, new_writer, writer_of, Writer, IsLawful, inode_at, Action, Write, Rest, Inode, TaskLine, Trace, first, IsAlong, Skips, AreTasksOf, GoesOn, IsTaskOf, all_todo, cpu_of, no_task, side_of, state_of, task_at}
+use Rattle.wbt_kit.proofs.Common.{cpu_of_task, is_on, few_writers}
+use Rattle.wbt_journal.specs.Machine.{rests_after}
+use Rattle.wbt_journal.specs.Side.{first_state, first_states, is_empty}
+use Rattle.wbt_num.specs.declared.most.TheConstants.{MOST_ACTIONS}
+use Rattle.wbt_task.specs.Counts.{HasPagesLeft}
 use Rattle.wbt_task.specs.declared.allowance.CpuLocal.{CpuLocal}
 use Rattle.wbt_task.specs.declared.allowance.Due.TheVariants as due
-use Rattle.wbt_task.specs.declared.history.Writer.{Writer}
-use Rattle.wbt_trace.specs.Lawful.{IsLawful}
-use Rattle.wbt_trace.specs.Sofar.{inode_at}
-use Rattle.wbt_trace.specs.declared.trace.Action.{Action}
-use Rattle.wbt_trace.specs.declared.trace.Action.TheVariants.{Write, Rest}
-use Rattle.wbt_trace.specs.declared.trace.Inode.{Inode}
-use Rattle.wbt_trace.specs.declared.trace.TaskLine.{TaskLine}
-use Rattle.wbt_trace.specs.declared.trace.Trace.{Trace}
 use Rattle.wbt_trace.specs.declared.writers.Writer.{Writer as Name}
-use Rattle.wbt_writer.specs.Ahead.{IsAlong, Skips, by_of, pages_from}
-use Rattle.wbt_writer.specs.Counted.{AreTasksOf, GoesOn, IsTaskOf, all_todo, cpu_of, no_task, side_of, state_of, task_at}
+use Rattle.wbt_writer.specs.Ahead.{by_of, pages_from}
 use Rattle.wbt_writer.specs.Opening.{HasSeen, StandsFirst, begun, first_action_from, new_task, seen_more}
 use Rattle.wbt_writer.specs.declared.task.TaskPlace.{TaskPlace}
 use Rattle.wbt_writer.specs.declared.tasks.Tasks.{Tasks}

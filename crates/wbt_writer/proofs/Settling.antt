@@ -4,19 +4,11 @@ use Rattle.std.specs.List.{list_all}
 use Rattle.std.proofs.lemmas.Bool.{cond-true, cond-false, cases_eq, cases_Bool, ltb-true, ltb-false, lt-ltb}
 use Rattle.std.proofs.lemmas.List.{drop_all, get_or-map, get_or-set_same, get_or-set_other, length-set, map-set}
 use Rattle.std.proofs.lemmas.List.Sums.{sum_by-set}
-use Rattle.wbt_journal.specs.Checks.{is_due}
-use Rattle.wbt_journal.specs.Machine.{pages_of_action, ratelimit_pages, rests_last}
-use Rattle.wbt_journal.specs.Side.{Side, TaskState, all_writers, is_none_due, is_not_due, is_quiet, numbers_from, settle, task_of}
-use Rattle.wbt_task.specs.Counts.{AllHavePagesLeft}
-use Rattle.wbt_task.specs.History.{Cpu, cpu_after, writer_of}
-use Rattle.wbt_task.specs.declared.allowance.Due.{Due}
+use Rattle.wbt_writer.proofs.Common.{is_due, pages_of_action, ratelimit_pages, rests_last, Side, TaskState, all_writers, is_none_due, numbers_from, settle, task_of, AllHavePagesLeft, Cpu, cpu_after, writer_of, Ended, Action, Trace, Due, IsAlong, AreTasksOf, GoesOn, IsLast, IsTaskOf, KeepsFixed, OnlyEnds, all_todo, cpu_of, is_due_at, no_name, no_task, side_of, state_of, task_at}
+use Rattle.wbt_journal.specs.Side.{is_not_due, is_quiet}
 use Rattle.wbt_task.specs.declared.allowance.Due.TheVariants as due
-use Rattle.wbt_task.specs.declared.history.Event.TheVariants.{Ended}
-use Rattle.wbt_trace.specs.declared.trace.Action.{Action}
-use Rattle.wbt_trace.specs.declared.trace.Trace.{Trace}
 use Rattle.wbt_trace.specs.declared.writers.Writer.{Writer as Name}
-use Rattle.wbt_writer.specs.Ahead.{IsAlong}
-use Rattle.wbt_writer.specs.Counted.{AreCounted, AreTasksOf, GoesOn, IsLast, IsTaskOf, KeepsFixed, OnlyEnds, all_todo, cpu_of, is_due_at, no_name, no_task, side_of, state_of, task_at}
+use Rattle.wbt_writer.specs.Counted.{AreCounted}
 use Rattle.wbt_writer.specs.declared.task.TaskPlace.{TaskPlace}
 use Rattle.wbt_writer.specs.declared.tasks.Tasks.{Tasks}
 

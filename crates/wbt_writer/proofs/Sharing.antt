@@ -3,31 +3,22 @@ use Rattle.std.proofs.Common.{◌≡◌, ◌≢◌, ℕ, suc, ◌<◌, ◌≤◌
 use Rattle.std.specs.Prelude.{slice_index_or}
 use Rattle.std.proofs.lemmas.Bool.{cases_eq, cond-true, cond-false}
 use Rattle.std.proofs.lemmas.List.{get_or-set_same, get_or-set_other}
-use Rattle.wbt_flex.specs.declared.share.Fraction.{Fraction}
-use Rattle.wbt_fraction.specs.Laws.{begun}
-use Rattle.wbt_fraction.specs.Notes.{added_at}
+use Rattle.wbt_writer.proofs.Common.{cgroup_reads, reads_of, Each, context_domain, checked, CheckEntry, DomainLine, Trace, Longer, Notes, SharesGrew, longer_none, no_fractions, fractions_after}
+use Rattle.wbt_kit.proofs.Common.{Fraction, begun, added_at, no_seat, Note}
 use Rattle.wbt_fraction.specs.Seat.{Seated as ShareSeat}
-use Rattle.wbt_fraction.specs.Several.{no_seat, Seats as ShareSeats}
+use Rattle.wbt_fraction.specs.Several.{Seats as ShareSeats}
 use Rattle.wbt_fraction.specs.Sums.{total as weigh}
-use Rattle.wbt_fraction.specs.declared.domain.note.Note.{Note}
-use Rattle.wbt_journal.specs.Counts.{cgroup_reads, reads_of}
-use Rattle.wbt_journal.specs.Each.{Each}
-use Rattle.wbt_journal.specs.Machine.{context_domain}
-use Rattle.wbt_journal.specs.Told.{checked}
-use Rattle.wbt_journal.specs.declared.entry.CheckEntry.{CheckEntry}
-use Rattle.wbt_journal.specs.declared.entry.DomainLine.{DomainLine}
 use Rattle.wbt_published.specs.Passes as est
-use Rattle.wbt_trace.specs.declared.trace.Trace.{Trace}
 use Rattle.wbt_run_laws.specs.Calls.{NotesGrew}
 use Rattle.wbt_run_laws.specs.Entries.{ReadsKept}
-use Rattle.wbt_run_laws.specs.Notes.{AreKept, IsKept, Longer, Notes, SharesGrew, no_fraction}
+use Rattle.wbt_run_laws.specs.Notes.{AreKept, IsKept, no_fraction}
 use Rattle.wbt_run_laws.proofs.Calling.{looks_add_none, read_may_be_kept}
 use Rattle.wbt_run_laws.proofs.Entering.{check_reads_kept}
-use Rattle.wbt_run_laws.proofs.Lists.{longer_more, longer_none}
+use Rattle.wbt_run_laws.proofs.Lists.{longer_more}
 use Rattle.wbt_run_laws.proofs.Noting.{kept_longer}
-use Rattle.wbt_writer.specs.Desk.{fraction_in, no_fractions}
+use Rattle.wbt_writer.specs.Desk.{fraction_in}
 use Rattle.wbt_run_steps.specs.Reads.{IsReadOrHeld, was_read, came_between}
-use Rattle.wbt_writer.specs.Lines.{ReadsGroup, ReadsShare, fractions_after, share_after}
+use Rattle.wbt_writer.specs.Lines.{ReadsGroup, ReadsShare, share_after}
 use Rattle.wbt_writer.specs.declared.lines.Lines.{Lines}
 use Rattle.wbt_writer.specs.declared.work.Fractions.{Fractions}
 use Rattle.wbt_writer.proofs.Acting.{notes_with}

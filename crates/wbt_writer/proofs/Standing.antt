@@ -8,29 +8,17 @@ use Rattle.std.proofs.lemmas.List.Sums.{get_or-le-sum_by}
 use Rattle.std.proofs.lemmas.Option.{slice_get-get_or}
 use Rattle.wbt_fraction.specs.Several as fraction
 use Rattle.wbt_fraction.specs.Several.{HasShare}
-use Rattle.wbt_journal.specs.Machine.{context_domain, contexts, cpu_of_task as cpu_in}
-use Rattle.wbt_journal.specs.Side.{all_writers, is_on, is_own_task}
-use Rattle.wbt_kit.specs.Opening.{homes_of, cpu_of as cpu_of_task}
-use Rattle.wbt_kit.specs.declared.kit.Kit.{Kit}
-use Rattle.wbt_kit.specs.declared.kit.Seats.{Seats}
-use Rattle.wbt_pause.specs.Reads.{IsCounted}
+use Rattle.wbt_writer.proofs.Common.{context_domain, contexts, all_writers, is_own_task, IsCounted, setting, Has, dirtied_by, new_writer, writer_of, TaskLine, Trace, Kit, Seats, writer_at, KeepsFixed, AreTasksOf, cpu_of, is_due_at, task_at, AreAt, AreProper, Fits, IsGoing, no_fractions, IsGroup, AreOver, DomainLoad}
+use Rattle.wbt_kit.proofs.Common.{is_on, homes_of, Context}
+use Rattle.wbt_journal.specs.Machine.{cpu_of_task as cpu_in}
+use Rattle.wbt_kit.specs.Opening.{cpu_of as cpu_of_task}
 use Rattle.wbt_published.specs.Passes as est
 use Rattle.wbt_queue.specs.Passes as queue
-use Rattle.wbt_table.specs.Layout.{domains as table_domains, setting}
-use Rattle.wbt_table.specs.Rule.{Has}
+use Rattle.wbt_table.specs.Layout.{domains as table_domains}
 use Rattle.wbt_table.specs.Seat as table
-use Rattle.wbt_task.specs.Counts.{dirtied_by}
-use Rattle.wbt_task.specs.History.{new_writer, writer_of}
-use Rattle.wbt_trace.specs.declared.trace.Context.{Context}
-use Rattle.wbt_trace.specs.declared.trace.TaskLine.{TaskLine}
-use Rattle.wbt_trace.specs.declared.trace.Trace.{Trace}
 use Rattle.wbt_trace.specs.declared.writers.Writer.{Writer as Name}
-use Rattle.wbt_run_laws.specs.Throttle.{writer_at}
-use Rattle.wbt_writer.specs.Counted.{IsFor, KeepsFixed, AreTasksOf, cpu_of, is_due_at, task_at}
-use Rattle.wbt_writer.specs.Desk.{AreAt, AreProper, Fits, IsGoing, Suits, no_fractions}
-use Rattle.wbt_writer.specs.Loads.{IsGroup}
-use Rattle.wbt_writer.specs.Over.{AreOver}
-use Rattle.wbt_run_steps.specs.declared.loads.DomainLoad.{DomainLoad}
+use Rattle.wbt_writer.specs.Counted.{IsFor}
+use Rattle.wbt_writer.specs.Desk.{Suits}
 use Rattle.wbt_writer.specs.declared.task.TaskPlace.{TaskPlace}
 use Rattle.wbt_writer.specs.declared.tasks.Tasks.{Tasks}
 use Rattle.wbt_writer.specs.declared.work.Fractions.{Fractions}

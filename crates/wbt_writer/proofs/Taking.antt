@@ -1,21 +1,13 @@
 -- A turn of a CPU's writers: what was put before a task's turn.
 use Rattle.std.proofs.Common.{◌≡◌, ℕ, Bool, List, [], get_or, length, refl, sym, ap, subst}
 use Rattle.wbt_fraction.specs.Several as fraction
-use Rattle.wbt_journal.specs.Told.{Told}
-use Rattle.wbt_journal.specs.declared.entry.CpuJournal.{CpuJournal}
-use Rattle.wbt_kit.specs.declared.kit.Kit.{Kit}
-use Rattle.wbt_kit.specs.declared.kit.Seats.{Seats}
+use Rattle.wbt_writer.proofs.Common.{Told, CpuJournal, Seated, Trace, Kit, Seats, Stepped, Resting, Done, Halted, Spent, Turned, AllEnded, AreAt, Sight, no_fractions, sight, Did, OnlyPuts, LinesRead, IsCheck}
 use Rattle.wbt_kit.specs.declared.turn.Turn.{Turn}
-use Rattle.wbt_kit.specs.declared.turn.Turn.TheVariants.{Stepped, Resting, Done, Halted, Faulted, Spent, NoMemory}
+use Rattle.wbt_kit.specs.declared.turn.Turn.TheVariants.{Faulted, NoMemory}
 use Rattle.wbt_published.specs.Passes as est
-use Rattle.wbt_table.specs.Seat.{Seated}
-use Rattle.wbt_trace.specs.declared.trace.Trace.{Trace}
-use Rattle.wbt_writer.specs.Answers.{HasMemory, Idles, Turned, WriterAnswers}
-use Rattle.wbt_writer.specs.Choice.{AllEnded, IsChosen}
-use Rattle.wbt_writer.specs.Desk.{AreAt, Sight, no_fractions, sight}
-use Rattle.wbt_writer.specs.Did.{Did, OnlyPuts}
-use Rattle.wbt_writer.specs.Lines.{LinesRead}
-use Rattle.wbt_writer.specs.Took.{IsCheck, Took, checks, rests, writes_already, writes_fresh}
+use Rattle.wbt_writer.specs.Answers.{HasMemory, Idles, WriterAnswers}
+use Rattle.wbt_writer.specs.Choice.{IsChosen}
+use Rattle.wbt_writer.specs.Took.{Took, checks, rests, writes_already, writes_fresh}
 use Rattle.wbt_writer.specs.declared.choose.Chosen.TheVariants as chosen
 use Rattle.wbt_writer.specs.declared.tasks.Tasks.{Tasks}
 use Rattle.wbt_writer.specs.declared.work.Fractions.{Fractions}

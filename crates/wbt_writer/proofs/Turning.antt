@@ -1,25 +1,17 @@
 -- The steps of a CPU's writers are words of turns.
 use Rattle.std.proofs.Common.{◌≡◌, ℕ, Bool, true, false, ◌==◌, List, [], ◌∷◌, ◌++◌, pos, inl, inr, refl, sym, ap, subst}
 use Rattle.std.proofs.lemmas.Bool.{cond_both}
-use Rattle.wbt_counter.specs.declared.counter.Counter.TheVariants.{Context}
-use Rattle.wbt_counter.specs.declared.record.Owed.{Owed}
-use Rattle.wbt_grant.specs.Kinds.{Step, count}
-use Rattle.wbt_grant.specs.declared.who.StepKind.{StepKind}
+use Rattle.wbt_writer.proofs.Common.{Context, count, setting, Dirtied, Kit, Seats, MakesEach, MakesSome, domain_steps, none_as, record_in, StepsToDirty}
+use Rattle.wbt_kit.proofs.Common.{Owed, Step, StepKind}
 use Rattle.wbt_grant.specs.declared.who.StepKind.TheVariants as kind
 use Rattle.wbt_grant.specs.declared.who.Who.TheVariants.{Writer}
-use Rattle.wbt_kit.specs.declared.kit.Kit.{Kit}
-use Rattle.wbt_kit.specs.declared.kit.Seats.{Seats}
 use Rattle.wbt_run_steps.specs.Kinds.{ArePayments, CutsTurn, Steps, StepsAs, StepsToPay, TakesTurn, marking}
-use Rattle.wbt_run_steps.specs.Made.{MakesEach, MakesSome, domain_steps}
-use Rattle.wbt_run_steps.proofs.Logging.{as_still, cut_after, cut_so, cut_whole, cuts_none, each_as, kinds_listed, none_as, some_as, steps_more, steps_so}
+use Rattle.wbt_run_steps.proofs.Logging.{as_still, cut_after, cut_so, cut_whole, cuts_none, each_as, kinds_listed, some_as, steps_more, steps_so}
 use Rattle.wbt_run_steps.proofs.Payments.{settled_by}
-use Rattle.wbt_table.specs.Layout.{setting}
-use Rattle.wbt_table.specs.declared.answer.Dirtied.{Dirtied}
 use Rattle.wbt_table.specs.declared.answer.Dirtied.TheVariants as found
 use Rattle.wbt_turns.specs.Words.{IsCut, IsTurn}
 use Rattle.wbt_turns.specs.Words.IsTurn.{checks, writes, writes_again}
-use Rattle.wbt_writer.specs.Desk.{record_in}
-use Rattle.wbt_writer.specs.Kinds.{PaysAndMarks, StepsToDirty, StepsToFinish, StepsToWrite}
+use Rattle.wbt_writer.specs.Kinds.{PaysAndMarks, StepsToFinish, StepsToWrite}
 use Rattle.wbt_writer.specs.Loads.{check_steps}
 use Rattle.wbt_writer.specs.declared.write.Wrote.{Wrote}
 use Rattle.wbt_writer.specs.declared.write.Wrote.TheVariants as wrote

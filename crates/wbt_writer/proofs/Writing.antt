@@ -1,19 +1,7 @@
 -- A whole write: the step, and what follows it.
 use Rattle.std.proofs.Common.{ℕ, ◌+◌, Bool, true, false, List, [], ◌∷◌, refl, sym, ap, ◌∙◌, subst}
-use Rattle.wbt_grant.specs.State.{writer_in}
-use Rattle.wbt_grant.specs.declared.record.WriterRecord.{WriterRecord}
-use Rattle.wbt_journal.specs.Told.{wrote}
-use Rattle.wbt_journal.specs.declared.entry.CpuJournal.{CpuJournal}
-use Rattle.wbt_kit.specs.declared.kit.Kit.{Kit}
-use Rattle.wbt_kit.specs.declared.kit.Seats.{Seats}
-use Rattle.wbt_run_steps.specs.Steps.{IsStopped}
-use Rattle.wbt_table.specs.Layout.{setting}
-use Rattle.wbt_table.specs.declared.answer.Dirtied.TheVariants.{Fresh, Already}
-use Rattle.wbt_trace.specs.declared.trace.Trace.{Trace}
-use Rattle.wbt_writer.specs.Ahead.{first_page}
-use Rattle.wbt_writer.specs.Desk.{HaveLefts, Sight, sight}
-use Rattle.wbt_writer.specs.Did.{Does}
-use Rattle.wbt_writer.specs.Writes.{CutOff, Dirties, Finished, Finishes, Writes, Written, WrittenFresh}
+use Rattle.wbt_writer.proofs.Common.{writer_in, WriterRecord, wrote, CpuJournal, setting, Fresh, Already, Trace, Kit, Seats, IsStopped, first_page, HaveLefts, Sight, sight, Does, CutOff, Dirties}
+use Rattle.wbt_writer.specs.Writes.{Finished, Finishes, Writes, Written, WrittenFresh}
 use Rattle.wbt_writer.specs.declared.tasks.Tasks.{Tasks}
 use Rattle.wbt_writer.specs.declared.work.WriterWork.{WriterWork}
 use Rattle.wbt_writer.specs.declared.write.Wrote.{Wrote}

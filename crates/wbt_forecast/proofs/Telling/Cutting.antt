@@ -3,9 +3,7 @@ use Rattle.std.proofs.Common.{◌≡◌, ℕ, suc, ◌+◌, ◌≤◌, Bool, con
 use Rattle.std.specs.List.{sum_by, count_by}
 use Rattle.std.proofs.lemmas.List.{length-map}
 use Rattle.std.proofs.lemmas.List.Sums.{sum_by-cons, count_by-le-length}
-use Rattle.wbt_trace.specs.declared.trace.Trace.{Trace}
-use Rattle.wbt_journal.specs.Text.{is_fresh, is_done}
-use Rattle.wbt_journal.specs.declared.entry.Entry.{Entry}
+use Rattle.wbt_replay_order.proofs.Common.{Trace, is_fresh, is_done, Entry, State, no_cpu, Cpu, part_of}
 use Rattle.wbt_journal.specs.declared.entry.Entry.TheVariants as entry
 use Rattle.wbt_forecast_rows.specs.Between.{IsAfter, HasGrown, HaveGrown, all_gained, checks_between, checks_of, entries_between, entries_of, gained, steps_between}
 use Rattle.wbt_forecast_rows.specs.Counts.{is_dirtied_in, is_written_in, is_write_by}
@@ -17,9 +15,6 @@ use Rattle.wbt_forecast_rows.proofs.Counting.{count_by-append, count_by-cons, sa
 use Rattle.wbt_forecast_rows.proofs.Numbered.{same_by_number}
 use Rattle.wbt_replay_cut.specs.Cut.{Told, all_of, cut, cut_cpu, cut_cpus, of_others, renamed, IsWithin}
 use Rattle.wbt_replay_cut.proofs.Whole.{others_stand}
-use Rattle.wbt_replay_moves.specs.Definition.State.{State, no_cpu}
-use Rattle.wbt_replay_moves.specs.declared.state.Cpu.{Cpu}
-use Rattle.wbt_replay_order.specs.Definition.Run.{part_of}
 use Rattle.wbt_forecast.specs.Kept.{all_checks, all_entries, counted_in, told_by, told_in, told_since}
 
 -- ---- entries

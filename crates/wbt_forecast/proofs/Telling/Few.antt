@@ -2,9 +2,7 @@
 use Rattle.std.proofs.Common.{◌≡◌, ℕ, zero, suc, ◌^◌, ◌≤◌, refl, ◌∙◌, ap, arith}
 use Rattle.std.specs.List.{sum_by}
 use Rattle.std.proofs.lemmas.List.Sums.{sum_by_push}
-use Rattle.wbt_trace.specs.Lawful.{IsLawful}
-use Rattle.wbt_trace.specs.declared.trace.Trace.{Trace}
-use Rattle.wbt_replay_order.specs.Definition.Opening.{opening, first_cpu, first_cpus}
+use Rattle.wbt_replay_order.proofs.Common.{IsLawful, Trace, opening, first_cpu, first_cpus}
 use Rattle.wbt_forecast.specs.Kept.{told_by, told_in}
 use Rattle.wbt_forecast_run.specs.Run.{state_after}
 use Rattle.wbt_forecast_run.proofs.Runs.Ends.{first_state}

@@ -2,8 +2,7 @@
 use Rattle.std.proofs.Common.{◌≡◌, ℕ, zero, suc, ◌+◌, ◌^◌, ◌<◌, ◌≤◌, List, [], ◌∷◌, ◌++◌, length, map, replicate, get_or, All, pos, refl, sym, ◌∙◌, ap, ap₂, subst, arith}
 use Rattle.std.proofs.lemmas.List.{length-map}
 use Rattle.std.proofs.lemmas.List.Elements.{All-cons, All-nil}
-use Rattle.wbt_trace.specs.declared.trace.Trace.{Trace}
-use Rattle.wbt_journal.specs.Machine.{domains, numbers}
+use Rattle.wbt_replay_order.proofs.Common.{Trace, domains, numbers, forgotten, State, seen, Cpu, opening, bases_of, base_of, IsInRange}
 use Rattle.wbt_forecast_rows.specs.Between.{IsAfter, entries_between, checks_between, steps_between}
 use Rattle.wbt_forecast_rows.specs.Counts.{homes_of}
 use Rattle.wbt_forecast_rows.specs.Small.{AreSmall, AreSmallTotals, IsSmallContext, IsSmallDomain, IsSmallTask}
@@ -14,13 +13,6 @@ use Rattle.wbt_forecast_rows.proofs.Going.{tallies_on, tallies_again, tallies_fi
 use Rattle.wbt_forecast_rows.proofs.Numbered.{length-by_number}
 use Rattle.wbt_replay_cut.specs.Cut.{all_of, cut, IsWithin}
 use Rattle.wbt_replay_cut.proofs.Whole.{forgotten_is_cut}
-use Rattle.wbt_replay_moves.specs.Definition.Forget.{forgotten}
-use Rattle.wbt_replay_moves.specs.Definition.State.{State}
-use Rattle.wbt_replay_moves.specs.Seen.{seen}
-use Rattle.wbt_replay_moves.specs.declared.state.Cpu.{Cpu}
-use Rattle.wbt_replay_order.specs.Definition.Opening.{opening}
-use Rattle.wbt_replay_order.specs.Definition.Run.{bases_of, base_of}
-use Rattle.wbt_replay_order.specs.Kept.InRange.{IsInRange}
 use Rattle.wbt_replay_order.specs.Kept.Round.{IsRound}
 use Rattle.wbt_forecast.specs.Kept.{all_entries, counted_in, told_in, told_since, TakesMore}
 use Rattle.wbt_forecast_run.specs.Run.{moved, state_after}

@@ -1,10 +1,8 @@
 -- The laws of the run on which its telling stands.
 use Rattle.std.specs.Prelude.{ℕ, ◌≤◌}
-use Rattle.wbt_trace.specs.Lawful.{IsLawful}
-use Rattle.wbt_trace.specs.declared.trace.Trace.{Trace}
+use Rattle.wbt_replay_order.proofs.Common.{IsLawful, Trace, State}
 use Rattle.wbt_replay_cut.specs.Cut.{Told, IsWithin}
 use Rattle.wbt_replay_cut.proofs.Order.{advance_is_cut}
-use Rattle.wbt_replay_moves.specs.Definition.State.{State}
 use Rattle.wbt_forecast_run.specs.Claims.{MovesAsWhole, StaysSound, TellsCounts, TellsInOrder}
 use Rattle.wbt_forecast.specs.Kept.{told_in}
 use Rattle.wbt_forecast_run.specs.Run.{state_after}

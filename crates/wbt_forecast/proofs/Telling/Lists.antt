@@ -4,14 +4,8 @@ use Rattle.std.specs.List.{sum_by}
 use Rattle.std.proofs.lemmas.Grind.{flat_map-append}
 use Rattle.std.proofs.lemmas.List.{length-replicate, take_more}
 use Rattle.std.proofs.lemmas.List.Sums.{count_by-le-length, sum_by-cons}
-use Rattle.wbt_trace.specs.declared.trace.Trace.{Trace}
-use Rattle.wbt_journal.specs.Steps.{change_in}
-use Rattle.wbt_journal.specs.Text.{is_fresh, is_done}
-use Rattle.wbt_journal.specs.declared.entry.CheckEntry.{CheckEntry}
-use Rattle.wbt_journal.specs.declared.entry.Entry.{Entry}
-use Rattle.wbt_journal.specs.declared.step.StepEntry.{StepEntry}
+use Rattle.wbt_replay_order.proofs.Common.{Trace, change_in, is_fresh, is_done, CheckEntry, Entry, StepEntry, at_least_zero, no_step, steps_of, Cpu}
 use Rattle.std.proofs.Common.{ℤ, ◌+ℤ◌, max}
-use Rattle.wbt_counter.specs.History.{at_least_zero}
 use Rattle.wbt_forecast_rows.specs.Counts.{count_after, homes_of, most_after}
 use Rattle.wbt_forecast_rows.specs.Small.{AreSmall, AreSmallTotals}
 use Rattle.wbt_forecast_rows.specs.Tally.{Tallies, after_checks, after_entries, after_steps, context_after, domain_after, task_after_checks, task_after_entries, totals_after}
@@ -20,9 +14,7 @@ use Rattle.wbt_forecast_rows.specs.declared.tally.DomainTally.{DomainTally}
 use Rattle.wbt_forecast_rows.proofs.Counting.{context_more, count_by-append, max_again, same_context, same_domain, same_task, task_more_checks, task_more_entries}
 use Rattle.wbt_forecast_rows.proofs.Numbered.{none_by_number, same_by_number, twice_by_number}
 use Rattle.wbt_forecast_rows.proofs.Smalls.{contexts_less, domains_less, tasks_less}
-use Rattle.wbt_replay_moves.specs.Definition.State.{no_step}
-use Rattle.wbt_replay_moves.specs.Steps.{Made, steps_of}
-use Rattle.wbt_replay_moves.specs.declared.state.Cpu.{Cpu}
+use Rattle.wbt_replay_moves.specs.Steps.{Made}
 use Rattle.wbt_forecast.specs.Kept.{all_checks, all_entries, told_by}
 
 -- ---- how large tallies get

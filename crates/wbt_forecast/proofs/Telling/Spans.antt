@@ -1,12 +1,10 @@
 -- What a forecast still tells from so many moves on: the row of the interval that the clock leaves, or of the last one, and what follows.
 use Rattle.std.proofs.Common.{◌≡◌, ◌≢◌, ℕ, zero, suc, ◌+◌, ◌-◌, ◌<◌, ◌==◌, Bool, true, false, cond, List, [], ◌∷◌, ◌++◌, refl, sym, ◌∙◌, ap, arith, append_assoc, append-nil, map, eq-eqb, ne_eqb}
 use Rattle.std.specs.List.{filter, flat_map}
-use Rattle.wbt_trace.specs.declared.trace.Trace.{Trace}
+use Rattle.wbt_replay_order.proofs.Common.{Trace, State, ending_of}
 use Rattle.wbt_forecast_rows.specs.Forecast.{Span, span, has_step, row_of_span, rows_of_spans, spans_from, totals_of}
 use Rattle.wbt_forecast_rows.specs.Rows.{interval_of}
 use Rattle.wbt_forecast_rows.specs.Text.{row_text, end_text, every_text}
-use Rattle.wbt_replay_moves.specs.Definition.State.{State}
-use Rattle.wbt_replay_order.specs.Definition.Run.{ending_of}
 use Rattle.wbt_forecast_run.specs.Run.{most_moves, state_after, forecast, foretold}
 use Rattle.wbt_forecast.specs.Telling.{rest_text}
 

@@ -1,18 +1,13 @@
 -- What becomes of a teller in each turn of its loop.
 use Rattle.std.proofs.Common.{◌≡◌, ◌≢◌, ◌⊎◌, inl, inr, ℕ, ◌+◌, ◌-◌, ◌/◌, ◌<◌, true, List, [], ◌++◌, Option, Some, None, refl, sym, ◌∙◌, ap, ap₂, arith, append-nil}
 use Rattle.std.specs.Io.KnownBytes.{append_known}
-use Rattle.wbt_io.specs.Told.{GainsPart}
-use Rattle.wbt_trace.specs.declared.trace.Trace.{Trace}
+use Rattle.wbt_replay_order.proofs.Common.{GainsPart, Trace, State, seen, is_ended, ending_of}
 use Rattle.wbt_journal.specs.declared.journal.Ending.{Ending}
 use Rattle.wbt_forecast_rows.specs.Forecast.{span, totals_of}
 use Rattle.wbt_forecast_rows.specs.Rows.{interval_of}
 use Rattle.wbt_forecast_rows.specs.Text.{end_text, every_text}
 use Rattle.wbt_forecast_rows.specs.declared.forecast.Totals.{Totals}
 use Rattle.wbt_replay_cut.specs.Cut.{all_of}
-use Rattle.wbt_replay_moves.specs.Definition.State.{State}
-use Rattle.wbt_replay_moves.specs.Seen.{seen}
-use Rattle.wbt_replay_order.specs.Definition.Order.{is_ended}
-use Rattle.wbt_replay_order.specs.Definition.Run.{ending_of}
 use Rattle.wbt_forecast_run.specs.Run.{forecast, foretold, moved, most_moves, state_after}
 use Rattle.wbt_forecast.specs.Telling.{IsLeaving, IsOver, IsTelling, Keeps, rest_text, told_row}
 use Rattle.wbt_forecast.specs.declared.teller.Teller.{Teller}

@@ -3,12 +3,8 @@ use Rattle.std.proofs.Common.{◌≡◌, ℕ, ◌+◌, ◌-◌, ◌<◌, Bool, c
 use Rattle.std.specs.Io.KnownBytes.{append_known}
 use Rattle.std.proofs.Math.Seq.{take-append-add, take-append_seam}
 use Rattle.std.proofs.lemmas.List.{take-append-le}
-use Rattle.wbt_io.specs.Told.{GainsPart}
+use Rattle.wbt_replay_order.proofs.Common.{GainsPart, domain_count, Trace, domains, StepEntry, State, seen, setting_of, bases_of, ending_of}
 use Rattle.wbt_io.proofs.Told.{append_known-append}
-use Rattle.wbt_grant.specs.State.{domain_count}
-use Rattle.wbt_trace.specs.declared.trace.Trace.{Trace}
-use Rattle.wbt_journal.specs.Machine.{domains}
-use Rattle.wbt_journal.specs.declared.step.StepEntry.{StepEntry}
 use Rattle.wbt_forecast_rows.specs.Counts.{count_after, homes_of}
 use Rattle.wbt_forecast_rows.specs.Forecast.{has_step, span, spans_from, totals_of}
 use Rattle.wbt_forecast_rows.specs.Laws.{AreExact}
@@ -17,10 +13,6 @@ use Rattle.wbt_forecast_rows.specs.Tally.{row_told, tallied}
 use Rattle.wbt_forecast_rows.specs.Text.{ending_text, numbers_text, row_text}
 use Rattle.wbt_forecast_rows.specs.declared.rows.IntervalRow.{IntervalRow}
 use Rattle.wbt_forecast_rows.proofs.Going.{row_so}
-use Rattle.wbt_replay_moves.specs.Definition.State.{State}
-use Rattle.wbt_replay_moves.specs.Seen.{seen}
-use Rattle.wbt_replay_order.specs.Claims.Setting.{setting_of}
-use Rattle.wbt_replay_order.specs.Definition.Run.{bases_of, ending_of}
 use Rattle.wbt_forecast_run.specs.Run.{foretold, most_moves, state_after}
 use Rattle.wbt_forecast.specs.Telling.{HasWritten, Keeps, rest_text, told_row}
 use Rattle.wbt_forecast.specs.declared.teller.Teller.{Teller}

@@ -3,19 +3,13 @@ use Rattle.std.proofs.Common.{◌≡◌, ◌≢◌, ◌⊎◌, inl, inr, ℕ, �
 use Rattle.std.proofs.lemmas.Bool.{cases_lt}
 use Rattle.std.proofs.lemmas.Bool.Decides.{nat_tests}
 use Rattle.std.specs.Io.KnownBytes.{append_known}
-use Rattle.wbt_io.specs.Told.{GainsPart}
-use Rattle.wbt_trace.specs.declared.trace.Trace.{Trace}
+use Rattle.wbt_replay_order.proofs.Common.{GainsPart, Trace, forgotten, State, seen, is_ended, ending_of}
 use Rattle.wbt_journal.specs.declared.journal.Ending.{Ending}
 use Rattle.wbt_forecast_rows.specs.Rows.{interval_of}
 use Rattle.wbt_forecast_rows.specs.Small.{AreSmall}
 use Rattle.wbt_forecast_rows.specs.Tally.{cleared, totals_after}
 use Rattle.wbt_forecast_rows.specs.Text.{end_text}
 use Rattle.wbt_replay_cut.specs.Cut.{all_of}
-use Rattle.wbt_replay_moves.specs.Definition.Forget.{forgotten}
-use Rattle.wbt_replay_moves.specs.Definition.State.{State}
-use Rattle.wbt_replay_moves.specs.Seen.{seen}
-use Rattle.wbt_replay_order.specs.Definition.Order.{is_ended}
-use Rattle.wbt_replay_order.specs.Definition.Run.{ending_of}
 use Rattle.wbt_forecast.specs.Kept.{all_entries, counted_in, told_in, told_since, TakesMore}
 use Rattle.wbt_forecast_run.specs.Run.{forecast, foretold, moved, most_moves, state_after}
 use Rattle.wbt_forecast.specs.Telling.{HasRow, IsLeaving, IsOver, IsTelling, Keeps, rest_text, told_row}

@@ -1,18 +1,9 @@
 -- A domain's peak only grows, and a move makes one step at most.
 use Rattle.std.proofs.Common.{◌≡◌, ◌⊎◌, inl, inr, ℕ, zero, suc, ◌≤◌, ◌&&◌, List, [], ◌∷◌, ◌++◌, set, get_or, refl, ◌∙◌, ap, arith, ⊎_elim}
 use Rattle.wbt_counter.specs.declared.counter.Counter.TheVariants.{Domain as ofDomain, Context as ofContext}
-use Rattle.wbt_trace.specs.declared.trace.Trace.{Trace}
-use Rattle.wbt_journal.specs.declared.step.StepEntry.{StepEntry}
-use Rattle.wbt_replay_moves.specs.Definition.Forget.{extended}
-use Rattle.wbt_replay_moves.specs.Definition.State.{State, no_domain, domain_of, with_cpu}
-use Rattle.wbt_replay_moves.specs.Definition.Timer.{with_timer}
-use Rattle.wbt_replay_moves.specs.declared.state.Domain.{Domain}
-use Rattle.wbt_replay_order.specs.Definition.Order.{advance, is_ended, is_full}
-use Rattle.wbt_replay_order.specs.Kept.Further.{fits_further}
+use Rattle.wbt_replay_order.proofs.Common.{Trace, StepEntry, extended, State, no_domain, domain_of, with_cpu, with_timer, Domain, advance, is_ended, is_full, fits_further, apply, Change}
 use Rattle.wbt_replay_order.proofs.Facts.Lists.{either}
 use Rattle.wbt_replay_order.proofs.Growth.Grown.{advance_grows}
-use Rattle.wbt_replay_changes.specs.Apply.{apply}
-use Rattle.wbt_replay_changes.specs.Change.{Change}
 use Rattle.wbt_replay_changes.specs.Change as change
 use Rattle.wbt_forecast_run.specs.Run.{let_on, moved}
 use Rattle.wbt_forecast_run.proofs.Runs.Changing.{move_keeps}

@@ -2,30 +2,12 @@
 use Rattle.std.proofs.Common.{◌≡◌, ℕ, zero, suc, ◌+◌, ◌-◌, ◌≤◌, ◌<◌, ◌==◌, max, ◌&&◌, Bool, true, false, cond, ℤ, pos, ◌+ℤ◌, List, [], ◌∷◌, ◌++◌, length, length-append, map, filter, drop, refl, sym, ◌∙◌, ap, subst, arith, ⊎_elim}
 use Rattle.std.proofs.lemmas.Bool.{cases_Bool}
 use Rattle.std.proofs.lemmas.List.{drop_all, drop-append-le}
-use Rattle.wbt_counter.specs.History.{at_least_zero}
-use Rattle.wbt_book.specs.Book.{Book}
+use Rattle.wbt_replay_order.proofs.Common.{at_least_zero, Book, grant, Rule, domain_count, opening_keeps, Trace, Each, domains, numbers, change_in, StepEntry, extended, State, domain_of, setting_of, opening, advance, is_ended, is_full, base_of, Facts, Suits, Follows, Moves, silently, by, grants, fits_further, IsInRange}
 use Rattle.wbt_grant.specs.Bound.{bound}
-use Rattle.wbt_grant.specs.Kinds.{grant, after}
-use Rattle.wbt_grant.specs.Rule.{Rule}
+use Rattle.wbt_grant.specs.Kinds.{after}
 use Rattle.wbt_grant.specs.State as throttle
-use Rattle.wbt_grant.specs.State.{domain_count}
 use Rattle.wbt_grant.proofs.Bounding.{peak_bounds}
-use Rattle.wbt_grant.proofs.Whole.{opening_keeps, step_keeps}
-use Rattle.wbt_trace.specs.declared.trace.Trace.{Trace}
-use Rattle.wbt_journal.specs.Each.{Each}
-use Rattle.wbt_journal.specs.Machine.{domains, numbers}
-use Rattle.wbt_journal.specs.Steps.{change_in}
-use Rattle.wbt_journal.specs.declared.step.StepEntry.{StepEntry}
-use Rattle.wbt_replay_moves.specs.Definition.Forget.{extended}
-use Rattle.wbt_replay_moves.specs.Definition.State.{State, domain_of}
-use Rattle.wbt_replay_order.specs.Claims.Setting.{setting_of}
-use Rattle.wbt_replay_order.specs.Definition.Opening.{opening}
-use Rattle.wbt_replay_order.specs.Definition.Order.{advance, is_ended, is_full}
-use Rattle.wbt_replay_order.specs.Definition.Run.{base_of}
-use Rattle.wbt_replay_order.specs.Kept.Facts.{Facts}
-use Rattle.wbt_replay_order.specs.Kept.Following.{Suits, Follows, Moves, silently, by, grants}
-use Rattle.wbt_replay_order.specs.Kept.Further.{fits_further}
-use Rattle.wbt_replay_order.specs.Kept.InRange.{IsInRange}
+use Rattle.wbt_grant.proofs.Whole.{step_keeps}
 use Rattle.wbt_replay_order.proofs.Facts.Facts.{facts}
 use Rattle.wbt_replay_order.proofs.Facts.Lists.{either}
 use Rattle.wbt_replay_order.proofs.Facts.Settings.{pair_of}

@@ -1,13 +1,6 @@
 -- The setting of a trace with room for the steps of the longest run: the step relation follows each run by it.
 use Rattle.std.proofs.Common.{ℕ, ◌*◌, arith}
-use Rattle.wbt_grant.specs.Setting.{Setting, IsSetting}
-use Rattle.wbt_trace.specs.Lawful.{IsLawful}
-use Rattle.wbt_trace.specs.declared.trace.Trace.{Trace}
-use Rattle.wbt_replay_moves.specs.Definition.State.{State}
-use Rattle.wbt_replay_order.specs.Claims.Setting.{setting_of}
-use Rattle.wbt_replay_order.specs.Kept.Following.{Suits}
-use Rattle.wbt_replay_order.specs.Kept.Horizon.{most_ever}
-use Rattle.wbt_replay_order.specs.Kept.Sound.{Sound}
+use Rattle.wbt_replay_order.proofs.Common.{Setting, IsSetting, IsLawful, Trace, State, setting_of, Suits, most_ever, Sound}
 use Rattle.wbt_replay_order.proofs.Facts.Settings.{setting_is}
 use Rattle.wbt_replay_path.proofs.Follow.Whole.{TakesSteps}
 use Rattle.wbt_forecast_run.proofs.Counts.Exact.{suits_lawful}

@@ -5,35 +5,13 @@ use Rattle.std.proofs.lemmas.Bool.{cases_lt}
 use Rattle.std.proofs.lemmas.Int.{ints}
 use Rattle.std.proofs.lemmas.List.{get_or_past}
 use Rattle.std.proofs.lemmas.List.Sums.{sum_by-cons}
-use Rattle.wbt_book.specs.Book.{Bits, Book, is_claimable}
-use Rattle.wbt_book.specs.Counts.{places}
-use Rattle.wbt_book.specs.Ledger.{times_in}
-use Rattle.wbt_book.specs.PageWords.{bits_at}
-use Rattle.wbt_counter.specs.Sums.{put, one_if}
+use Rattle.wbt_replay_order.proofs.Common.{Bits, Book, is_claimable, places, times_in, bits_at, put, one_if, is_inside, domain_count, Trace, is_in, StepEntry, page_of, context_of, Scan, State, no_cpu, no_flusher, no_task, Cpu, Flusher, ReplayTask, Todo, setting_of, first_cpu, IsPageOf, Suits, Sound, IsAt, IsWhose, WorkFits}
 use Rattle.wbt_counter.specs.declared.counter.Counter.TheVariants.{Domain}
-use Rattle.wbt_grant.specs.Setting.{is_inside}
-use Rattle.wbt_grant.specs.State.{domain_count}
 use Rattle.wbt_grant.proofs.Frames.{exact_shift}
-use Rattle.wbt_trace.specs.declared.trace.Trace.{Trace}
-use Rattle.wbt_journal.specs.Steps.{is_in}
-use Rattle.wbt_journal.specs.declared.step.StepEntry.{StepEntry}
-use Rattle.wbt_rules.specs.Places.{page_of}
-use Rattle.wbt_rules.specs.Things.{context_of}
-use Rattle.wbt_rules.specs.declared.scan.Scan.{Scan}
-use Rattle.wbt_replay_moves.specs.Definition.State.{State, no_cpu, no_flusher, no_task}
-use Rattle.wbt_replay_moves.specs.declared.state.Cpu.{Cpu}
-use Rattle.wbt_replay_moves.specs.declared.state.Flusher.{Flusher}
 use Rattle.wbt_replay_moves.specs.declared.state.ReplayPhase.TheVariants as phase
-use Rattle.wbt_replay_moves.specs.declared.state.ReplayTask.{ReplayTask}
 use Rattle.wbt_replay_moves.specs.declared.state.Whose.TheVariants as whose
 use Rattle.wbt_replay_moves.specs.declared.todo.Step.TheVariants as step
-use Rattle.wbt_replay_moves.specs.declared.todo.Todo.{Todo}
 use Rattle.wbt_replay_moves.specs.declared.todo.Todo.TheVariants as todo
-use Rattle.wbt_replay_order.specs.Claims.Setting.{setting_of}
-use Rattle.wbt_replay_order.specs.Definition.Opening.{first_cpu}
-use Rattle.wbt_replay_order.specs.Kept.Facts.{IsPageOf}
-use Rattle.wbt_replay_order.specs.Kept.Following.{Suits}
-use Rattle.wbt_replay_order.specs.Kept.Sound.{Sound, IsAt, IsWhose, WorkFits}
 use Rattle.wbt_replay_order.proofs.Frames.Chances.{IsSeeker}
 use Rattle.wbt_replay_points.proofs.Claims.Counted.{are_homes}
 use Rattle.wbt_forecast_rows.specs.Counts.{homes_of, count_after}

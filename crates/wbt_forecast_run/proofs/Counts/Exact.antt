@@ -2,25 +2,7 @@
 use Rattle.std.proofs.Common.{◌≡◌, ℕ, zero, suc, ◌+◌, ◌&&◌, cond, eqb, ℤ, pos, List, [], ◌∷◌, ◌++◌, length, map, get_or, refl, sym, ◌∙◌, ap, subst, arith}
 use Rattle.std.specs.List.{sum_by}
 use Rattle.std.proofs.lemmas.List.Sums.{sum_by-cons}
-use Rattle.wbt_book.specs.Book.{clean}
-use Rattle.wbt_book.specs.Ledger.{times_in}
-use Rattle.wbt_counter.proofs.Sums.{total_nothing}
-use Rattle.wbt_grant.specs.Setting.{is_inside}
-use Rattle.wbt_grant.specs.State.{context_count, domain_count}
-use Rattle.wbt_grant.proofs.Bounding.{if_nothing}
-use Rattle.wbt_trace.specs.Lawful.{IsLawful}
-use Rattle.wbt_trace.specs.declared.trace.Trace.{Trace}
-use Rattle.wbt_replay_moves.specs.Definition.Forget.{extended}
-use Rattle.wbt_replay_moves.specs.Definition.State.{State, no_cpu}
-use Rattle.wbt_replay_moves.specs.declared.state.Flusher.{Flusher}
-use Rattle.wbt_replay_moves.specs.declared.todo.Todo.{Todo}
-use Rattle.wbt_replay_order.specs.Claims.Setting.{setting_of}
-use Rattle.wbt_replay_order.specs.Definition.Opening.{opening, first_cpu, first_cpus, first_flusher, first_flushers}
-use Rattle.wbt_replay_order.specs.Definition.Order.{advance, is_ended, is_full}
-use Rattle.wbt_replay_order.specs.Kept.Facts.{Facts}
-use Rattle.wbt_replay_order.specs.Kept.Following.{Suits}
-use Rattle.wbt_replay_order.specs.Kept.Further.{fits_further}
-use Rattle.wbt_replay_order.specs.Kept.InRange.{IsInRange}
+use Rattle.wbt_replay_order.proofs.Common.{clean, times_in, total_nothing, is_inside, context_count, domain_count, if_nothing, IsLawful, Trace, extended, State, no_cpu, Flusher, Todo, setting_of, opening, first_cpu, first_cpus, first_flusher, first_flushers, advance, is_ended, is_full, Facts, Suits, fits_further, IsInRange}
 use Rattle.wbt_replay_order.proofs.Facts.Facts.{facts}
 use Rattle.wbt_replay_order.proofs.Facts.Lists.{either}
 use Rattle.wbt_replay_order.proofs.Facts.Settings.{setting_is, pair_of}

@@ -5,42 +5,20 @@ use Rattle.std.proofs.lemmas.Bool.{cases_lt, cond-true, cond-false}
 use Rattle.std.proofs.lemmas.List.{get_or-set_same, get_or_past}
 use mathlib.Core.Logic.{dite}
 use native.Mathlib.Decide.{ℕ_discrete}
-use Rattle.wbt_book.specs.Book.{Book, is_claimable, bits_after}
-use Rattle.wbt_book.specs.Counts.{places}
-use Rattle.wbt_book.specs.Ledger.{times_in}
-use Rattle.wbt_book.specs.PageWords.{shared_word, bits_at}
+use Rattle.wbt_replay_order.proofs.Common.{Book, is_claimable, bits_after, places, times_in, shared_word, bits_at, word_holds_page, put, one_if, domain_count, Trace, page_of, Scan, do_next, logged, log_at, State, no_cpu, no_flusher, cpu_of, with_cpu, flusher_of, with_flusher, with_event, Cpu, Flusher, Whose, Todo, setting_of, IsPageOf, IsFlusherOn, Suits, IsAt, IsWhose, apply_all, Change, look_changes, claim_changes}
 use Rattle.wbt_book.specs.declared.event.Event.TheVariants as event
-use Rattle.wbt_book.proofs.PageWords.{word_holds_page}
-use Rattle.wbt_counter.specs.Sums.{put, one_if}
-use Rattle.wbt_grant.specs.State.{domain_count}
 use Rattle.wbt_grant.specs.declared.who.StepKind.TheVariants as kind
-use Rattle.wbt_trace.specs.declared.trace.Trace.{Trace}
 use Rattle.wbt_journal.specs.declared.entry.Entry.TheVariants as entry
-use Rattle.wbt_rules.specs.Places.{page_of}
-use Rattle.wbt_rules.specs.declared.scan.Scan.{Scan}
-use Rattle.wbt_replay_moves.specs.Definition.Cpu.{do_next, logged, log_at}
-use Rattle.wbt_replay_moves.specs.Definition.State.{State, no_cpu, no_flusher, cpu_of, with_cpu, flusher_of, with_flusher, with_event}
-use Rattle.wbt_replay_moves.specs.declared.state.Cpu.{Cpu}
-use Rattle.wbt_replay_moves.specs.declared.state.Flusher.{Flusher}
 use Rattle.wbt_replay_moves.specs.declared.state.ReplayPhase.TheVariants as phase
-use Rattle.wbt_replay_moves.specs.declared.state.Whose.{Whose}
 use Rattle.wbt_replay_moves.specs.declared.state.Whose.TheVariants as whose
 use Rattle.wbt_replay_moves.specs.declared.todo.Silent.TheVariants as silent
 use Rattle.wbt_replay_moves.specs.declared.todo.Step.TheVariants as step
-use Rattle.wbt_replay_moves.specs.declared.todo.Todo.{Todo}
 use Rattle.wbt_replay_moves.specs.declared.todo.Todo.TheVariants as todo
-use Rattle.wbt_replay_order.specs.Claims.Setting.{setting_of}
-use Rattle.wbt_replay_order.specs.Kept.Facts.{IsPageOf, IsFlusherOn}
-use Rattle.wbt_replay_order.specs.Kept.Following.{Suits}
-use Rattle.wbt_replay_order.specs.Kept.Sound.{IsAt, IsWhose}
 use Rattle.wbt_replay_order.proofs.Facts.Lists.{either}
 use Rattle.wbt_replay_order.proofs.Facts.Scans.{scan_page}
-use Rattle.wbt_replay_changes.specs.Apply.{apply_all}
-use Rattle.wbt_replay_changes.specs.Change.{Change}
 use Rattle.wbt_replay_changes.specs.Change as change
 use Rattle.wbt_replay_changes.specs.Change.Cpu as cpu_change
 use Rattle.wbt_replay_changes.specs.Change.Flusher as flusher_change
-use Rattle.wbt_replay_changes.specs.ChangeOf.Flusher.{look_changes, claim_changes}
 use Rattle.wbt_forecast_rows.specs.Counts.{homes_of, count_after}
 use Rattle.wbt_forecast_run.proofs.Counts.Booked.{IsBooked, IsSeated, behind_first, rest_none, some_todo, seat_there, times_push, held_set, put_bit, claimable_dirty, same_counts}
 use Rattle.wbt_forecast_run.proofs.Counts.Quiet.{NoClaims, plain_count, batch_in, Still, Frames, Quietly, still_on, frames_on, quiet_cpu, frames_cpu, frames_flusher, ArePlain, all_quiet}

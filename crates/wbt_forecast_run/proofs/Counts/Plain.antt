@@ -1,53 +1,26 @@
 -- Of the items of a turn, only a write, a look, a claim and a completion may be no plain changes.
 use Rattle.std.proofs.Common.{ℕ, zero, suc, ◌+◌, Bool, true, false, cond, nat_le, eqb, List, [], ◌∷◌, length, get_or, Option, Some, None, refl}
-use Rattle.wbt_trace.specs.declared.trace.Trace.{Trace}
-use Rattle.wbt_counter.specs.declared.counter.Counter.TheVariants.{Context}
-use Rattle.wbt_estimate.specs.Estimate.{update_of}
-use Rattle.wbt_estimate.specs.declared.estimate.Estimate.{Estimate}
-use Rattle.wbt_expiry.specs.Waiting.{Waiting, has_inode}
+use Rattle.wbt_replay_order.proofs.Common.{Trace, Context, update_of, Estimate, has_inode, after_period, Half, context_of, flusher_device, group_of, MOST_NOTICED, Due, writer_of, sample_of, domain_loads, measure, measures_of, weighs_of, close_items, is_scan_over, State, cpu_of, task_of, flusher_of, waiting_of, queue_of, domain_of, writeback_of, is_drained, is_time, periods, check_items, pause_in, has_nothing, ReplayPhase, ReplayTurn, ReplayWork, Whose, Silent, Step, TimerSilent, TimerStep, apply, apply_all, Change, step_changes, move_changes, phase_changes, whose_changes, turn_changes, close_changes, hand_over_changes, share_changes, group_changes, land_changes, estimated_changes, last_changes, idle_changes, notice_changes, waiting_changes, wheel_changes, test_changes, unmark_changes, timer_step_changes, timer_move_changes, timer_turn_changes, by_task, by_flusher, where_taken, where_scanning, where_flying, page_changes, work_changes, due_changes, decide_changes, end_changes}
+use Rattle.wbt_expiry.specs.Waiting.{Waiting}
 use Rattle.wbt_expiry.specs.declared.due.Due.{Due as Pair}
-use Rattle.wbt_flex.specs.Proportions.{after_period}
-use Rattle.wbt_flex.specs.declared.half.Half.{Half}
 use Rattle.wbt_grant.specs.declared.who.StepKind.TheVariants as kind
-use Rattle.wbt_rules.specs.Things.{context_of, flusher_device, group_of}
-use Rattle.wbt_rules.specs.declared.age.TheConstants.{MOST_NOTICED}
-use Rattle.wbt_task.specs.declared.allowance.Due.{Due}
 use Rattle.wbt_task.specs.declared.allowance.Due.TheVariants as due
-use Rattle.wbt_replay_moves.specs.Definition.Check.{writer_of}
-use Rattle.wbt_replay_moves.specs.Definition.Estimates.{sample_of}
-use Rattle.wbt_replay_moves.specs.Definition.Idle.{domain_loads, measure, measures_of, weighs_of}
-use Rattle.wbt_replay_moves.specs.Definition.Scan.{close_items, is_scan_over}
-use Rattle.wbt_replay_moves.specs.Definition.State.{State, cpu_of, task_of, flusher_of, waiting_of, queue_of, domain_of, writeback_of, is_drained}
-use Rattle.wbt_replay_moves.specs.Definition.Timer.{is_time, periods}
-use Rattle.wbt_replay_moves.specs.Definition.Writer.{check_items, pause_in, has_nothing}
-use Rattle.wbt_replay_moves.specs.declared.state.ReplayPhase.{ReplayPhase}
 use Rattle.wbt_replay_moves.specs.declared.state.ReplayPhase.TheVariants as phase
-use Rattle.wbt_replay_moves.specs.declared.state.ReplayTurn.{ReplayTurn}
-use Rattle.wbt_replay_moves.specs.declared.state.ReplayWork.{ReplayWork}
 use Rattle.wbt_replay_moves.specs.declared.state.ReplayWork.TheVariants as work
-use Rattle.wbt_replay_moves.specs.declared.state.Whose.{Whose}
 use Rattle.wbt_replay_moves.specs.declared.state.Whose.TheVariants as whose
-use Rattle.wbt_replay_moves.specs.declared.todo.Silent.{Silent}
 use Rattle.wbt_replay_moves.specs.declared.todo.Silent.TheVariants as silent
-use Rattle.wbt_replay_moves.specs.declared.todo.Step.{Step}
 use Rattle.wbt_replay_moves.specs.declared.todo.Step.TheVariants as step
-use Rattle.wbt_replay_moves.specs.declared.todo.TimerSilent.{TimerSilent}
 use Rattle.wbt_replay_moves.specs.declared.todo.TimerSilent.TheVariants as timer_silent
-use Rattle.wbt_replay_moves.specs.declared.todo.TimerStep.{TimerStep}
 use Rattle.wbt_replay_moves.specs.declared.todo.TimerStep.TheVariants as timer_step
 use Rattle.wbt_replay_moves.specs.declared.todo.Todo.TheVariants as todo
 use Rattle.wbt_replay_order.proofs.Facts.Lists.{either}
-use Rattle.wbt_replay_changes.specs.Apply.{apply, apply_all}
-use Rattle.wbt_replay_changes.specs.Change.{Change}
 use Rattle.wbt_replay_changes.specs.Change as change
 use Rattle.wbt_replay_changes.specs.Change.Cpu as cpu_change
 use Rattle.wbt_replay_changes.specs.Change.Flusher as flusher_change
-use Rattle.wbt_replay_changes.specs.ChangeOf.{step_changes, move_changes, phase_changes, whose_changes, turn_changes}
-use Rattle.wbt_replay_changes.specs.ChangeOf.Flusher.{close_changes, empty_changes, hand_over_changes, share_changes, group_changes, land_changes, landed_changes}
-use Rattle.wbt_replay_changes.specs.ChangeOf.Idle.{estimated_changes, takes, rests, queue_or_finish, last_changes, queue_or_rest, loads_changes, idle_changes, notice_changes, notices, aged_changes, waiting_changes, wheel_changes, test_changes, unmark_changes}
-use Rattle.wbt_replay_changes.specs.ChangeOf.Timer.{timer_step_changes, timer_move_changes, timer_turn_changes, period_changes}
-use Rattle.wbt_replay_changes.specs.ChangeOf.Where.{by_task, by_flusher, where_taken, where_scanning, where_flying}
-use Rattle.wbt_replay_changes.specs.ChangeOf.Writer.{page_changes, work_changes, due_changes, mark_changes, decide_changes, end_changes}
+use Rattle.wbt_replay_changes.specs.ChangeOf.Flusher.{empty_changes, landed_changes}
+use Rattle.wbt_replay_changes.specs.ChangeOf.Idle.{takes, rests, queue_or_finish, queue_or_rest, loads_changes, notices, aged_changes}
+use Rattle.wbt_replay_changes.specs.ChangeOf.Timer.{period_changes}
+use Rattle.wbt_replay_changes.specs.ChangeOf.Writer.{mark_changes}
 use Rattle.wbt_forecast_run.proofs.Counts.Quiet.{NoClaims, none_more, Plain, ArePlain, plain_more}
 
 -- ---- items that claim nothing

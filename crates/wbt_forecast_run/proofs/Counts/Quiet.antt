@@ -5,32 +5,17 @@ use Rattle.std.proofs.lemmas.Int.{ints}
 use Rattle.std.proofs.lemmas.List.{get_or-set_same, get_or-set_other, set_past}
 use mathlib.Core.Logic.{dite}
 use native.Mathlib.Decide.{ℕ_discrete}
-use Rattle.wbt_counter.specs.declared.counter.Counter.{Counter}
-use Rattle.wbt_counter.specs.declared.counter.Counter.TheVariants.{Domain, Context}
-use Rattle.wbt_trace.specs.declared.trace.Trace.{Trace}
-use Rattle.wbt_journal.specs.Machine.{batch_of}
-use Rattle.wbt_journal.specs.Steps.{is_in, change_in}
+use Rattle.wbt_replay_order.proofs.Common.{Counter, Context, Trace, batch_of, is_in, change_in, StepEntry, flusher_device, do_next, own_of, with_own, log_at, waits, with_pairs, State, no_cpu, no_flusher, cpu_of, flusher_of, waiting_of, with_waiting, with_queue, in_phase, Cpu, Flusher, Whose, Todo, cpu_after, apply, apply_all, Change, CpuChange, FlusherChange}
+use Rattle.wbt_counter.specs.declared.counter.Counter.TheVariants.{Domain}
 use Rattle.wbt_journal.specs.declared.entry.Entry.TheVariants as entry
-use Rattle.wbt_journal.specs.declared.step.StepEntry.{StepEntry}
-use Rattle.wbt_rules.specs.Things.{flusher_device}
-use Rattle.wbt_replay_moves.specs.Definition.Cpu.{do_next, own_of, with_own, log_at}
-use Rattle.wbt_replay_moves.specs.Definition.Idle.{waits, with_pairs}
-use Rattle.wbt_replay_moves.specs.Definition.State.{State, no_cpu, no_flusher, cpu_of, flusher_of, waiting_of, with_waiting, with_queue, in_phase}
-use Rattle.wbt_replay_moves.specs.declared.state.Cpu.{Cpu}
-use Rattle.wbt_replay_moves.specs.declared.state.Flusher.{Flusher}
 use Rattle.wbt_replay_moves.specs.declared.state.ReplayPhase.TheVariants as phase
-use Rattle.wbt_replay_moves.specs.declared.state.Whose.{Whose}
 use Rattle.wbt_replay_moves.specs.declared.state.Whose.TheVariants as whose
 use Rattle.wbt_replay_moves.specs.declared.todo.Step.TheVariants as step
-use Rattle.wbt_replay_moves.specs.declared.todo.Todo.{Todo}
 use Rattle.wbt_replay_moves.specs.declared.todo.Todo.TheVariants as todo
 use Rattle.wbt_replay_order.proofs.Facts.Lists.{either}
-use Rattle.wbt_replay_changes.specs.Apply.{cpu_after, flusher_after, apply, apply_all}
-use Rattle.wbt_replay_changes.specs.Change.{Change}
+use Rattle.wbt_replay_changes.specs.Apply.{flusher_after}
 use Rattle.wbt_replay_changes.specs.Change as change
-use Rattle.wbt_replay_changes.specs.Change.Cpu.{CpuChange}
 use Rattle.wbt_replay_changes.specs.Change.Cpu as cpu_change
-use Rattle.wbt_replay_changes.specs.Change.Flusher.{FlusherChange}
 use Rattle.wbt_replay_changes.specs.Change.Flusher as flusher_change
 use Rattle.wbt_forecast_rows.specs.Counts.{homes_of, count_after}
 

@@ -1,27 +1,13 @@
 -- At each moment of the run the steps tell the exact count of each domain.
 use Rattle.std.proofs.Common.{◌≡◌, ℕ, zero, suc, ◌+◌, ◌<◌, Bool, true, false, List, [], ◌∷◌, length, get_or, All, Option, Some, None, refl, sym, ◌∙◌, ap, subst, arith}
 use Rattle.std.proofs.lemmas.List.{get_or_past}
-use Rattle.wbt_trace.specs.declared.trace.Trace.{Trace}
-use Rattle.wbt_replay_moves.specs.Definition.Perform.{make_step, make_timer_step, make_timer_move, begin_turn}
-use Rattle.wbt_replay_moves.specs.Definition.State.{State, no_cpu, cpu_of, with_cpu}
-use Rattle.wbt_replay_moves.specs.Definition.Timer.{begin_timer, with_timer}
-use Rattle.wbt_replay_moves.specs.declared.state.Actor.{Actor}
+use Rattle.wbt_replay_order.proofs.Common.{Trace, make_step, make_timer_step, make_timer_move, begin_turn, State, no_cpu, cpu_of, with_cpu, begin_timer, with_timer, Actor, Cpu, ReplayJob, Stretch, Whose, TimerTodo, Todo, setting_of, after, ahead_of, is_nothing, turn_at, job_at, is_full, is_halted, spend, stop, cpu_on, timer_on, go_on, begin_job, begin, with_orders, begin_or_drop, follow, next_moment, at_moment, actor_at, place_after, chance_of, take, take_turn, seek_turn, next_turn, finish_turn, rotate_from, advance_by, advance, Facts, IsFlusherOn, IsJobOn, Suits, apply_all, Change, turn_changes, timer_step_changes, timer_move_changes, timer_turn_changes, moves_are_changes}
 use Rattle.wbt_replay_moves.specs.declared.state.Actor.TheVariants as actor
-use Rattle.wbt_replay_moves.specs.declared.state.Cpu.{Cpu}
-use Rattle.wbt_replay_moves.specs.declared.state.ReplayJob.{ReplayJob}
 use Rattle.wbt_replay_moves.specs.declared.state.ReplayJob.TheVariants as job
-use Rattle.wbt_replay_moves.specs.declared.state.Stretch.{Stretch}
 use Rattle.wbt_replay_moves.specs.declared.state.Stretch.TheVariants as stretch
-use Rattle.wbt_replay_moves.specs.declared.state.Whose.{Whose}
 use Rattle.wbt_replay_moves.specs.declared.state.Whose.TheVariants as whose
-use Rattle.wbt_replay_moves.specs.declared.todo.TimerTodo.{TimerTodo}
 use Rattle.wbt_replay_moves.specs.declared.todo.TimerTodo.TheVariants as timer_todo
-use Rattle.wbt_replay_moves.specs.declared.todo.Todo.{Todo}
 use Rattle.wbt_replay_moves.specs.declared.todo.Todo.TheVariants as todo
-use Rattle.wbt_replay_order.specs.Claims.Setting.{setting_of}
-use Rattle.wbt_replay_order.specs.Definition.Order.{after, ahead_of, is_nothing, turn_at, job_at, is_full, is_halted, spend, stop, cpu_on, timer_on, go_on, begin_job, begin, with_orders, begin_or_drop, follow, next_moment, at_moment, actor_at, place_after, chance_of, take, take_turn, seek_turn, next_turn, finish_turn, rotate_from, advance_by, advance}
-use Rattle.wbt_replay_order.specs.Kept.Facts.{Facts, IsFlusherOn, IsJobOn}
-use Rattle.wbt_replay_order.specs.Kept.Following.{Suits}
 use Rattle.wbt_replay_order.specs.declared.chance.Ahead.{Ahead}
 use Rattle.wbt_replay_order.specs.declared.chance.Ahead.TheVariants as ahead
 use Rattle.wbt_replay_order.specs.declared.chance.Chance.{Chance}
@@ -29,11 +15,6 @@ use Rattle.wbt_replay_order.specs.declared.chance.Chance.TheVariants as chance
 use Rattle.wbt_replay_order.proofs.Facts.Lists.{either}
 use Rattle.wbt_replay_order.proofs.Frames.Chances.{IsSeeker, CanBegin, MayBegin, may_moved, turn_begins, chance_begins}
 use Rattle.wbt_replay_order.proofs.Growth.Quiet.{same_at}
-use Rattle.wbt_replay_changes.specs.Apply.{apply_all}
-use Rattle.wbt_replay_changes.specs.Change.{Change}
-use Rattle.wbt_replay_changes.specs.ChangeOf.{turn_changes}
-use Rattle.wbt_replay_changes.specs.ChangeOf.Timer.{timer_step_changes, timer_move_changes, timer_turn_changes}
-use Rattle.wbt_replay_changes.proofs.Agrees.{moves_are_changes}
 use Rattle.wbt_forecast_run.proofs.Counts.Booked.{IsBooked, IsSeated, behind_first}
 use Rattle.wbt_forecast_run.proofs.Counts.Looks.{IsTurnsOwn, still_after}
 use Rattle.wbt_forecast_run.proofs.Counts.Plain.{turn_plain, timer_step_plain, timer_move_plain, timer_turn_plain}

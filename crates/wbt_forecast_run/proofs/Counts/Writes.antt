@@ -7,47 +7,19 @@ use Rattle.std.proofs.lemmas.List.{get_or_past}
 use Rattle.std.proofs.lemmas.List.Elements.{All-head}
 use mathlib.Core.Logic.{dite}
 use native.Mathlib.Decide.{ℕ_discrete}
-use Rattle.wbt_book.specs.Book.{bits_after}
-use Rattle.wbt_book.specs.Counts.{places}
-use Rattle.wbt_book.specs.Ledger.{times_in}
+use Rattle.wbt_replay_order.proofs.Common.{bits_after, places, times_in, one_if, Trace, Entry, context_of, group_of, do_next, logged, log_at, owed_to, owe_at, make_step, make_move, State, no_cpu, no_flusher, cpu_of, with_cpu, flusher_of, with_flusher, task_of, with_event, counted_local, count_page, without_page, Cpu, Flusher, ReplayPhase, ReplayWork, Whose, Silent, Step, Todo, setting_of, IsPageOf, Suits, IsAt, IsWhose, WorkFits, passes, apply, apply_all, Change, step_changes, move_changes, look_changes, claim_changes, complete_changes, by_task, by_flusher, where_scanning, where_flying, write_changes, dirty_changes, moves_are_changes}
 use Rattle.wbt_book.specs.declared.event.Event.TheVariants as event
-use Rattle.wbt_counter.specs.Sums.{one_if}
 use Rattle.wbt_grant.specs.declared.who.StepKind.TheVariants as kind
-use Rattle.wbt_trace.specs.declared.trace.Trace.{Trace}
-use Rattle.wbt_journal.specs.declared.entry.Entry.{Entry}
 use Rattle.wbt_journal.specs.declared.entry.Entry.TheVariants as entry
-use Rattle.wbt_rules.specs.Things.{context_of, group_of}
-use Rattle.wbt_replay_moves.specs.Definition.Cpu.{do_next, logged, log_at, owed_to, owe_at}
-use Rattle.wbt_replay_moves.specs.Definition.Perform.{make_step, make_move}
-use Rattle.wbt_replay_moves.specs.Definition.State.{State, no_cpu, no_flusher, cpu_of, with_cpu, flusher_of, with_flusher, task_of, with_event}
-use Rattle.wbt_replay_moves.specs.Definition.Writer.{counted_local, count_page, without_page}
-use Rattle.wbt_replay_moves.specs.declared.state.Cpu.{Cpu}
-use Rattle.wbt_replay_moves.specs.declared.state.Flusher.{Flusher}
-use Rattle.wbt_replay_moves.specs.declared.state.ReplayPhase.{ReplayPhase}
 use Rattle.wbt_replay_moves.specs.declared.state.ReplayPhase.TheVariants as phase
-use Rattle.wbt_replay_moves.specs.declared.state.ReplayWork.{ReplayWork}
 use Rattle.wbt_replay_moves.specs.declared.state.ReplayWork.TheVariants as work
-use Rattle.wbt_replay_moves.specs.declared.state.Whose.{Whose}
 use Rattle.wbt_replay_moves.specs.declared.state.Whose.TheVariants as whose
-use Rattle.wbt_replay_moves.specs.declared.todo.Silent.{Silent}
 use Rattle.wbt_replay_moves.specs.declared.todo.Silent.TheVariants as silent
-use Rattle.wbt_replay_moves.specs.declared.todo.Step.{Step}
 use Rattle.wbt_replay_moves.specs.declared.todo.Step.TheVariants as step
-use Rattle.wbt_replay_moves.specs.declared.todo.Todo.{Todo}
 use Rattle.wbt_replay_moves.specs.declared.todo.Todo.TheVariants as todo
-use Rattle.wbt_replay_order.specs.Claims.Setting.{setting_of}
-use Rattle.wbt_replay_order.specs.Kept.Facts.{IsPageOf}
-use Rattle.wbt_replay_order.specs.Kept.Following.{Suits}
-use Rattle.wbt_replay_order.specs.Kept.Sound.{IsAt, IsWhose, WorkFits}
 use Rattle.wbt_replay_order.proofs.Facts.Lists.{either}
-use Rattle.wbt_replay_changes.specs.Apply.{passes, apply, apply_all}
-use Rattle.wbt_replay_changes.specs.Change.{Change}
 use Rattle.wbt_replay_changes.specs.Change as change
-use Rattle.wbt_replay_changes.specs.ChangeOf.{step_changes, move_changes}
-use Rattle.wbt_replay_changes.specs.ChangeOf.Flusher.{look_changes, claim_changes, batch_changes, complete_changes}
-use Rattle.wbt_replay_changes.specs.ChangeOf.Where.{by_task, by_flusher, where_scanning, where_flying}
-use Rattle.wbt_replay_changes.specs.ChangeOf.Writer.{write_changes, dirty_changes}
-use Rattle.wbt_replay_changes.proofs.Agrees.{moves_are_changes}
+use Rattle.wbt_replay_changes.specs.ChangeOf.Flusher.{batch_changes}
 use Rattle.wbt_forecast_run.proofs.Counts.Booked.{IsBooked, IsSeated, held_set, put_bit, page_counts}
 use Rattle.wbt_forecast_run.proofs.Counts.Looks.{IsTurnsOwn, booked_after, by_plain, own, none, taken, whose_is, look_booked, claim_booked}
 use Rattle.wbt_forecast_run.proofs.Counts.Plain.{step_plain, move_plain}

@@ -1,19 +1,11 @@
 -- Where a replay isn't spent the run goes through its states, and what intervals count adds up to what its journal tells.
 use Rattle.std.proofs.Common.{◌≡◌, ◌≢◌, ℕ, zero, suc, ◌+◌, ◌-◌, ◌≤◌, ◌==◌, ◌&&◌, ◌||◌, nat_lt, Bool, true, false, cond, List, [], ◌∷◌, ◌++◌, length, map, drop, count_by, sum_by, flat_map, refl, sym, ◌∙◌, ap, arith, ⊎_elim}
 use Rattle.std.proofs.lemmas.Bool.{cases_Bool}
-use Rattle.wbt_num.specs.declared.most.TheConstants.{MOST_STEPS}
-use Rattle.wbt_trace.specs.declared.trace.Trace.{Trace}
+use Rattle.wbt_replay_order.proofs.Common.{MOST_STEPS, Trace, extended, State, Cpu, opening, first_cpu, first_cpus, advance, is_ended, is_full, state_at, last_state, journal_of, part_of, ending_of, fits_further}
 use Rattle.wbt_journal.specs.Text.{fresh_of, done_of}
 use Rattle.wbt_journal.specs.declared.entry.CpuJournal.{CpuJournal}
 use Rattle.wbt_journal.specs.declared.journal.Ending.TheVariants as ending
-use Rattle.wbt_replay_moves.specs.Definition.Forget.{extended}
-use Rattle.wbt_replay_moves.specs.Definition.State.{State}
-use Rattle.wbt_replay_moves.specs.declared.state.Cpu.{Cpu}
-use Rattle.wbt_replay_order.specs.Definition.Opening.{opening, first_cpu, first_cpus}
-use Rattle.wbt_replay_order.specs.Definition.Order.{advance, is_ended, is_full}
 use Rattle.wbt_replay_order.specs.Definition.Run as replayed
-use Rattle.wbt_replay_order.specs.Definition.Run.{state_at, last_state, journal_of, part_of, ending_of}
-use Rattle.wbt_replay_order.specs.Kept.Further.{fits_further}
 use Rattle.wbt_replay_order.proofs.Facts.Lists.{either}
 use Rattle.wbt_replay_order.proofs.Growth.Most.{most_kept}
 use Rattle.wbt_replay_order.proofs.Growth.Runs.{run_none, run_ended, run_last, run_stays}

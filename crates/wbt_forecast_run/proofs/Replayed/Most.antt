@@ -1,55 +1,25 @@
 -- What a move does depends on how many steps may be made only where none is left: then the run is spent.
 use Rattle.std.proofs.Common.{◌≡◌, ℕ, zero, suc, cond, eqb, List, [], ◌∷◌, ◌++◌, length, Option, Some, None, refl, sym, ◌∙◌, ap, ap₂}
-use Rattle.wbt_trace.specs.declared.trace.Trace.{Trace}
+use Rattle.wbt_replay_order.proofs.Common.{Trace, Context, context_of, flusher_device, group_of, MOST_NOTICED, Scan, Due, writer_of, cgroup_line, domain_loads, measure, measures_of, weighs_of, make_step, make_move, make_timer_step, make_timer_move, begin_turn, State, cpu_of, task_of, flusher_of, waiting_of, queue_of, is_drained, begin_timer, pause_in, Cpu, ReplayPhase, ReplayTurn, ReplayWork, Whose, Silent, Step, TimerSilent, TimerStep, Todo, apply, apply_all, Change, CpuChange, FlusherChange, step_changes, move_changes, phase_changes, whose_changes, turn_changes, look_changes, claim_changes, close_changes, hand_over_changes, complete_changes, share_changes, group_changes, land_changes, last_changes, idle_changes, notice_changes, waiting_changes, wheel_changes, test_changes, unmark_changes, timer_step_changes, timer_move_changes, timer_turn_changes, by_task, by_flusher, where_taken, where_scanning, where_flying, then_changes, write_changes, dirty_changes, decide_changes, end_changes, page_changes, work_changes, due_changes, moves_are_changes}
 use Rattle.wbt_expiry.specs.Waiting.{Waiting}
 use Rattle.wbt_expiry.specs.declared.due.Due.{Due as Pair}
-use Rattle.wbt_counter.specs.declared.counter.Counter.TheVariants.{Domain, Context}
-use Rattle.wbt_rules.specs.Things.{context_of, flusher_device, group_of}
-use Rattle.wbt_rules.specs.declared.age.TheConstants.{MOST_NOTICED}
-use Rattle.wbt_rules.specs.declared.scan.Scan.{Scan}
-use Rattle.wbt_task.specs.declared.allowance.Due.{Due}
+use Rattle.wbt_counter.specs.declared.counter.Counter.TheVariants.{Domain}
 use Rattle.wbt_task.specs.declared.allowance.Due.TheVariants as due
-use Rattle.wbt_replay_moves.specs.Definition.Check.{writer_of, cgroup_line}
-use Rattle.wbt_replay_moves.specs.Definition.Idle.{domain_loads, measure, measures_of, weighs_of}
-use Rattle.wbt_replay_moves.specs.Definition.Perform.{make_step, make_move, make_timer_step, make_timer_move, begin_turn}
-use Rattle.wbt_replay_moves.specs.Definition.State.{State, cpu_of, task_of, flusher_of, waiting_of, queue_of, is_drained}
-use Rattle.wbt_replay_moves.specs.Definition.Timer.{begin_timer}
 use Rattle.wbt_replay_moves.specs.Definition.Weigh.{held_in_group}
-use Rattle.wbt_replay_moves.specs.Definition.Writer.{pause_in}
-use Rattle.wbt_replay_moves.specs.declared.state.Cpu.{Cpu}
-use Rattle.wbt_replay_moves.specs.declared.state.ReplayPhase.{ReplayPhase}
 use Rattle.wbt_replay_moves.specs.declared.state.ReplayPhase.TheVariants as phase
-use Rattle.wbt_replay_moves.specs.declared.state.ReplayTurn.{ReplayTurn}
-use Rattle.wbt_replay_moves.specs.declared.state.ReplayWork.{ReplayWork}
 use Rattle.wbt_replay_moves.specs.declared.state.ReplayWork.TheVariants as work
-use Rattle.wbt_replay_moves.specs.declared.state.Whose.{Whose}
 use Rattle.wbt_replay_moves.specs.declared.state.Whose.TheVariants as whose
-use Rattle.wbt_replay_moves.specs.declared.todo.Silent.{Silent}
 use Rattle.wbt_replay_moves.specs.declared.todo.Silent.TheVariants as silent
-use Rattle.wbt_replay_moves.specs.declared.todo.Step.{Step}
 use Rattle.wbt_replay_moves.specs.declared.todo.Step.TheVariants as step
-use Rattle.wbt_replay_moves.specs.declared.todo.TimerSilent.{TimerSilent}
 use Rattle.wbt_replay_moves.specs.declared.todo.TimerSilent.TheVariants as timer_silent
-use Rattle.wbt_replay_moves.specs.declared.todo.TimerStep.{TimerStep}
 use Rattle.wbt_replay_moves.specs.declared.todo.TimerStep.TheVariants as timer_step
-use Rattle.wbt_replay_moves.specs.declared.todo.Todo.{Todo}
 use Rattle.wbt_replay_moves.specs.declared.todo.Todo.TheVariants as todo
-use Rattle.wbt_replay_changes.specs.Apply.{apply, apply_all}
-use Rattle.wbt_replay_changes.specs.Change.{Change}
 use Rattle.wbt_replay_changes.specs.Change as change
-use Rattle.wbt_replay_changes.specs.Change.Cpu.{CpuChange}
 use Rattle.wbt_replay_changes.specs.Change.Cpu as cpu_change
-use Rattle.wbt_replay_changes.specs.Change.Flusher.{FlusherChange}
 use Rattle.wbt_replay_changes.specs.Change.Flusher as flusher_change
 use Rattle.wbt_replay_changes.specs.Change.Timer.{TimerChange}
 use Rattle.wbt_replay_changes.specs.Change.Timer as timer_change
-use Rattle.wbt_replay_changes.specs.ChangeOf.{step_changes, move_changes, phase_changes, whose_changes, turn_changes}
-use Rattle.wbt_replay_changes.specs.ChangeOf.Flusher.{look_changes, claim_changes, close_changes, hand_over_changes, complete_changes, share_changes, group_changes, land_changes}
-use Rattle.wbt_replay_changes.specs.ChangeOf.Idle.{last_changes, idle_changes, notice_changes, notices, waiting_changes, wheel_changes, test_changes, unmark_changes, weigh_changes}
-use Rattle.wbt_replay_changes.specs.ChangeOf.Timer.{timer_step_changes, timer_move_changes, timer_turn_changes}
-use Rattle.wbt_replay_changes.specs.ChangeOf.Where.{by_task, by_flusher, where_taken, where_scanning, where_flying, then_changes}
-use Rattle.wbt_replay_changes.specs.ChangeOf.Writer.{write_changes, dirty_changes, decide_changes, end_changes, page_changes, work_changes, due_changes}
-use Rattle.wbt_replay_changes.proofs.Agrees.{moves_are_changes}
+use Rattle.wbt_replay_changes.specs.ChangeOf.Idle.{notices, weigh_changes}
 
 -- the state of which so many steps may be made
 abbrev pub with_most : (most : ℕ) (s : State) → State

@@ -1,17 +1,6 @@
 -- A relation that each change keeps, and that doesn't see whose turn it is, each move keeps.
 use Rattle.std.proofs.Common.{◌≡◌, ℕ, List, [], ◌∷◌, sym, subst}
-use Rattle.wbt_trace.specs.declared.trace.Trace.{Trace}
-use Rattle.wbt_replay_moves.specs.Definition.Perform.{make_step, make_move, make_timer_step, make_timer_move, begin_turn}
-use Rattle.wbt_replay_moves.specs.Definition.State.{State, cpu_of, with_cpu}
-use Rattle.wbt_replay_moves.specs.Definition.Timer.{begin_timer, with_timer}
-use Rattle.wbt_replay_moves.specs.declared.state.Cpu.{Cpu}
-use Rattle.wbt_replay_moves.specs.declared.todo.TimerTodo.{TimerTodo}
-use Rattle.wbt_replay_order.specs.Definition.Order.{advance}
-use Rattle.wbt_replay_changes.specs.Apply.{apply, apply_all}
-use Rattle.wbt_replay_changes.specs.Change.{Change}
-use Rattle.wbt_replay_changes.specs.ChangeOf.{step_changes, move_changes, turn_changes}
-use Rattle.wbt_replay_changes.specs.ChangeOf.Timer.{timer_step_changes, timer_move_changes, timer_turn_changes}
-use Rattle.wbt_replay_changes.proofs.Agrees.{moves_are_changes}
+use Rattle.wbt_replay_order.proofs.Common.{Trace, make_step, make_move, make_timer_step, make_timer_move, begin_turn, State, cpu_of, with_cpu, begin_timer, with_timer, Cpu, TimerTodo, advance, apply, apply_all, Change, step_changes, move_changes, turn_changes, timer_step_changes, timer_move_changes, timer_turn_changes, moves_are_changes}
 use Rattle.wbt_forecast_run.proofs.Runs.Walking.{Course, course_of, with_course, advance_walks}
 
 module _ (trace : Trace) (R : State → State → Type 0)

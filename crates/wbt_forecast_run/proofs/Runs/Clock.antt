@@ -1,14 +1,8 @@
 -- A move that moves the clock changes nothing else but whose turn it is, the order lines, and how many steps may be made.
 use Rattle.std.proofs.Common.{◌≡◌, ℕ, zero, suc, ◌&&◌, Bool, true, false, cond, List, [], ◌∷◌, Option, Some, None, refl, sym, ◌∙◌, ap, subst}
-use Rattle.wbt_trace.specs.declared.trace.Trace.{Trace}
-use Rattle.wbt_replay_moves.specs.Definition.Forget.{extended}
-use Rattle.wbt_replay_moves.specs.Definition.State.{State}
-use Rattle.wbt_replay_moves.specs.declared.state.Actor.{Actor}
-use Rattle.wbt_replay_moves.specs.declared.state.Stretch.{Stretch}
+use Rattle.wbt_replay_order.proofs.Common.{Trace, extended, State, Actor, Stretch, actor_at, ahead_of, chance_of, turn_at, with_orders, begin_or_drop, follow, next_moment, at_moment, move_clock, place_after, next_turn, finish_turn, rotate_from, advance_by, advance, is_ended, is_full, fits_further}
 use Rattle.wbt_replay_moves.specs.declared.state.Stretch.TheVariants as stretch
 use Rattle.wbt_replay_order.specs.Definition.Order as order
-use Rattle.wbt_replay_order.specs.Definition.Order.{actor_at, ahead_of, chance_of, turn_at, with_orders, begin_or_drop, follow, next_moment, at_moment, move_clock, place_after, next_turn, finish_turn, rotate_from, advance_by, advance, is_ended, is_full}
-use Rattle.wbt_replay_order.specs.Kept.Further.{fits_further}
 use Rattle.wbt_replay_order.specs.declared.chance.Ahead.{Ahead}
 use Rattle.wbt_replay_order.specs.declared.chance.Ahead.TheVariants as ahead
 use Rattle.wbt_replay_order.specs.declared.chance.Chance.{Chance}

@@ -3,17 +3,8 @@ use Rattle.std.proofs.Common.{◌≡◌, ℕ, ◌+◌, ◌-◌, ◌*◌, ◌≤�
 use Rattle.std.specs.List.{sum_by, list_all}
 use Rattle.std.proofs.lemmas.List.{length-replicate}
 use Rattle.std.proofs.lemmas.List.Sums.{sum_by-cons}
-use Rattle.wbt_num.specs.declared.most.TheConstants.{MOST_STEPS}
-use Rattle.wbt_journal.specs.declared.step.StepEntry.{StepEntry}
-use Rattle.wbt_trace.specs.declared.trace.Trace.{Trace}
-use Rattle.wbt_replay_moves.specs.Definition.Forget.{extended}
-use Rattle.wbt_replay_moves.specs.Definition.State.{State, no_step}
-use Rattle.wbt_replay_moves.specs.declared.state.Cpu.{Cpu}
-use Rattle.wbt_replay_moves.specs.declared.state.Domain.{Domain}
-use Rattle.wbt_replay_moves.specs.declared.state.Writeback.{Writeback}
-use Rattle.wbt_replay_order.specs.Definition.Order.{advance, is_ended, is_full}
-use Rattle.wbt_replay_order.specs.Kept.Further.{fits_further, latest_moment, takes_folds}
-use Rattle.wbt_replay_order.specs.Kept.Horizon.{credit_of, latest, most_ever, rests_of, step_ticks, ticks_of, timer_credit}
+use Rattle.wbt_replay_order.proofs.Common.{MOST_STEPS, StepEntry, Trace, extended, State, no_step, Cpu, Domain, Writeback, advance, is_ended, is_full, fits_further, latest_moment, credit_of, latest, most_ever, rests_of, step_ticks, ticks_of, timer_credit}
+use Rattle.wbt_replay_order.specs.Kept.Further.{takes_folds}
 use Rattle.wbt_replay_order.proofs.Facts.Lists.{either}
 use Rattle.wbt_replay_cut.specs.Cut.{Told, of_others, cut_steps, cut_cpu, cut_cpus, cut, IsWithin}
 use Rattle.wbt_replay_cut.specs.Laws.{GoesOn, AdvanceIsCut}

@@ -2,18 +2,7 @@
 use Rattle.std.proofs.Common.{◌≡◌, ℕ, zero, suc, ◌+◌, ◌-◌, ◌*◌, ◌^◌, ◌≤◌, Bool, true, false, leb, cond, ◌&&◌, ◌||◌, length, refl, sym, ◌∙◌, ap, subst, arith, ⊎_elim}
 use Rattle.std.proofs.lemmas.Bool.{and_parts, cases_Bool}
 use Rattle.std.proofs.lemmas.Bool.Decides.{nat_tests}
-use Rattle.wbt_num.specs.declared.most.TheConstants.{MOST_STEPS}
-use Rattle.wbt_trace.specs.Lawful.{IsLawful}
-use Rattle.wbt_trace.specs.declared.trace.Trace.{Trace}
-use Rattle.wbt_replay_moves.specs.Definition.Forget.{extended}
-use Rattle.wbt_replay_moves.specs.Definition.State.{State}
-use Rattle.wbt_replay_order.specs.Definition.Opening.{opening}
-use Rattle.wbt_replay_order.specs.Definition.Order.{advance, is_ended, is_full}
-use Rattle.wbt_replay_order.specs.Kept.Ending.{work_left, Ending}
-use Rattle.wbt_replay_order.specs.Kept.Facts.{Facts}
-use Rattle.wbt_replay_order.specs.Kept.Further.{fits_further}
-use Rattle.wbt_replay_order.specs.Kept.Horizon.{most_ever}
-use Rattle.wbt_replay_order.specs.Kept.InRange.{IsInRange}
+use Rattle.wbt_replay_order.proofs.Common.{MOST_STEPS, IsLawful, Trace, extended, State, opening, advance, is_ended, is_full, work_left, Ending, Facts, fits_further, most_ever, IsInRange}
 use Rattle.wbt_replay_order.proofs.Facts.Facts.{facts}
 use Rattle.wbt_replay_order.proofs.Facts.Lists.{either}
 use Rattle.wbt_replay_order.proofs.Growth.Most.{most_kept}

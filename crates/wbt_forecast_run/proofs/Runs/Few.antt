@@ -3,63 +3,28 @@ use Rattle.std.proofs.Common.{◌≡◌, ℕ, zero, suc, ◌+◌, ◌-◌, ◌*�
 use Rattle.std.specs.List.{sum_by}
 use Rattle.std.proofs.lemmas.Bool.{cases_lt}
 use Rattle.std.proofs.lemmas.List.Sums.{sum_by-cons, sum_by_push}
-use Rattle.wbt_book.specs.Book.{is_claimable}
-use Rattle.wbt_book.specs.PageWords.{shared_word}
-use Rattle.wbt_estimate.specs.Estimate.{update_of}
-use Rattle.wbt_estimate.specs.declared.estimate.Estimate.{Estimate}
-use Rattle.wbt_expiry.specs.Waiting.{Waiting, has_inode}
+use Rattle.wbt_replay_order.proofs.Common.{is_claimable, shared_word, update_of, Estimate, has_inode, after_period, Half, Trace, done_at, page_of, context_of, flusher_device, group_of, MOST_NOTICED, FLUSHER_REST, Due, writer_of, sample_of, extended, make_step, make_move, make_timer_step, make_timer_move, begin_turn, close_items, is_scan_over, State, cpu_of, with_cpu, task_of, flusher_of, waiting_of, queue_of, domain_of, writeback_of, is_drained, begin_timer, is_time, periods, pause_in, without_page, has_nothing, ReplayPhase, ReplayTurn, ReplayWork, Whose, Silent, Step, TimerSilent, TimerStep, opening, first_cpu, first_cpus, advance, is_ended, is_full, fits_further, apply, apply_all, Change, step_changes, move_changes, phase_changes, whose_changes, turn_changes, look_changes, claim_changes, close_changes, hand_over_changes, complete_changes, share_changes, group_changes, land_changes, estimated_changes, last_changes, idle_changes, notice_changes, waiting_changes, wheel_changes, test_changes, unmark_changes, timer_step_changes, timer_move_changes, timer_turn_changes, by_task, by_flusher, where_taken, where_scanning, where_flying, then_changes, page_changes, work_changes, due_changes, write_changes, dirty_changes, decide_changes, end_changes, moves_are_changes}
+use Rattle.wbt_expiry.specs.Waiting.{Waiting}
 use Rattle.wbt_expiry.specs.declared.due.Due.{Due as Pair}
-use Rattle.wbt_flex.specs.Proportions.{after_period}
-use Rattle.wbt_flex.specs.declared.half.Half.{Half}
 use Rattle.wbt_grant.specs.declared.who.StepKind.TheVariants as kind
-use Rattle.wbt_trace.specs.declared.trace.Trace.{Trace}
-use Rattle.wbt_io.specs.Moments.{done_at}
-use Rattle.wbt_rules.specs.Places.{page_of}
-use Rattle.wbt_rules.specs.Things.{context_of, flusher_device, group_of, rate_of}
-use Rattle.wbt_rules.specs.declared.age.TheConstants.{MOST_NOTICED}
-use Rattle.wbt_rules.specs.declared.moments.TheConstants.{FLUSHER_REST}
-use Rattle.wbt_task.specs.declared.allowance.Due.{Due}
+use Rattle.wbt_rules.specs.Things.{rate_of}
 use Rattle.wbt_task.specs.declared.allowance.Due.TheVariants as due
-use Rattle.wbt_replay_moves.specs.Definition.Check.{writer_of}
-use Rattle.wbt_replay_moves.specs.Definition.Estimates.{sample_of}
-use Rattle.wbt_replay_moves.specs.Definition.Forget.{extended}
-use Rattle.wbt_replay_moves.specs.Definition.Perform.{make_step, make_move, make_timer_step, make_timer_move, begin_turn}
-use Rattle.wbt_replay_moves.specs.Definition.Scan.{close_items, is_scan_over}
-use Rattle.wbt_replay_moves.specs.Definition.State.{State, cpu_of, with_cpu, task_of, flusher_of, waiting_of, queue_of, domain_of, writeback_of, is_drained}
-use Rattle.wbt_replay_moves.specs.Definition.Timer.{begin_timer, is_time, periods}
-use Rattle.wbt_replay_moves.specs.Definition.Writer.{pause_in, without_page, has_nothing}
-use Rattle.wbt_replay_moves.specs.declared.state.ReplayPhase.{ReplayPhase}
 use Rattle.wbt_replay_moves.specs.declared.state.ReplayPhase.TheVariants as phase
-use Rattle.wbt_replay_moves.specs.declared.state.ReplayTurn.{ReplayTurn}
-use Rattle.wbt_replay_moves.specs.declared.state.ReplayWork.{ReplayWork}
 use Rattle.wbt_replay_moves.specs.declared.state.ReplayWork.TheVariants as work
-use Rattle.wbt_replay_moves.specs.declared.state.Whose.{Whose}
 use Rattle.wbt_replay_moves.specs.declared.state.Whose.TheVariants as whose
-use Rattle.wbt_replay_moves.specs.declared.todo.Silent.{Silent}
 use Rattle.wbt_replay_moves.specs.declared.todo.Silent.TheVariants as silent
-use Rattle.wbt_replay_moves.specs.declared.todo.Step.{Step}
 use Rattle.wbt_replay_moves.specs.declared.todo.Step.TheVariants as step
 use Rattle.wbt_replay_moves.specs.declared.todo.Todo.TheVariants as todo
-use Rattle.wbt_replay_moves.specs.declared.todo.TimerSilent.{TimerSilent}
 use Rattle.wbt_replay_moves.specs.declared.todo.TimerSilent.TheVariants as timer_silent
-use Rattle.wbt_replay_moves.specs.declared.todo.TimerStep.{TimerStep}
 use Rattle.wbt_replay_moves.specs.declared.todo.TimerStep.TheVariants as timer_step
-use Rattle.wbt_replay_order.specs.Definition.Opening.{opening, first_cpu, first_cpus}
-use Rattle.wbt_replay_order.specs.Definition.Order.{advance, is_ended, is_full}
-use Rattle.wbt_replay_order.specs.Kept.Further.{fits_further}
 use Rattle.wbt_replay_order.proofs.Facts.Lists.{either}
-use Rattle.wbt_replay_changes.specs.Apply.{apply, apply_all}
-use Rattle.wbt_replay_changes.specs.Change.{Change}
 use Rattle.wbt_replay_changes.specs.Change as change
 use Rattle.wbt_replay_changes.specs.Change.Cpu as cpu_change
 use Rattle.wbt_replay_changes.specs.Change.Flusher as flusher_change
-use Rattle.wbt_replay_changes.specs.ChangeOf.{step_changes, move_changes, phase_changes, whose_changes, turn_changes}
-use Rattle.wbt_replay_changes.specs.ChangeOf.Flusher.{look_changes, claim_changes, close_changes, empty_changes, hand_over_changes, batch_changes, complete_changes, share_changes, group_changes, land_changes, landed_changes}
-use Rattle.wbt_replay_changes.specs.ChangeOf.Idle.{estimated_changes, takes, rests, queue_or_finish, last_changes, queue_or_rest, loads_changes, idle_changes, notice_changes, notices, aged_changes, waiting_changes, wheel_changes, test_changes, unmark_changes}
-use Rattle.wbt_replay_changes.specs.ChangeOf.Timer.{timer_step_changes, timer_move_changes, timer_turn_changes, period_changes}
-use Rattle.wbt_replay_changes.specs.ChangeOf.Where.{by_task, by_flusher, where_taken, where_scanning, where_flying, then_changes}
-use Rattle.wbt_replay_changes.specs.ChangeOf.Writer.{page_changes, work_changes, due_changes, write_changes, dirty_changes, mark_changes, decide_changes, end_changes}
-use Rattle.wbt_replay_changes.proofs.Agrees.{moves_are_changes}
+use Rattle.wbt_replay_changes.specs.ChangeOf.Flusher.{empty_changes, batch_changes, landed_changes}
+use Rattle.wbt_replay_changes.specs.ChangeOf.Idle.{takes, rests, queue_or_finish, queue_or_rest, loads_changes, notices, aged_changes}
+use Rattle.wbt_replay_changes.specs.ChangeOf.Timer.{period_changes}
+use Rattle.wbt_replay_changes.specs.ChangeOf.Writer.{mark_changes}
 use Rattle.wbt_forecast_run.specs.Claims.{FewAreTold}
 use Rattle.wbt_forecast_run.specs.Run.{let_on, moved, state_after}
 use Rattle.wbt_forecast_run.proofs.Runs.Ends.{ends_in_time, moves_needed, next_state, first_state, stays_over}

@@ -3,25 +3,14 @@ use Rattle.std.proofs.Common.{◌≡◌, ℕ, ◌+◌, ◌-◌, ◌≤◌, ◌<�
 use Rattle.std.specs.List.{sum_by}
 use Rattle.std.proofs.lemmas.Bool.{cases_lt}
 use Rattle.std.proofs.lemmas.List.{get_or_past, set_past, length_push}
-use Rattle.wbt_counter.specs.declared.counter.Counter.TheVariants.{Domain, Context}
+use Rattle.wbt_replay_order.proofs.Common.{Context, Trace, CheckEntry, Entry, StepEntry, context_of, device_of, flusher_device, group_of, checked, log_at, owe_at, State, no_cpu, cpu_of, flusher_of, with_flusher, queue_of, with_queue, with_event, periods, count_page, Cpu, cpu_after, passes, apply, apply_all, Change}
+use Rattle.wbt_counter.specs.declared.counter.Counter.TheVariants.{Domain}
 use Rattle.wbt_book.specs.declared.event.Event.TheVariants as event
-use Rattle.wbt_trace.specs.declared.trace.Trace.{Trace}
-use Rattle.wbt_journal.specs.declared.entry.CheckEntry.{CheckEntry}
-use Rattle.wbt_journal.specs.declared.entry.Entry.{Entry}
 use Rattle.wbt_journal.specs.declared.entry.Entry.TheVariants as entry
-use Rattle.wbt_journal.specs.declared.step.StepEntry.{StepEntry}
-use Rattle.wbt_rules.specs.Things.{context_of, device_of, flusher_device, group_of}
-use Rattle.wbt_replay_moves.specs.Definition.Cpu.{checked, log_at, owe_at}
-use Rattle.wbt_replay_moves.specs.Definition.State.{State, no_cpu, cpu_of, flusher_of, with_flusher, queue_of, with_queue, with_event}
-use Rattle.wbt_replay_moves.specs.Definition.Timer.{periods}
-use Rattle.wbt_replay_moves.specs.Definition.Writer.{count_page}
-use Rattle.wbt_replay_moves.specs.declared.state.Cpu.{Cpu}
 use Rattle.wbt_replay_moves.specs.declared.todo.Silent.TheVariants as silent
 use Rattle.wbt_replay_moves.specs.declared.todo.Step.TheVariants as step
 use Rattle.wbt_replay_moves.specs.declared.todo.Todo.TheVariants as todo
 use Rattle.wbt_replay_order.proofs.Lists.Numbered.{sum_set}
-use Rattle.wbt_replay_changes.specs.Apply.{cpu_after, passes, apply, apply_all}
-use Rattle.wbt_replay_changes.specs.Change.{Change}
 use Rattle.wbt_replay_changes.specs.Change as change
 use Rattle.wbt_forecast_run.proofs.Runs.Growing.{cpu_told}
 

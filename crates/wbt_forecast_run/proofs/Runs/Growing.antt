@@ -2,30 +2,14 @@
 use Rattle.std.proofs.Common.{◌≡◌, ℕ, zero, suc, ◌+◌, ◌-◌, ◌/◌, ◌==◌, ◌&&◌, true, ℤ, pos, negsuc, ◌+ℤ◌, unsigned_abs, List, [], ◌∷◌, ◌++◌, length, map, drop, set, get_or, refl, sym, ◌∙◌, ap, subst, append_assoc, append-nil, arith}
 use Rattle.std.proofs.lemmas.List.{drop_at}
 use Rattle.wbt_book.specs.declared.event.Event.TheVariants as event
-use Rattle.wbt_counter.specs.declared.counter.Counter.{Counter}
-use Rattle.wbt_counter.specs.declared.counter.Counter.TheVariants.{Domain, Context}
-use Rattle.wbt_trace.specs.declared.trace.Trace.{Trace}
-use Rattle.wbt_journal.specs.Machine.{batch_of}
-use Rattle.wbt_journal.specs.declared.entry.Entry.{Entry}
+use Rattle.wbt_replay_order.proofs.Common.{Counter, Context, Trace, batch_of, Entry, StepEntry, context_of, group_of, do_next, own_of, with_own, checked, log_at, owe_at, extended, State, no_cpu, cpu_of, with_cpu, flusher_of, with_flusher, with_event, count_page, Cpu, Todo, advance, is_ended, is_full, fits_further, cpu_after, passes, apply, Change, CpuChange}
+use Rattle.wbt_counter.specs.declared.counter.Counter.TheVariants.{Domain}
 use Rattle.wbt_journal.specs.declared.entry.Entry.TheVariants as entry
-use Rattle.wbt_journal.specs.declared.step.StepEntry.{StepEntry}
-use Rattle.wbt_rules.specs.Things.{context_of, group_of}
-use Rattle.wbt_replay_moves.specs.Definition.Cpu.{do_next, own_of, with_own, checked, log_at, owe_at}
-use Rattle.wbt_replay_moves.specs.Definition.Forget.{extended}
-use Rattle.wbt_replay_moves.specs.Definition.State.{State, no_cpu, cpu_of, with_cpu, flusher_of, with_flusher, with_event}
-use Rattle.wbt_replay_moves.specs.Definition.Writer.{count_page}
-use Rattle.wbt_replay_moves.specs.declared.state.Cpu.{Cpu}
 use Rattle.wbt_replay_moves.specs.declared.todo.Silent.TheVariants as silent
 use Rattle.wbt_replay_moves.specs.declared.todo.Step.TheVariants as step
-use Rattle.wbt_replay_moves.specs.declared.todo.Todo.{Todo}
 use Rattle.wbt_replay_moves.specs.declared.todo.Todo.TheVariants as todo
-use Rattle.wbt_replay_order.specs.Definition.Order.{advance, is_ended, is_full}
-use Rattle.wbt_replay_order.specs.Kept.Further.{fits_further}
 use Rattle.wbt_replay_order.proofs.Facts.Lists.{either}
-use Rattle.wbt_replay_changes.specs.Apply.{cpu_after, passes, apply}
-use Rattle.wbt_replay_changes.specs.Change.{Change}
 use Rattle.wbt_replay_changes.specs.Change as change
-use Rattle.wbt_replay_changes.specs.Change.Cpu.{CpuChange}
 use Rattle.wbt_replay_changes.specs.Change.Cpu as cpu_change
 use Rattle.wbt_forecast_rows.specs.Between.{HasGrown, HaveGrown, entries_of, checks_of, IsAfter}
 use Rattle.wbt_forecast_rows.specs.Laws.{IsStill, IsToldInOrder}

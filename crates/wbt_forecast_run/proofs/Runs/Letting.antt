@@ -1,14 +1,7 @@
 -- Where a run is let on its state stays in range, and so it does by each move.
 use Rattle.std.proofs.Common.{ℕ, zero, suc, ◌&&◌}
 use Rattle.std.proofs.lemmas.Bool.{and_parts}
-use Rattle.wbt_trace.specs.declared.trace.Trace.{Trace}
-use Rattle.wbt_replay_moves.specs.Definition.Forget.{extended}
-use Rattle.wbt_replay_moves.specs.Definition.State.{State}
-use Rattle.wbt_replay_order.specs.Definition.Opening.{opening}
-use Rattle.wbt_replay_order.specs.Definition.Order.{advance, is_ended, is_full}
-use Rattle.wbt_replay_order.specs.Kept.Facts.{Facts}
-use Rattle.wbt_replay_order.specs.Kept.Further.{fits_further}
-use Rattle.wbt_replay_order.specs.Kept.InRange.{IsInRange}
+use Rattle.wbt_replay_order.proofs.Common.{Trace, extended, State, opening, advance, is_ended, is_full, Facts, fits_further, IsInRange}
 use Rattle.wbt_replay_order.proofs.Facts.Facts.{facts}
 use Rattle.wbt_replay_order.proofs.Facts.Lists.{either}
 use Rattle.wbt_replay_order.proofs.Further.Extended.{extended_sound, extended_room}

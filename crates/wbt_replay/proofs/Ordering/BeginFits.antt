@@ -4,28 +4,15 @@ use Rattle.std.proofs.Math.ListN.{set}
 use Rattle.std.specs.List.{count_by}
 use Rattle.std.proofs.lemmas.List.{get_or-set_same}
 use Rattle.std.proofs.lemmas.List.Elements.{All-head, All-weaker}
-use Rattle.wbt_trace.specs.Lawful.{IsPace}
-use Rattle.wbt_trace.specs.declared.trace.Pace.{Pace}
-use Rattle.wbt_trace.specs.declared.trace.Trace.{Trace}
-use Rattle.wbt_rules.specs.Pace.{pause_of}
-use Rattle.wbt_replay_moves.specs.Definition.State.{State, cpu_of, with_cpu, task_of, flusher_of, no_cpu}
-use Rattle.wbt_replay_moves.specs.Definition.Writer.{pause_in}
+use Rattle.wbt_replay_order.proofs.Common.{IsPace, Pace, Trace, pause_of, State, cpu_of, with_cpu, task_of, flusher_of, no_cpu, pause_in, Cpu, ReplayJob, ReplayPhase, ReplayTask, ReplayWork, after, is_finished, job_at, seek_job, cpu_turn, turn_at, Facts, IsJobOn, IsTaskOn, Sound, WorkFits, is_at_work, working_on}
 use Rattle.wbt_replay_moves.specs.Kept.Fit.{CanBegin, TaskBegins, PauseFits, RestFits, PhaseBegins}
 use Rattle.wbt_replay_moves.specs.declared.state.Actor.TheVariants as who
-use Rattle.wbt_replay_moves.specs.declared.state.Cpu.{Cpu}
-use Rattle.wbt_replay_moves.specs.declared.state.ReplayJob.{ReplayJob}
 use Rattle.wbt_replay_moves.specs.declared.state.ReplayJob.TheVariants as job
-use Rattle.wbt_replay_moves.specs.declared.state.ReplayPhase.{ReplayPhase}
 use Rattle.wbt_replay_moves.specs.declared.state.ReplayPhase.TheVariants as phase
-use Rattle.wbt_replay_moves.specs.declared.state.ReplayTask.{ReplayTask}
 use Rattle.wbt_replay_moves.specs.declared.state.Whose.TheVariants as whose
-use Rattle.wbt_replay_moves.specs.declared.state.ReplayWork.{ReplayWork}
 use Rattle.wbt_replay_moves.specs.declared.state.ReplayWork.TheVariants as work
 use Rattle.wbt_replay_order.specs.declared.chance.Chance.TheVariants as chance
-use Rattle.wbt_replay_order.specs.Definition.Order.{after, is_finished, job_at, seek_job, cpu_turn, turn_at}
-use Rattle.wbt_replay_order.specs.Kept.Facts.{Facts, IsJobOn, IsTaskOn}
 use Rattle.wbt_replay_order.specs.Kept.Seeks.{CanSeek, CanSeekAll, HasJob, HasTask, JobBegins}
-use Rattle.wbt_replay_order.specs.Kept.Sound.{Sound, WorkFits, is_at_work, working_on}
 use Rattle.wbt_replay_order.proofs.Frames.Chances.{IsPlace, IsChance, seek_chance}
 use Rattle.wbt_replay_order.proofs.Facts.Lists.{either}
 use Rattle.wbt_replay_order.proofs.Facts.Things.{moment_fits, flusher_there, flusher_fits}

@@ -3,15 +3,10 @@ use Rattle.std.proofs.Common.{◌≡◌, ℕ, ◌<◌, length, get_or, ◌∙◌
 use Rattle.std.proofs.lemmas.List.{get_or-set_same, set-set}
 use Rattle.std.specs.Prelude.{OnOk, Result, Ok, Err}
 use Rattle.std.specs.declared.alloc.AllocError.{AllocError}
-use Rattle.wbt_trace.specs.declared.trace.Trace.{Trace}
-use Rattle.wbt_replay_moves.specs.Definition.Perform.{begin_turn}
-use Rattle.wbt_replay_moves.specs.Definition.State.{State, cpu_of, no_cpu, with_cpu}
+use Rattle.wbt_replay_order.proofs.Common.{Trace, begin_turn, State, cpu_of, no_cpu, with_cpu, Cpu, ReplayJob, after, begin, begin_job, job_at}
 use Rattle.wbt_replay_moves.specs.declared.state.Actor.TheVariants as who
-use Rattle.wbt_replay_moves.specs.declared.state.Cpu.{Cpu}
-use Rattle.wbt_replay_moves.specs.declared.state.ReplayJob.{ReplayJob}
 use Rattle.wbt_replay_moves.specs.declared.state.ReplayJob.TheVariants as job
 use Rattle.wbt_replay_moves.specs.declared.state.Whose.TheVariants as whose
-use Rattle.wbt_replay_order.specs.Definition.Order.{after, begin, begin_job, job_at}
 
 twice : (cpu : ℕ) (a b : Cpu) (s : State) → with_cpu cpu b (with_cpu cpu a s) ≡ with_cpu cpu b s
 twice cpu a b s = ap (λ cs. record s { cpus = cs }) (set-set s.cpus cpu a b)

@@ -1,16 +1,9 @@
 -- The opening, field by field; and what a lawful trace gives it.
 use Rattle.std.proofs.Common.{◌≡◌, zero, suc, ◌<◌, false, [], length, get_or, map, replicate, None, arith}
-use Rattle.wbt_trace.specs.Lawful.{IsLawful, IsAction}
-use Rattle.wbt_trace.specs.Sofar.{pages_in}
-use Rattle.wbt_trace.specs.declared.trace.Action.{Action}
+use Rattle.wbt_replay_order.proofs.Common.{IsLawful, IsAction, pages_in, Action, Trace, clean, domains, MOST_STEPS, State, first_contexts, first_cpus, first_domains, first_flushers, first_limits, first_tasks, opening, stretch_of}
 use Rattle.wbt_trace.specs.declared.trace.Action.TheVariants as action
-use Rattle.wbt_trace.specs.declared.trace.Trace.{Trace}
-use Rattle.wbt_book.specs.Book.{clean}
-use Rattle.wbt_journal.specs.Machine.{domains}
-use Rattle.wbt_num.specs.declared.most.TheConstants.{MOST_STEPS}
 use Rattle.wbt_limits.specs.Thresholds.{ratelimit_pages_of}
-use Rattle.wbt_replay_moves.specs.Definition.State.{State}
-use Rattle.wbt_replay_order.specs.Definition.Opening.{first_contexts, first_cpus, first_domains, first_flushers, first_limits, first_tasks, first_timer, opening, running_of, stretch_of}
+use Rattle.wbt_replay_order.specs.Definition.Opening.{first_timer, running_of}
 use Rattle.wbt_replay_order.specs.Kept.Opens.{ActionFits, DomainsFit, OpeningFits}
 use Rattle.wbt_replay_order.proofs.Facts.Inodes.{before_ends}
 

@@ -1,10 +1,6 @@
 -- Each move of a run keeps what is in range.
 use Rattle.std.proofs.Common.{◌≡◌, false}
-use Rattle.wbt_trace.specs.declared.trace.Trace.{Trace}
-use Rattle.wbt_replay_moves.specs.Definition.State.{State}
-use Rattle.wbt_replay_order.specs.Definition.Order.{advance, is_ended}
-use Rattle.wbt_replay_order.specs.Kept.Facts.{Facts}
-use Rattle.wbt_replay_order.specs.Kept.Sound.{HasRoom, Sound}
+use Rattle.wbt_replay_order.proofs.Common.{Trace, State, advance, is_ended, Facts, HasRoom, Sound}
 use Rattle.wbt_replay_ranges.proofs.Sound.Advances as advances
 
 pub sound_kept : (trace : Trace) (s : State) → Facts trace → Sound trace s → HasRoom trace s → is_ended s ≡ false → Sound trace (advance trace s) × HasRoom trace (advance trace s)

@@ -3,16 +3,11 @@ use Rattle.std.proofs.Common.{◌≡◌, ℕ, zero, suc, ◌+◌, ◌-◌, List,
 use Rattle.std.specs.List.{sum_by}
 use Rattle.std.proofs.lemmas.List.Elements.{All-head, All-tail, All-cons}
 use Rattle.std.proofs.lemmas.List.Sums.{sum_by-cons}
-use Rattle.wbt_trace.specs.declared.trace.Trace.{Trace}
-use Rattle.wbt_replay_moves.specs.Definition.State.{State}
-use Rattle.wbt_replay_moves.specs.declared.state.Actor.{Actor}
-use Rattle.wbt_replay_moves.specs.declared.state.Stretch.{Stretch}
+use Rattle.wbt_replay_order.proofs.Common.{Trace, State, Actor, Stretch, advance, advance_by, ahead_of, follow, go_on, with_orders, reserve, ticks_of, IsStretch, Sound}
 use Rattle.wbt_replay_moves.specs.declared.state.Stretch.TheVariants as stretch
-use Rattle.wbt_replay_order.specs.Definition.Order.{advance, advance_by, ahead_of, follow, go_on, with_orders}
 use Rattle.wbt_replay_order.specs.declared.chance.Ahead.{Ahead}
 use Rattle.wbt_replay_order.specs.declared.chance.Ahead.TheVariants as ahead
-use Rattle.wbt_replay_order.specs.Kept.Horizon.{MomentsAreWithin, reserve, ticks_of}
-use Rattle.wbt_replay_order.specs.Kept.Sound.{IsStretch, Sound}
+use Rattle.wbt_replay_order.specs.Kept.Horizon.{MomentsAreWithin}
 
 pub step_follows : (trace : Trace) (s : State) (actor : Actor) (steps : ℕ) (more : List Stretch) → s.orders ≡ stretch.Steps actor steps ∷ more → ahead_of actor s ≡ ahead.Step
     → (steps ≡ 0 → ⊥) → go_on trace actor (with_orders (stretch.Steps actor (steps - 1) ∷ more) s) ≡ advance trace s

@@ -4,25 +4,12 @@ use Rattle.std.proofs.Math.ListN.{set}
 use Rattle.std.specs.List.{sum_by}
 use Rattle.std.proofs.lemmas.Bool.{cases_lt}
 use Rattle.std.proofs.lemmas.List.{get_or_past}
-use Rattle.wbt_task.specs.History.{new_writer}
+use Rattle.wbt_replay_order.proofs.Common.{new_writer, Writer, Trace, writer_of, State, cpu_of, with_cpu, task_of, flusher_of, no_cpu, no_task, group_of, ReadFits, FlyingFits, Cpu, ReplayTask, Whose, Silent, Todo, Facts, Sound, IsWhose, dirtied_of, leaks_of, is_running, Agrees}
 use Rattle.wbt_task.specs.declared.allowance.Due.TheVariants as due
-use Rattle.wbt_task.specs.declared.history.Writer.{Writer}
-use Rattle.wbt_trace.specs.declared.trace.Trace.{Trace}
-use Rattle.wbt_replay_moves.specs.Definition.Check.{writer_of}
-use Rattle.wbt_replay_moves.specs.Definition.State.{State, cpu_of, with_cpu, task_of, flusher_of, no_cpu, no_task}
-use Rattle.wbt_rules.specs.Things.{group_of}
-use Rattle.wbt_replay_moves.specs.Kept.Fit.{CanMove, DecideFits, ReadFits, HoldsLimits, EstimateFits, EndFits, ScanningFits, FlyingFits, TestFits}
-use Rattle.wbt_replay_moves.specs.declared.state.Cpu.{Cpu}
-use Rattle.wbt_replay_moves.specs.declared.state.ReplayTask.{ReplayTask}
-use Rattle.wbt_replay_moves.specs.declared.state.Whose.{Whose}
+use Rattle.wbt_replay_moves.specs.Kept.Fit.{CanMove, DecideFits, HoldsLimits, EstimateFits, EndFits, ScanningFits, TestFits}
 use Rattle.wbt_replay_moves.specs.declared.state.Whose.TheVariants as whose
-use Rattle.wbt_replay_moves.specs.declared.todo.Silent.{Silent}
 use Rattle.wbt_replay_moves.specs.declared.todo.Silent.TheVariants as silent
-use Rattle.wbt_replay_moves.specs.declared.todo.Todo.{Todo}
 use Rattle.wbt_replay_moves.specs.declared.todo.Todo.TheVariants as todo
-use Rattle.wbt_replay_order.specs.Kept.Facts.{Facts}
-use Rattle.wbt_replay_order.specs.Kept.Sound.{Sound, IsWhose, dirtied_of, leaks_of, is_running}
-use Rattle.wbt_replay_order.specs.Kept.Turns.{Agrees}
 use Rattle.wbt_replay.proofs.Ordering.PopFits.{kept, after, same, whose_is, fits_is, agrees_is, owner_fits}
 use Rattle.wbt_replay_order.proofs.Facts.Things.{cpus_fit, moment_fits, holds_global, holds_cgroup, read_fits, estimate_fits, scanning_fits, flying_fits, test_fits}
 use Rattle.wbt_replay_order.proofs.Lists.Numbered.{one_if, sum_part}

@@ -3,18 +3,10 @@ use Rattle.std.proofs.Common.{◌≡◌, ◌≢◌, ◌⊎◌, inl, inr, ℕ, ze
 use Rattle.std.proofs.lemmas.Bool.{cases_eq, cond-true, cond-false}
 use Rattle.std.proofs.lemmas.Grind.{flat_map-append}
 use Rattle.std.proofs.lemmas.List.{ext_get_or, get_or_append_left, get_or_push, get_or-set_same, get_or-set_other, length-set, length-map, length-take, length-drop, map-append, take_more, take_all, drop_more}
-use Rattle.wbt_trace.specs.declared.trace.Action.{Action}
+use Rattle.wbt_replay_order.proofs.Common.{Action, TaskLine, Trace, pace_of, no_task, inode_of, ReplayTask, ReplayWork, first_task, first_tasks, work_of, works_of, ended_idle}
 use Rattle.wbt_trace.specs.declared.trace.Action.TheVariants as action
-use Rattle.wbt_trace.specs.declared.trace.TaskLine.{TaskLine}
-use Rattle.wbt_trace.specs.declared.trace.Trace.{Trace}
-use Rattle.wbt_rules.specs.Pace.{pace_of}
-use Rattle.wbt_replay_moves.specs.Definition.State.{no_task}
-use Rattle.wbt_rules.specs.Things.{inode_of}
-use Rattle.wbt_replay_moves.specs.declared.state.ReplayTask.{ReplayTask}
-use Rattle.wbt_replay_moves.specs.declared.state.ReplayWork.{ReplayWork}
 use Rattle.wbt_replay_moves.specs.declared.state.ReplayWork.TheVariants as work
-use Rattle.wbt_replay_order.specs.Definition.Opening.{first_task, first_tasks, work_of, works_of}
-use Rattle.wbt_replay_order.specs.Kept.Opens.{ActionFits, doing, does_too, ended_idle, put_work, task_with}
+use Rattle.wbt_replay_order.specs.Kept.Opens.{ActionFits, doing, does_too, put_work, task_with}
 
 abbrev no_line : TaskLine
 no_line = record { cpu = 0; pace = None }

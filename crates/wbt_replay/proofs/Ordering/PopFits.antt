@@ -2,17 +2,9 @@
 use Rattle.std.proofs.Common.{◌≡◌, ℕ, ◌<◌, List, ◌∷◌, length, All, sym, ap, subst, arith}
 use Rattle.std.proofs.lemmas.List.{get_or-set_same}
 use Rattle.std.proofs.lemmas.List.Elements.{All-head}
-use Rattle.wbt_trace.specs.declared.trace.Trace.{Trace}
-use Rattle.wbt_replay_moves.specs.Definition.State.{State, cpu_of, with_cpu, flusher_of, no_cpu}
+use Rattle.wbt_replay_order.proofs.Common.{Trace, State, cpu_of, with_cpu, flusher_of, no_cpu, Cpu, ReplayPhase, Whose, Todo, Facts, Sound, IsWhose, ItemFits, Agrees}
 use Rattle.wbt_replay_moves.specs.Kept.Fit.{OfFlusher}
-use Rattle.wbt_replay_moves.specs.declared.state.Cpu.{Cpu}
-use Rattle.wbt_replay_moves.specs.declared.state.ReplayPhase.{ReplayPhase}
-use Rattle.wbt_replay_moves.specs.declared.state.Whose.{Whose}
 use Rattle.wbt_replay_moves.specs.declared.state.Whose.TheVariants as whose
-use Rattle.wbt_replay_moves.specs.declared.todo.Todo.{Todo}
-use Rattle.wbt_replay_order.specs.Kept.Facts.{Facts}
-use Rattle.wbt_replay_order.specs.Kept.Sound.{Sound, IsWhose}
-use Rattle.wbt_replay_order.specs.Kept.Turns.{ItemFits, Agrees}
 use Rattle.wbt_replay_order.proofs.Facts.Things.{flusher_there}
 
 module _ (trace : Trace) (facts : Facts trace) (s : State) (sound : Sound trace s) (i : ℕ) (less : i < trace.cpus) (t : Todo) (ts : List Todo) (first : (cpu_of i s).todo ≡ t ∷ ts) (made : ℕ) where

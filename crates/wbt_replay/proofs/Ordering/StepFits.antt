@@ -2,33 +2,15 @@
 use Rattle.std.proofs.Common.{◌≡◌, ℕ, ◌+◌, ◌<◌, ◌≤◌, false, ℤ, unsigned_abs, List, [], ◌∷◌, length, All, refl, sym, subst, arith, ◌^◌, Option, None, Some, IfSome}
 use Rattle.std.proofs.Math.ListN.{set}
 use Rattle.std.proofs.lemmas.List.Elements.{All-head}
-use Rattle.wbt_counter.specs.declared.counter.Count.{Count}
-use Rattle.wbt_counter.specs.declared.counter.Counter.{Counter}
-use Rattle.wbt_counter.specs.declared.counter.Counter.TheVariants.{Domain, Context}
-use Rattle.wbt_task.specs.History.{new_writer}
-use Rattle.wbt_trace.specs.Lawful.{IsPace}
-use Rattle.wbt_trace.specs.declared.trace.Pace.{Pace}
-use Rattle.wbt_trace.specs.declared.trace.Trace.{Trace}
-use Rattle.wbt_journal.specs.Machine.{batch_of, domains}
-use Rattle.wbt_replay_moves.specs.Definition.Cpu.{own_of}
-use Rattle.wbt_replay_moves.specs.Definition.State.{State, cpu_of, with_cpu, task_of, flusher_of, domain_of, writeback_of, count_of}
-use Rattle.wbt_rules.specs.Places.{page_of}
-use Rattle.wbt_rules.specs.Things.{context_of}
-use Rattle.wbt_replay_moves.specs.Kept.Fit.{CanStep, HasOwn, HasCount, IsOwn, CanFold, DirtyFits, WriteFits, TakenFits, LookFits, FlyingFits, OfFlusher}
-use Rattle.wbt_replay_moves.specs.declared.state.Cpu.{Cpu}
-use Rattle.wbt_replay_moves.specs.declared.state.ReplayPhase.{ReplayPhase}
+use Rattle.wbt_replay_order.proofs.Common.{Count, Counter, Context, new_writer, IsPace, Pace, Trace, batch_of, domains, own_of, State, cpu_of, with_cpu, task_of, flusher_of, domain_of, writeback_of, count_of, page_of, context_of, HasOwn, HasCount, FlyingFits, Cpu, ReplayPhase, Whose, ReplayWork, Step, Todo, Facts, Sound, HasRoom, IsAt, IsCount, IsWhose, WorkFits, IsCounter, Agrees, FlusherAgrees, IsOpenAt, settles_next}
+use Rattle.wbt_counter.specs.declared.counter.Counter.TheVariants.{Domain}
+use Rattle.wbt_replay_moves.specs.Kept.Fit.{CanStep, IsOwn, CanFold, DirtyFits, WriteFits, TakenFits, LookFits, OfFlusher}
 use Rattle.wbt_replay_moves.specs.declared.state.ReplayPhase.TheVariants as phase
-use Rattle.wbt_replay_moves.specs.declared.state.Whose.{Whose}
 use Rattle.wbt_replay_moves.specs.declared.state.Whose.TheVariants as whose
-use Rattle.wbt_replay_moves.specs.declared.state.ReplayWork.{ReplayWork}
 use Rattle.wbt_replay_moves.specs.declared.state.ReplayWork.TheVariants as work
-use Rattle.wbt_replay_moves.specs.declared.todo.Step.{Step}
 use Rattle.wbt_replay_moves.specs.declared.todo.Step.TheVariants as step
-use Rattle.wbt_replay_moves.specs.declared.todo.Todo.{Todo}
 use Rattle.wbt_replay_moves.specs.declared.todo.Todo.TheVariants as todo
-use Rattle.wbt_replay_order.specs.Kept.Facts.{Facts}
-use Rattle.wbt_replay_order.specs.Kept.Sound.{Sound, HasRoom, IsAt, IsCount, IsWhose, WorkFits, SinceFits}
-use Rattle.wbt_replay_order.specs.Kept.Turns.{IsCounter, Agrees, FlusherAgrees, IsOpenAt, settles_next}
+use Rattle.wbt_replay_order.specs.Kept.Sound.{SinceFits}
 use Rattle.wbt_replay_ranges.proofs.Sound.Counters.{batch_few}
 use Rattle.wbt_replay.proofs.Ordering.PopFits.{kept, after, same, whose_is, fits_is, agrees_is, owner_fits}
 use Rattle.wbt_replay_order.proofs.Facts.Scans.{scan_page}

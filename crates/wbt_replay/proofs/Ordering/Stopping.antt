@@ -2,13 +2,8 @@
 use Rattle.std.proofs.Common.{◌≡◌, ℕ, ◌+◌, true, false, cond, Some, List, [], ◌∷◌, drop, sym, ◌∙◌, ap}
 use Rattle.std.proofs.lemmas.Bool.{cond-true, cond-false}
 use Rattle.wbt_num.specs.Front.{first}
-use Rattle.wbt_trace.specs.declared.trace.Trace.{Trace}
-use Rattle.wbt_replay_moves.specs.Definition.Perform.{make_step}
-use Rattle.wbt_replay_moves.specs.Definition.State.{State, cpu_of, with_cpu}
-use Rattle.wbt_replay_moves.specs.declared.todo.Step.{Step}
-use Rattle.wbt_replay_moves.specs.declared.todo.Todo.{Todo}
+use Rattle.wbt_replay_order.proofs.Common.{Trace, make_step, State, cpu_of, with_cpu, Step, Todo, cpu_on, step_or_stop, is_halted, is_full, stop, spend}
 use Rattle.wbt_replay_moves.specs.declared.todo.Todo.TheVariants as todo
-use Rattle.wbt_replay_order.specs.Definition.Order.{cpu_on, step_or_stop, is_halted, is_full, stop, spend}
 
 module _ (trace : Trace) (cpu : ℕ) (step : Step) (s : State) where
   step_next : (todos : List Todo) → first todos ≡ Some (todo.Step step) → cpu_on trace cpu todos s ≡ step_or_stop trace cpu step (drop 1 todos) s

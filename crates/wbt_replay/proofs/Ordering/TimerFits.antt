@@ -1,20 +1,12 @@
 -- What a sound state gives each move of the timer.
 use Rattle.std.proofs.Common.{◌≡◌, ℕ, zero, suc, ◌^◌, ◌<◌, List, ◌∷◌, length, All, subst, arith}
 use Rattle.std.proofs.lemmas.List.Elements.{All-head}
-use Rattle.wbt_journal.specs.Machine.{domains}
-use Rattle.wbt_trace.specs.declared.trace.Trace.{Trace}
-use Rattle.wbt_replay_moves.specs.Definition.State.{State, domain_of}
-use Rattle.wbt_replay_moves.specs.Definition.Timer.{with_timer}
+use Rattle.wbt_replay_order.proofs.Common.{domains, Trace, State, domain_of, with_timer, TimerSilent, TimerStep, TimerTodo, Facts, Sound, TimerItemFits}
 use Rattle.wbt_replay_moves.specs.Kept.Fit.{CanTimerStep, CanTimerMove}
 use Rattle.wbt_rules.specs.Thresholds.{DomainFits}
-use Rattle.wbt_replay_moves.specs.declared.todo.TimerSilent.{TimerSilent}
 use Rattle.wbt_replay_moves.specs.declared.todo.TimerSilent.TheVariants as silent
-use Rattle.wbt_replay_moves.specs.declared.todo.TimerStep.{TimerStep}
 use Rattle.wbt_replay_moves.specs.declared.todo.TimerStep.TheVariants as step
-use Rattle.wbt_replay_moves.specs.declared.todo.TimerTodo.{TimerTodo}
 use Rattle.wbt_replay_moves.specs.declared.todo.TimerTodo.TheVariants as todo
-use Rattle.wbt_replay_order.specs.Kept.Facts.{Facts}
-use Rattle.wbt_replay_order.specs.Kept.Sound.{Sound, TimerItemFits}
 use Rattle.wbt_replay_order.proofs.Facts.Things.{moment_fits}
 
 module _ (trace : Trace) (facts : Facts trace) (s : State) (sound : Sound trace s) where

@@ -1,12 +1,9 @@
 -- The lines, one context after another.
 use Rattle.std.proofs.Common.{◌≡◌, ℕ, zero, suc, ◌+◌, ◌<◌, true, false, List, [], ◌∷◌, ◌++◌, refl, sym, ◌∙◌, ap, arith}
 use Rattle.std.proofs.lemmas.Bool.{cond-true, cond-false}
-use Rattle.wbt_rules.specs.Strict.{is_strict}
-use Rattle.wbt_trace.specs.declared.trace.Trace.{Trace}
+use Rattle.wbt_replay_order.proofs.Common.{is_strict, Trace, StepEntry, Cpu, most_pages, part_used}
 use Rattle.wbt_journal.specs.declared.journal.StrictLine.{StrictLine}
-use Rattle.wbt_journal.specs.declared.step.StepEntry.{StepEntry}
-use Rattle.wbt_replay_moves.specs.declared.state.Cpu.{Cpu}
-use Rattle.wbt_replay_order.specs.Definition.Strict.{most_pages, part_used, bound_with, line_for, lines_of}
+use Rattle.wbt_replay_order.specs.Definition.Strict.{bound_with, line_for, lines_of}
 
 module _ (trace : Trace) (steps : List StepEntry) (cpus : List Cpu) where
   pub lines_with : (n : ℕ) → is_strict trace n ≡ true → lines_of trace steps cpus (suc n) ≡ lines_of trace steps cpus n ++ line_for trace steps cpus n ∷ []

@@ -6,11 +6,10 @@ use Rattle.std.proofs.lemmas.Int.{ints}
 use Rattle.std.proofs.lemmas.List.{get_or-set_same, get_or-set_other, get_or-replicate, length-set, length-replicate, drop_all}
 use mathlib.Core.Logic.{dite}
 use native.Mathlib.Decide.{ℕ_discrete}
-use Rattle.wbt_counter.specs.History.{at_least_zero}
-use Rattle.wbt_journal.specs.declared.step.StepEntry.{StepEntry}
+use Rattle.wbt_replay_order.proofs.Common.{at_least_zero, StepEntry, pages_after, most_pages, no_tally}
 use Rattle.wbt_replay_order.specs.declared.tally.Tally.{Tally}
-use Rattle.wbt_replay_order.specs.Definition.Strict.{pages_after, most_from, most_pages}
-use Rattle.wbt_replay_order.specs.Kept.Strict.{no_tally, tallied, IsTally, AreTallies, AreMost}
+use Rattle.wbt_replay_order.specs.Definition.Strict.{most_from}
+use Rattle.wbt_replay_order.specs.Kept.Strict.{tallied, IsTally, AreTallies, AreMost}
 
 -- a context has had as many pages as it begins with
 pub most_at_first : (k : ℕ) (pages : ℤ) (steps : List StepEntry) → at_least_zero pages ≤ most_from k pages steps

@@ -4,38 +4,21 @@ use Rattle.std.proofs.Math.ListN.{set}
 use Rattle.std.proofs.lemmas.Bool.Decides.{nat_tests}
 use Rattle.std.proofs.lemmas.List.{append_assoc, set-get_or}
 use Rattle.std.proofs.lemmas.List.Sums.{sum_by-set}
-use Rattle.wbt_task.specs.declared.allowance.Due.{Due}
+use Rattle.wbt_replay_order.proofs.Common.{Due, IsPace, Pace, Trace, writer_of, do_next, do_last, then_do, logged, take_or_finish, domain_loads, measures_of, weighs_of, begin_test, take_last, take_first, begin_phase, State, no_cpu, no_flusher, cpu_of, task_of, flusher_of, queue_of, is_drained, waiting_of, pause_of, group_of, flusher_device, check_items, begin_rest, pause_in, begin_pause, begin_page, begin_work, begin_due, has_nothing, Cpu, ReplayPhase, ReplayWork, Todo, is_finished, ahead_cost, IsPaid, is_last, wait, pause_cost, task_cost, flusher_cost, phase_cost, Flusher}
 use Rattle.wbt_task.specs.declared.allowance.Due.TheVariants as due
-use Rattle.wbt_trace.specs.Lawful.{IsPace}
-use Rattle.wbt_trace.specs.declared.trace.Pace.{Pace}
-use Rattle.wbt_trace.specs.declared.trace.Trace.{Trace}
-use Rattle.wbt_replay_moves.specs.Definition.Check.{writer_of}
-use Rattle.wbt_replay_moves.specs.Definition.Cpu.{do_next, do_last, then_do, logged}
-use Rattle.wbt_replay_moves.specs.Definition.Idle.{take, take_or_finish, domain_loads, measures_of, weighs_of, begin_test, take_last, take_first}
-use Rattle.wbt_replay_moves.specs.Definition.Perform.{begin_phase}
-use Rattle.wbt_replay_moves.specs.Definition.State.{State, no_cpu, no_flusher, cpu_of, task_of, flusher_of, queue_of, is_drained, waiting_of}
-use Rattle.wbt_rules.specs.Pace.{pause_of}
-use Rattle.wbt_rules.specs.Things.{group_of, flusher_device}
-use Rattle.wbt_replay_moves.specs.Definition.Writer.{check_items, begin_rest, pause_in, begin_pause, begin_page, begin_work, begin_due, has_nothing}
-use Rattle.wbt_replay_moves.specs.declared.state.Cpu.{Cpu}
-use Rattle.wbt_replay_moves.specs.declared.state.ReplayPhase.{ReplayPhase}
+use Rattle.wbt_replay_moves.specs.Definition.Idle.{take}
 use Rattle.wbt_replay_moves.specs.declared.state.ReplayPhase.TheVariants as phase
 use Rattle.wbt_replay_moves.specs.declared.state.Whose.TheVariants as whose
-use Rattle.wbt_replay_moves.specs.declared.state.ReplayWork.{ReplayWork}
 use Rattle.wbt_replay_moves.specs.declared.state.ReplayWork.TheVariants as work
 use Rattle.wbt_replay_moves.specs.declared.todo.Silent.TheVariants as silent
 use Rattle.wbt_replay_moves.specs.declared.todo.Step.TheVariants as step
-use Rattle.wbt_replay_moves.specs.declared.todo.Todo.{Todo}
 use Rattle.wbt_replay_moves.specs.declared.todo.Todo.TheVariants as todo
-use Rattle.wbt_replay_order.specs.Definition.Order.{is_finished}
-use Rattle.wbt_replay_order.specs.Kept.Ending.{ahead_cost, IsPaid, is_last, wait, pause_cost, task_cost, flusher_cost, phase_cost}
 use Rattle.wbt_replay_order.proofs.Facts.Lists.{either, twice}
 use Rattle.wbt_replay_ends.proofs.Ends.Goes.{Goes, cpu_goes, goes_so, flusher_there, wait_most}
 use Rattle.wbt_replay_ends.proofs.Ends.Turns.{ahead_most, loads_light, loads_begin, measures_light, weighs_light}
 use Rattle.wbt_replay_ends.proofs.Ends.Writes.{IsAlone, task_goes}
 use Rattle.wbt_expiry.specs.declared.due.Due.{Due as Pair}
 use Rattle.wbt_journal.specs.declared.entry.Entry.TheVariants as entry
-use Rattle.wbt_replay_moves.specs.declared.state.Flusher.{Flusher}
 
 -- A task that rests between its pages has written one since it rested so.
 paused_some : (pace : Option Pace) (since ticks : ℕ) → IfSome pace IsPace → pause_of pace since ≡ Some ticks → 1 ≤ since

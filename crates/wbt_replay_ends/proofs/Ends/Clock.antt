@@ -4,13 +4,8 @@ use Rattle.std.specs.List.{sum_by}
 use Rattle.std.proofs.lemmas.Bool.{cases_lt}
 use Rattle.std.proofs.lemmas.Bool.Decides.{nat_tests}
 use Rattle.std.proofs.lemmas.List.Sums.{sum_by-cons}
-use Rattle.wbt_replay_moves.specs.Definition.State.{State, no_flusher, is_drained}
-use Rattle.wbt_replay_moves.specs.declared.state.Flusher.{Flusher}
-use Rattle.wbt_replay_moves.specs.declared.state.ReplayPhase.{ReplayPhase}
+use Rattle.wbt_replay_order.proofs.Common.{State, no_flusher, is_drained, Flusher, ReplayPhase, ReplayTask, sooner, task_sooner, phase_sooner, tasks_sooner, flushers_sooner, next_moment, at_moment, wait, pause_cost, task_cost, phase_cost, flusher_cost, timer_cost, parts_cost}
 use Rattle.wbt_replay_moves.specs.declared.state.ReplayPhase.TheVariants as phase
-use Rattle.wbt_replay_moves.specs.declared.state.ReplayTask.{ReplayTask}
-use Rattle.wbt_replay_order.specs.Definition.Order.{sooner, task_sooner, phase_sooner, tasks_sooner, flushers_sooner, next_moment, at_moment}
-use Rattle.wbt_replay_order.specs.Kept.Ending.{wait, pause_cost, task_cost, phase_cost, flusher_cost, timer_cost, parts_cost}
 use Rattle.wbt_replay_ends.proofs.Ends.Cores.{round_cost}
 use Rattle.wbt_replay_ends.proofs.Ends.Sums.{sum_falls}
 

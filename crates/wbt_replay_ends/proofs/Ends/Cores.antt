@@ -3,30 +3,13 @@ use Rattle.std.proofs.Common.{◌≡◌, ℕ, zero, suc, ◌+◌, ◌*◌, ◌<�
 use Rattle.std.specs.List.{sum_by, count_by}
 use Rattle.std.proofs.lemmas.Bool.{cond-false}
 use Rattle.std.proofs.lemmas.Bool.Decides.{nat_tests}
-use Rattle.wbt_flex.specs.Proportions.{after_period}
-use Rattle.wbt_flex.specs.declared.half.Half.{Half}
-use Rattle.wbt_journal.specs.Machine.{domains}
-use Rattle.wbt_journal.specs.declared.step.StepEntry.{StepEntry}
-use Rattle.wbt_trace.specs.declared.trace.Trace.{Trace}
-use Rattle.wbt_replay_moves.specs.Definition.Perform.{make_timer_step, make_timer_move}
-use Rattle.wbt_replay_moves.specs.Definition.State.{State, no_cpu, cpu_of, domain_of, is_drained}
-use Rattle.wbt_replay_moves.specs.Definition.Timer.{is_time, periods, period, period_to, rest, turn_items, begin_timer, with_timer}
+use Rattle.wbt_replay_order.proofs.Common.{after_period, Half, domains, StepEntry, Trace, make_timer_step, make_timer_move, State, no_cpu, cpu_of, domain_of, is_drained, is_time, periods, period, period_to, rest, turn_items, begin_timer, with_timer, Actor, Cpu, Flusher, Stretch, ReplayTask, TimerStep, TimerTodo, is_made_by, is_over, may_step, todo_ahead, timer_todo_ahead, ahead_of, is_halted, spend, with_orders, timer_on, is_full, IsPaid, wait, timer_silent_cost, cpu_cost, task_cost, flusher_cost, timer_cost, parts_cost, work_left, ArePaced, Ending, Facts}
 use Rattle.wbt_rules.specs.declared.moments.TheConstants.{TIMER_REST}
-use Rattle.wbt_replay_moves.specs.declared.state.Actor.{Actor}
 use Rattle.wbt_replay_moves.specs.declared.state.Actor.TheVariants as who
-use Rattle.wbt_replay_moves.specs.declared.state.Cpu.{Cpu}
-use Rattle.wbt_replay_moves.specs.declared.state.Flusher.{Flusher}
-use Rattle.wbt_replay_moves.specs.declared.state.Stretch.{Stretch}
-use Rattle.wbt_replay_moves.specs.declared.state.ReplayTask.{ReplayTask}
 use Rattle.wbt_replay_moves.specs.declared.todo.TimerSilent.TheVariants as timer_silent
-use Rattle.wbt_replay_moves.specs.declared.todo.TimerStep.{TimerStep}
 use Rattle.wbt_replay_moves.specs.declared.todo.TimerStep.TheVariants as timer_step
-use Rattle.wbt_replay_moves.specs.declared.todo.TimerTodo.{TimerTodo}
 use Rattle.wbt_replay_moves.specs.declared.todo.TimerTodo.TheVariants as timer_todo
-use Rattle.wbt_replay_order.specs.Claims.Ending.{is_made_by, is_over, may_step}
-use Rattle.wbt_replay_order.specs.Definition.Order.{todo_ahead, timer_todo_ahead, ahead_of, is_halted, spend, with_orders, timer_on, is_full}
-use Rattle.wbt_replay_order.specs.Kept.Ending.{IsPaid, wait, timer_ahead_cost, timer_silent_cost, cpu_cost, task_cost, flusher_cost, timer_cost, steps_left, parts_cost, work_left, ArePaced, IsSpentAfter, Ending}
-use Rattle.wbt_replay_order.specs.Kept.Facts.{Facts}
+use Rattle.wbt_replay_order.specs.Kept.Ending.{timer_ahead_cost, steps_left, IsSpentAfter}
 use Rattle.wbt_replay_order.specs.declared.chance.Ahead.TheVariants as next
 use Rattle.wbt_replay_order.proofs.Facts.Actors.{ahead_still}
 use Rattle.wbt_replay_order.proofs.Facts.Lists.{either}

@@ -2,39 +2,20 @@
 use Rattle.std.proofs.Common.{◌≡◌, ℕ, ◌+◌, ◌<◌, ◌≤◌, true, false, ◌||◌, eqb, ltb, List, [], ◌∷◌, ◌++◌, length, Option, Some, None, refl, sym, ◌∙◌, ap, arith, Bool, get_or, subst, unwrap_or}
 use Rattle.std.proofs.lemmas.List.{set-get_or}
 use Rattle.std.proofs.lemmas.List.Sums.{sum_by-set}
-use Rattle.wbt_estimate.specs.declared.estimate.Estimate.{Estimate}
+use Rattle.wbt_replay_order.proofs.Common.{Estimate, Trace, do_next, then_do, logged, estimated, log_at, estimate_to, rest_until, take_or_rest, with_hard, take_now, with_pairs, told_by, waits, noticed, age, tested_by, FLUSHER_REST, is_scan_over, places_after, keep_place, close_in, fly, hand_over_in, is_over_by_itself, over_noted, weigh, weighed_by, done_at, State, no_cpu, no_flusher, cpu_of, flusher_of, queue_of, in_phase, no_waiting, flusher_device, Flusher, ReplayPhase, ReplayTurn, Silent, Todo, is_finished, ahead_cost, IsPaid, is_last, flusher_cost, IsIdle, IsScanning, Entry, Cpu, Whose}
 use Rattle.wbt_journal.specs.declared.entry.Entry.TheVariants as entry
-use Rattle.wbt_trace.specs.declared.trace.Trace.{Trace}
-use Rattle.wbt_replay_moves.specs.Definition.Cpu.{do_next, then_do, logged, estimated, log_at}
-use Rattle.wbt_replay_moves.specs.Definition.Estimates.{estimate_to}
-use Rattle.wbt_replay_moves.specs.Definition.Idle.{rest_until, take, take_or_rest, with_hard, take_now, with_pairs, told_by, waits, noticed, age, tested_by}
-use Rattle.wbt_rules.specs.declared.moments.TheConstants.{FLUSHER_REST}
-use Rattle.wbt_replay_moves.specs.Definition.Scan.{is_scan_over, places_after, keep_place, close_in, fly, hand_over_in}
-use Rattle.wbt_replay_moves.specs.Definition.Weigh.{is_over_by_itself, over_noted, weigh, weighed_by}
-use Rattle.wbt_io.specs.Moments.{done_at}
-use Rattle.wbt_replay_moves.specs.Definition.State.{State, no_cpu, no_flusher, cpu_of, flusher_of, queue_of, in_phase, no_waiting}
-use Rattle.wbt_rules.specs.Things.{flusher_device, rate_of}
-use Rattle.wbt_replay_moves.specs.declared.state.Flusher.{Flusher}
-use Rattle.wbt_replay_moves.specs.declared.state.ReplayPhase.{ReplayPhase}
+use Rattle.wbt_replay_moves.specs.Definition.Idle.{take}
+use Rattle.wbt_rules.specs.Things.{rate_of}
 use Rattle.wbt_replay_moves.specs.declared.state.ReplayPhase.TheVariants as phase
-use Rattle.wbt_replay_moves.specs.declared.state.ReplayTurn.{ReplayTurn}
-use Rattle.wbt_replay_moves.specs.declared.todo.Silent.{Silent}
 use Rattle.wbt_replay_moves.specs.declared.todo.Silent.TheVariants as silent
 use Rattle.wbt_replay_moves.specs.declared.todo.Step.TheVariants as step
-use Rattle.wbt_replay_moves.specs.declared.todo.Todo.{Todo}
 use Rattle.wbt_replay_moves.specs.declared.todo.Todo.TheVariants as todo
-use Rattle.wbt_replay_order.specs.Definition.Order.{is_finished}
-use Rattle.wbt_replay_order.specs.Kept.Ending.{ahead_cost, IsPaid, is_last, flusher_cost}
-use Rattle.wbt_replay_order.specs.Kept.Turns.{IsIdle, IsScanning}
 use Rattle.wbt_replay_order.proofs.Facts.Lists.{either, twice}
 use Rattle.wbt_replay_ends.proofs.Ends.Goes.{outside, Goes, Plain, goes_so, cpu_goes, flusher_goes, flusher_there, pace}
 use Rattle.std.proofs.Math.ListN.{set}
 use Rattle.wbt_expiry.specs.declared.due.Due.{Due}
 use Rattle.wbt_expiry.specs.Waiting.{Waiting as Wheel}
 use Rattle.wbt_replay_order.proofs.Facts.Ages.{noticed_kept, aged_kept}
-use Rattle.wbt_journal.specs.declared.entry.Entry.{Entry}
-use Rattle.wbt_replay_moves.specs.declared.state.Cpu.{Cpu}
-use Rattle.wbt_replay_moves.specs.declared.state.Whose.{Whose}
 
 -- what the CPU's turn cost up to its next step, with the item
 abbrev pub before : (i : ℕ) (item : Silent) (s : State) → ℕ

@@ -4,17 +4,9 @@ use Rattle.std.proofs.Math.ListN.{set}
 use Rattle.std.specs.List.{sum_by}
 use Rattle.std.proofs.lemmas.List.Sums.{sum_by-set}
 use Rattle.std.proofs.lemmas.List.{length-append}
-use Rattle.wbt_replay_moves.specs.Definition.State.{State, no_cpu, no_flusher, cpu_of, flusher_of}
-use Rattle.wbt_replay_moves.specs.declared.state.Cpu.{Cpu}
-use Rattle.wbt_replay_moves.specs.declared.state.Flusher.{Flusher}
-use Rattle.wbt_replay_moves.specs.declared.state.ReplayPhase.{ReplayPhase}
+use Rattle.wbt_replay_order.proofs.Common.{State, no_cpu, no_flusher, cpu_of, flusher_of, Cpu, Flusher, ReplayPhase, Stretch, ReplayTask, Timer, Todo, is_finished, wait, phase_cost, ahead_cost, IsPaid, is_last, cpu_cost, task_cost, flusher_cost, parts_cost}
 use Rattle.wbt_replay_moves.specs.declared.state.ReplayPhase.TheVariants as phase
-use Rattle.wbt_replay_moves.specs.declared.state.Stretch.{Stretch}
-use Rattle.wbt_replay_moves.specs.declared.state.ReplayTask.{ReplayTask}
-use Rattle.wbt_replay_moves.specs.declared.state.Timer.{Timer}
-use Rattle.wbt_replay_moves.specs.declared.todo.Todo.{Todo}
-use Rattle.wbt_replay_order.specs.Definition.Order.{is_finished}
-use Rattle.wbt_replay_order.specs.Kept.Ending.{wait, phase_cost, ahead_cost, IsPaid, is_last, cpu_cost, task_cost, flusher_cost, parts_cost, cpus_cost}
+use Rattle.wbt_replay_order.specs.Kept.Ending.{cpus_cost}
 use Rattle.wbt_replay_order.proofs.Facts.Lists.{either}
 use Rattle.wbt_replay_ends.proofs.Ends.Sums.{is_there, sum_but}
 use Rattle.wbt_replay_ends.proofs.Ends.Turns.{ahead_most}

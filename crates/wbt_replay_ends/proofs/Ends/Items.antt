@@ -5,34 +5,12 @@ use Rattle.std.proofs.lemmas.Bool.{cases_lt}
 use Rattle.std.proofs.lemmas.List.{length-set, get_or-set_same, get_or-set_other, set-set, get_or_past}
 use Rattle.std.proofs.lemmas.List.Elements.{All-head}
 use Rattle.std.proofs.lemmas.List.Sums.{sum_by-set}
-use Rattle.wbt_journal.specs.Machine.{domains}
-use Rattle.wbt_journal.specs.declared.step.StepEntry.{StepEntry}
-use Rattle.wbt_trace.specs.declared.trace.Trace.{Trace}
-use Rattle.wbt_replay_moves.specs.Definition.Check.{decision_at, decide_by}
-use Rattle.wbt_replay_moves.specs.Definition.Estimates.{sample_of}
-use Rattle.wbt_estimate.specs.Estimate.{update_of}
-use Rattle.wbt_replay_moves.specs.Definition.Flight.{complete_by, land_by}
-use Rattle.wbt_replay_moves.specs.Definition.Idle.{unmark_by, test_by}
-use Rattle.wbt_replay_moves.specs.Definition.Perform.{make_step, make_move}
-use Rattle.wbt_replay_moves.specs.Definition.Scan.{look_by, claim_by, close_by, hand_over_by}
-use Rattle.wbt_replay_moves.specs.Definition.State.{State, no_cpu, cpu_of, task_of, flusher_of, writeback_of, with_cpu}
-use Rattle.wbt_replay_moves.specs.Definition.Writer.{dirty_by, end_by}
-use Rattle.wbt_replay_moves.specs.declared.state.Cpu.{Cpu}
-use Rattle.wbt_replay_moves.specs.declared.state.ReplayTurn.{ReplayTurn}
-use Rattle.wbt_replay_moves.specs.declared.state.Whose.{Whose}
+use Rattle.wbt_replay_order.proofs.Common.{domains, StepEntry, Trace, decision_at, decide_by, sample_of, update_of, complete_by, land_by, unmark_by, test_by, make_step, make_move, look_by, claim_by, close_by, hand_over_by, State, no_cpu, cpu_of, task_of, flusher_of, writeback_of, with_cpu, dirty_by, end_by, Cpu, ReplayTurn, Whose, Silent, Step, Todo, is_halted, task_cpu, ahead_cost, IsPaid, is_last, cpu_cost, parts_cost, timer_cost, timer_silent_cost, work_left, ArePaced, Ending, IsTaskOn, IsWhose, Agrees}
 use Rattle.wbt_replay_moves.specs.declared.state.Whose.TheVariants as whose
-use Rattle.wbt_replay_moves.specs.declared.todo.Silent.{Silent}
 use Rattle.wbt_replay_moves.specs.declared.todo.Silent.TheVariants as silent
-use Rattle.wbt_replay_moves.specs.declared.todo.Step.{Step}
 use Rattle.wbt_replay_moves.specs.declared.todo.Step.TheVariants as step
-use Rattle.wbt_replay_moves.specs.declared.todo.Todo.{Todo}
 use Rattle.wbt_replay_moves.specs.declared.todo.Todo.TheVariants as todo
-use Rattle.wbt_replay_order.specs.Definition.Order.{is_halted}
-use Rattle.wbt_replay_order.specs.Definition.Tasks.{task_cpu}
-use Rattle.wbt_replay_order.specs.Kept.Ending.{ahead_cost, IsPaid, is_last, cpu_cost, parts_cost, cpus_cost, timer_cost, timer_silent_cost, work_left, ArePaced, Ending}
-use Rattle.wbt_replay_order.specs.Kept.Facts.{IsTaskOn}
-use Rattle.wbt_replay_order.specs.Kept.Sound.{IsWhose}
-use Rattle.wbt_replay_order.specs.Kept.Turns.{Agrees}
+use Rattle.wbt_replay_order.specs.Kept.Ending.{cpus_cost}
 use Rattle.wbt_replay_order.proofs.Facts.Lists.{set_each}
 use Rattle.wbt_replay_order.proofs.Growth.Growing.{grew_step, silent_move}
 use Rattle.wbt_replay_ends.proofs.Ends.Flushes.{Quietly, estimate_goes, weigh_goes, test_goes, close_goes, hand_over_goes}

@@ -3,24 +3,11 @@ use Rattle.std.proofs.Common.{◌≡◌, ℕ, zero, suc, ◌+◌, ◌<◌, false
 use Rattle.std.proofs.Math.ListN.{set}
 use Rattle.std.specs.List.{sum_by}
 use Rattle.std.proofs.lemmas.List.{get_or-set_same, set-set, set-get_or}
-use Rattle.wbt_flex.specs.Proportions.{fraction_of, may_be_added}
+use Rattle.wbt_replay_order.proofs.Common.{fraction_of, may_be_added, StepEntry, Trace, logged, part_in, share, share_group, with_written, landed, land_in, State, no_cpu, cpu_of, flusher_of, domain_of, writeback_of, in_phase, context_of, group_of, max_share, Cpu, Flusher, ReplayPhase, ReplayTask, is_finished, ahead_cost, IsPaid, is_last, cpu_cost, task_cost, flusher_cost, IsFlying}
 use Rattle.wbt_journal.specs.declared.entry.Entry.TheVariants as entry
-use Rattle.wbt_journal.specs.declared.step.StepEntry.{StepEntry}
-use Rattle.wbt_trace.specs.declared.trace.Trace.{Trace}
-use Rattle.wbt_replay_moves.specs.Definition.Cpu.{logged}
-use Rattle.wbt_replay_moves.specs.Definition.Flight.{part_in, share, share_group, with_written, landed, land_in}
-use Rattle.wbt_replay_moves.specs.Definition.State.{State, no_cpu, cpu_of, flusher_of, domain_of, writeback_of, in_phase}
-use Rattle.wbt_rules.specs.Things.{context_of, group_of, max_share}
-use Rattle.wbt_replay_moves.specs.declared.state.Cpu.{Cpu}
-use Rattle.wbt_replay_moves.specs.declared.state.Flusher.{Flusher}
-use Rattle.wbt_replay_moves.specs.declared.state.ReplayPhase.{ReplayPhase}
 use Rattle.wbt_replay_moves.specs.declared.state.ReplayPhase.TheVariants as phase
-use Rattle.wbt_replay_moves.specs.declared.state.ReplayTask.{ReplayTask}
 use Rattle.wbt_replay_moves.specs.declared.todo.Silent.TheVariants as silent
 use Rattle.wbt_replay_moves.specs.declared.todo.Todo.TheVariants as todo
-use Rattle.wbt_replay_order.specs.Definition.Order.{is_finished}
-use Rattle.wbt_replay_order.specs.Kept.Ending.{ahead_cost, IsPaid, is_last, cpu_cost, task_cost, flusher_cost}
-use Rattle.wbt_replay_order.specs.Kept.Turns.{IsFlying}
 use Rattle.wbt_replay_order.proofs.Facts.Lists.{either}
 use Rattle.wbt_replay_ends.proofs.Ends.Flushes.{before, Quietly}
 use Rattle.wbt_replay_ends.proofs.Ends.Goes.{Outside, outside, pace, Goes, cpu_goes, flusher_goes}

@@ -5,27 +5,12 @@ use Rattle.std.proofs.lemmas.Bool.Decides.{nat_tests}
 use Rattle.std.proofs.lemmas.List.{length-set, get_or-set_same, set-set}
 use Rattle.std.proofs.lemmas.List.Elements.{All-get_or}
 use Rattle.std.proofs.lemmas.List.Sums.{sum_by-set}
-use Rattle.wbt_journal.specs.Machine.{domains}
-use Rattle.wbt_journal.specs.declared.step.StepEntry.{StepEntry}
-use Rattle.wbt_trace.specs.declared.trace.Trace.{Trace}
-use Rattle.wbt_replay_moves.specs.Definition.Check.{writer_of}
-use Rattle.wbt_replay_moves.specs.Definition.Cpu.{at_turn}
-use Rattle.wbt_replay_moves.specs.Definition.Perform.{begin_for, begin_turn}
-use Rattle.wbt_replay_moves.specs.Definition.State.{State, no_cpu, cpu_of, task_of, flusher_of, is_drained, with_cpu}
+use Rattle.wbt_replay_order.proofs.Common.{domains, StepEntry, Trace, writer_of, at_turn, begin_for, begin_turn, State, no_cpu, cpu_of, task_of, flusher_of, is_drained, with_cpu, Cpu, ReplayJob, ReplayPhase, Whose, Todo, is_over, after, todo_ahead, is_phase_ready, job_at, is_full, is_halted, is_finished, cpu_on, begin_job, begin, ahead_cost, IsPaid, is_last, cpu_cost, timer_cost, timer_silent_cost, work_left, ArePaced, Ending, IsTaskOn, IsFlusherOn, IsJobOn, Facts}
 use Rattle.wbt_replay_moves.specs.declared.state.Actor.TheVariants as who
-use Rattle.wbt_replay_moves.specs.declared.state.Cpu.{Cpu}
-use Rattle.wbt_replay_moves.specs.declared.state.ReplayJob.{ReplayJob}
 use Rattle.wbt_replay_moves.specs.declared.state.ReplayJob.TheVariants as job
-use Rattle.wbt_replay_moves.specs.declared.state.ReplayPhase.{ReplayPhase}
 use Rattle.wbt_replay_moves.specs.declared.state.ReplayPhase.TheVariants as phase
-use Rattle.wbt_replay_moves.specs.declared.state.Whose.{Whose}
 use Rattle.wbt_replay_moves.specs.declared.state.Whose.TheVariants as whose
-use Rattle.wbt_replay_moves.specs.declared.todo.Todo.{Todo}
 use Rattle.wbt_replay_moves.specs.declared.todo.Todo.TheVariants as todo
-use Rattle.wbt_replay_order.specs.Claims.Ending.{is_over}
-use Rattle.wbt_replay_order.specs.Definition.Order.{after, todo_ahead, is_phase_ready, job_at, is_full, is_halted, is_finished, cpu_on, begin_job, begin}
-use Rattle.wbt_replay_order.specs.Kept.Ending.{ahead_cost, IsPaid, is_last, cpu_cost, timer_cost, timer_silent_cost, work_left, ArePaced, Ending}
-use Rattle.wbt_replay_order.specs.Kept.Facts.{IsTaskOn, IsFlusherOn, IsJobOn, Facts}
 use Rattle.wbt_replay_order.specs.declared.chance.Ahead.TheVariants as next
 use Rattle.wbt_replay_order.proofs.Facts.Lists.{either, set_each, twice}
 use Rattle.wbt_replay_order.proofs.Growth.Grown.{silent_for}

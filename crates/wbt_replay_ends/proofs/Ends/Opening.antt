@@ -3,17 +3,8 @@ use Rattle.std.proofs.Common.{◌≡◌, ℕ, zero, suc, ◌+◌, ◌*◌, ◌^�
 use Rattle.std.specs.List.{sum_by}
 use Rattle.std.proofs.lemmas.List.{length-append, length-map}
 use Rattle.std.proofs.lemmas.List.Sums.{sum_by_push}
-use Rattle.wbt_trace.specs.declared.trace.Action.{Action}
+use Rattle.wbt_replay_order.proofs.Common.{Action, Trace, pace_of, no_cpu, Cpu, ReplayTask, ReplayWork, opening, opening_moment, work_of, works_of, first_task, first_tasks, first_flusher, first_flushers, first_cpu, first_cpus, stretch_of, IsPaid, cpu_cost, pause_cost, task_cost, flusher_cost, wait, work_left, IsWithinHalt, Ending, Facts}
 use Rattle.wbt_trace.specs.declared.trace.Action.TheVariants as action
-use Rattle.wbt_trace.specs.declared.trace.Trace.{Trace}
-use Rattle.wbt_rules.specs.Pace.{pace_of}
-use Rattle.wbt_replay_moves.specs.Definition.State.{no_cpu}
-use Rattle.wbt_replay_moves.specs.declared.state.Cpu.{Cpu}
-use Rattle.wbt_replay_moves.specs.declared.state.ReplayTask.{ReplayTask}
-use Rattle.wbt_replay_moves.specs.declared.state.ReplayWork.{ReplayWork}
-use Rattle.wbt_replay_order.specs.Definition.Opening.{opening, opening_moment, work_of, works_of, first_task, first_tasks, first_flusher, first_flushers, first_cpu, first_cpus, stretch_of}
-use Rattle.wbt_replay_order.specs.Kept.Ending.{IsPaid, cpu_cost, pause_cost, task_cost, flusher_cost, wait, work_left, IsWithinHalt, Ending}
-use Rattle.wbt_replay_order.specs.Kept.Facts.{Facts}
 use Rattle.wbt_replay_order.proofs.Facts.Lists.{either}
 use Rattle.wbt_replay_ends.proofs.Ends.Goes.{wait_most, phase_most}
 

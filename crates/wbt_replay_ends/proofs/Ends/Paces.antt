@@ -5,14 +5,8 @@ use Rattle.std.specs.List.{count_by}
 use Rattle.std.proofs.lemmas.Bool.Decides.{nat_tests}
 use Rattle.std.proofs.lemmas.List.{length-set}
 use Rattle.std.proofs.lemmas.List.Sums.{sum_by_push}
-use Rattle.wbt_counter.specs.Sums.{one_if}
-use Rattle.wbt_journal.specs.declared.step.StepEntry.{StepEntry}
-use Rattle.wbt_trace.specs.declared.trace.Trace.{Trace}
-use Rattle.wbt_replay_moves.specs.Definition.State.{State, no_cpu}
-use Rattle.wbt_replay_moves.specs.declared.state.Cpu.{Cpu}
-use Rattle.wbt_replay_order.specs.Claims.Ending.{is_made_by}
-use Rattle.wbt_replay_order.specs.Definition.Order.{todo_ahead, is_halted}
-use Rattle.wbt_replay_order.specs.Kept.Ending.{IsWithinHalt, IsPaced, IsSpentAfter, ArePaced}
+use Rattle.wbt_replay_order.proofs.Common.{one_if, StepEntry, Trace, State, no_cpu, Cpu, is_made_by, todo_ahead, is_halted, IsWithinHalt, ArePaced}
+use Rattle.wbt_replay_order.specs.Kept.Ending.{IsPaced, IsSpentAfter}
 use Rattle.wbt_replay_order.specs.declared.chance.Ahead.TheVariants as next
 use Rattle.wbt_replay_order.proofs.Facts.Lists.{set_each}
 

@@ -3,22 +3,11 @@ use Rattle.std.proofs.Common.{◌≡◌, ◌⊎◌, inl, inr, ℕ, zero, suc, �
 use Rattle.std.specs.List.{count_by}
 use Rattle.std.proofs.lemmas.Bool.{cases_eq, or_parts}
 use Rattle.std.proofs.lemmas.Bool.Decides.{nat_tests}
-use Rattle.wbt_counter.specs.Sums.{one_if}
-use Rattle.wbt_trace.specs.declared.trace.Trace.{Trace}
-use Rattle.wbt_replay_moves.specs.Definition.State.{State, no_cpu, cpu_of, flusher_of, is_drained}
-use Rattle.wbt_replay_moves.specs.declared.state.Actor.{Actor}
+use Rattle.wbt_replay_order.proofs.Common.{one_if, Trace, State, no_cpu, cpu_of, flusher_of, is_drained, Actor, ReplayJob, ReplayPhase, Stretch, is_over, actor_at, after, ahead_of, is_phase_ready, job_turn, job_at, is_nothing, cpu_turn, timer_turn, turn_at, is_finished, go_on, begin, with_orders, begin_or_drop, follow, next_moment, at_moment, move_clock, place_after, chance_by, chance_of, take, take_turn, seek_turn, next_turn, finish_turn, rotate_from, tick, advance_by, advance, is_ended, work_left, Ending, Facts, is_at_work, working_on}
 use Rattle.wbt_replay_moves.specs.declared.state.Actor.TheVariants as who
-use Rattle.wbt_replay_moves.specs.declared.state.ReplayJob.{ReplayJob}
 use Rattle.wbt_replay_moves.specs.declared.state.ReplayJob.TheVariants as job
-use Rattle.wbt_replay_moves.specs.declared.state.ReplayPhase.{ReplayPhase}
 use Rattle.wbt_replay_moves.specs.declared.state.ReplayPhase.TheVariants as phase
-use Rattle.wbt_replay_moves.specs.declared.state.Stretch.{Stretch}
 use Rattle.wbt_replay_moves.specs.declared.state.Stretch.TheVariants as stretch
-use Rattle.wbt_replay_order.specs.Claims.Ending.{is_over}
-use Rattle.wbt_replay_order.specs.Definition.Order.{actor_at, after, ahead_of, is_phase_ready, job_turn, job_at, is_nothing, cpu_turn, timer_turn, turn_at, is_finished, go_on, begin, with_orders, begin_or_drop, follow, next_moment, at_moment, move_clock, place_after, chance_by, chance_of, take, take_turn, seek_turn, next_turn, finish_turn, rotate_from, tick, advance_by, advance, is_ended}
-use Rattle.wbt_replay_order.specs.Kept.Ending.{work_left, Ending}
-use Rattle.wbt_replay_order.specs.Kept.Facts.{Facts}
-use Rattle.wbt_replay_order.specs.Kept.Sound.{is_at_work, working_on}
 use Rattle.wbt_replay_order.specs.declared.chance.Ahead.{Ahead as Next}
 use Rattle.wbt_replay_order.specs.declared.chance.Ahead.TheVariants as next
 use Rattle.wbt_replay_order.specs.declared.chance.Chance.{Chance}

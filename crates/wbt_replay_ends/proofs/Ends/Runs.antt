@@ -1,14 +1,6 @@
 -- The run ends, where an invariant says at each moment that the state is sound; and what is kept for it holds at each moment.
 use Rattle.std.proofs.Common.{◌≡◌, ℕ, zero, suc, ◌≤◌, Bool, true, false, refl, arith}
-use Rattle.wbt_trace.specs.declared.trace.Trace.{Trace}
-use Rattle.wbt_replay_moves.specs.Definition.State.{State}
-use Rattle.wbt_replay_order.specs.Claims.Bound.{HasEnded}
-use Rattle.wbt_replay_order.specs.Definition.Opening.{opening}
-use Rattle.wbt_replay_order.specs.Definition.Order.{advance, is_ended, run}
-use Rattle.wbt_replay_order.specs.Definition.Run.{most_moves, state_at}
-use Rattle.wbt_replay_order.specs.Kept.Ending.{work_left, Ending}
-use Rattle.wbt_replay_order.specs.Kept.Facts.{Facts}
-use Rattle.wbt_replay_order.specs.Kept.Sound.{Sound}
+use Rattle.wbt_replay_order.proofs.Common.{Trace, State, HasEnded, opening, advance, is_ended, run, most_moves, state_at, work_left, Ending, Facts, Sound}
 use Rattle.wbt_replay_order.proofs.Growth.Most.{most_at}
 use Rattle.wbt_replay_order.proofs.Growth.Runs.{run_along}
 use Rattle.wbt_replay_ends.proofs.Ends.Items.{Ahead}

@@ -2,36 +2,15 @@
 use Rattle.std.proofs.Common.{◌≡◌, ℕ, ◌+◌, ◌<◌, ◌≤◌, true, false, ◌||◌, ◌&&◌, eqb, ℤ, pos, negsuc, unsigned_abs, ◌+ℤ◌, List, [], ◌∷◌, ◌++◌, length, get_or, refl, sym, ◌∙◌, ap, subst, arith}
 use Rattle.std.proofs.Math.ListN.{set}
 use Rattle.std.proofs.lemmas.List.{set-get_or}
-use Rattle.wbt_book.specs.Book.{is_claimable}
-use Rattle.wbt_book.specs.PageWords.{shared_word}
-use Rattle.wbt_counter.specs.declared.counter.Counter.{Counter}
-use Rattle.wbt_counter.specs.declared.counter.Counter.TheVariants.{Domain, Context}
-use Rattle.wbt_grant.specs.declared.who.StepKind.{StepKind}
+use Rattle.wbt_replay_order.proofs.Common.{is_claimable, shared_word, Counter, Context, StepKind, Trace, add, fold, fold_of, clear, word_of, holds, load_first, load_middle, load_limits, load_count, count_kept, batch_of, do_next, logged, own_of, with_own, owed_to, complete_first, complete_in, scan_of, unmark_in, look_in, claim_now, claim_in, State, no_cpu, cpu_of, flusher_of, domain_of, count_of, with_cpu, plain_step, page_of, context_of, group_of, mark, Cpu, Flusher, ReplayPhase, Step, Todo, is_finished, ahead_cost, StepsPay, IsPaid, is_last, IsTaken, IsScanning, IsFlying, IsOpenAt}
+use Rattle.wbt_counter.specs.declared.counter.Counter.TheVariants.{Domain}
 use Rattle.wbt_grant.specs.declared.who.StepKind.TheVariants as kind
 use Rattle.wbt_journal.specs.declared.entry.Entry.TheVariants as entry
-use Rattle.wbt_trace.specs.declared.trace.Trace.{Trace}
-use Rattle.wbt_replay_moves.specs.Definition.Counters.{add, fold, fold_of, clear, word_of, holds, load_first, load_middle, load_limits, load_count, count_kept}
-use Rattle.wbt_journal.specs.Machine.{batch_of}
-use Rattle.wbt_replay_moves.specs.Definition.Cpu.{do_next, logged, own_of, with_own, owed_to}
-use Rattle.wbt_replay_moves.specs.Definition.Flight.{complete_first, complete_in}
-use Rattle.wbt_replay_moves.specs.Definition.Idle.{scan_of, unmark_in}
-use Rattle.wbt_replay_moves.specs.Definition.Scan.{look_in, claim_now, claim_in}
-use Rattle.wbt_replay_moves.specs.Definition.State.{State, no_cpu, cpu_of, flusher_of, domain_of, count_of, with_cpu, plain_step}
-use Rattle.wbt_rules.specs.Places.{page_of}
-use Rattle.wbt_rules.specs.Things.{context_of, group_of}
-use Rattle.wbt_replay_moves.specs.Definition.Writer.{mark}
-use Rattle.wbt_replay_moves.specs.declared.state.Cpu.{Cpu}
-use Rattle.wbt_replay_moves.specs.declared.state.Flusher.{Flusher}
-use Rattle.wbt_replay_moves.specs.declared.state.ReplayPhase.{ReplayPhase}
 use Rattle.wbt_replay_moves.specs.declared.state.ReplayPhase.TheVariants as phase
 use Rattle.wbt_replay_moves.specs.declared.todo.Silent.TheVariants as silent
-use Rattle.wbt_replay_moves.specs.declared.todo.Step.{Step}
 use Rattle.wbt_replay_moves.specs.declared.todo.Step.TheVariants as step
-use Rattle.wbt_replay_moves.specs.declared.todo.Todo.{Todo}
 use Rattle.wbt_replay_moves.specs.declared.todo.Todo.TheVariants as todo
-use Rattle.wbt_replay_order.specs.Definition.Order.{is_finished}
-use Rattle.wbt_replay_order.specs.Kept.Ending.{step_cost, ahead_cost, StepsPay, IsPaid, is_last}
-use Rattle.wbt_replay_order.specs.Kept.Turns.{IsTaken, IsScanning, IsFlying, IsOpenAt}
+use Rattle.wbt_replay_order.specs.Kept.Ending.{step_cost}
 use Rattle.wbt_replay_order.proofs.Facts.Lists.{either, twice}
 use Rattle.wbt_replay_ends.proofs.Ends.Goes.{outside, pace, Goes, Plain, cpu_goes, flusher_goes, one_more, paid_most}
 

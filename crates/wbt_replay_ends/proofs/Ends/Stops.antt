@@ -1,11 +1,7 @@
 -- A CPU that is stopped leaves less to be done.
 use Rattle.std.proofs.Common.{◌≡◌, ℕ, ◌+◌, ◌<◌, ◌≤◌, Bool, true, false, cond, length, refl, ap, arith}
 use Rattle.std.proofs.lemmas.List.Sums.{sum_by-set}
-use Rattle.wbt_trace.specs.declared.trace.Trace.{Trace}
-use Rattle.wbt_replay_moves.specs.Definition.State.{State, no_cpu, cpu_of}
-use Rattle.wbt_replay_moves.specs.declared.state.Cpu.{Cpu}
-use Rattle.wbt_replay_order.specs.Definition.Order.{todo_ahead, is_halted, stop}
-use Rattle.wbt_replay_order.specs.Kept.Ending.{IsPaid, cpu_cost, work_left, Ending}
+use Rattle.wbt_replay_order.proofs.Common.{Trace, State, no_cpu, cpu_of, Cpu, todo_ahead, is_halted, stop, IsPaid, cpu_cost, work_left, Ending}
 use Rattle.wbt_replay_order.specs.declared.chance.Ahead.TheVariants as next
 use Rattle.wbt_replay_order.proofs.Facts.Lists.{set_each}
 use Rattle.wbt_replay_ends.proofs.Ends.Items.{Ahead}

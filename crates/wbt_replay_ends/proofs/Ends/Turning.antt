@@ -1,20 +1,8 @@
 -- What a move needs of what is in range, so that it isn't asked again after an order line or the rotation was changed.
 use Rattle.std.proofs.Common.{◌≡◌, ℕ, ◌<◌, ◌≤◌, not, List, length, All, Option, refl, ◌∙◌, ap, arith, IfSome}
 use Rattle.std.specs.List.{sum_by, count_by}
-use Rattle.wbt_journal.specs.Machine.{domains}
-use Rattle.wbt_journal.specs.declared.step.StepEntry.{StepEntry}
-use Rattle.wbt_trace.specs.Lawful.{IsPace}
-use Rattle.wbt_trace.specs.declared.trace.Trace.{Trace}
-use Rattle.wbt_replay_moves.specs.Definition.State.{State, cpu_of, task_of}
-use Rattle.wbt_replay_moves.specs.declared.state.Actor.{Actor}
+use Rattle.wbt_replay_order.proofs.Common.{domains, StepEntry, IsPace, Trace, State, cpu_of, task_of, Actor, Stretch, first_cpu, is_made_by, may_step, is_halted, with_orders, Ending, IsWhose, IsCpu, working_on, Sound, Agrees}
 use Rattle.wbt_replay_moves.specs.declared.state.Actor.TheVariants as who
-use Rattle.wbt_replay_moves.specs.declared.state.Stretch.{Stretch}
-use Rattle.wbt_replay_order.specs.Definition.Opening.{first_cpu}
-use Rattle.wbt_replay_order.specs.Claims.Ending.{is_made_by, may_step}
-use Rattle.wbt_replay_order.specs.Definition.Order.{is_halted, with_orders}
-use Rattle.wbt_replay_order.specs.Kept.Ending.{Ending}
-use Rattle.wbt_replay_order.specs.Kept.Sound.{IsWhose, IsCpu, working_on, Sound}
-use Rattle.wbt_replay_order.specs.Kept.Turns.{Agrees}
 use Rattle.wbt_replay_order.proofs.Facts.Actors.{ahead_still}
 
 pub record Turning (trace : Trace) (s : State) : Type 0 where

@@ -1,18 +1,12 @@
 -- What a turn does up to its next step is paid, by the shape of what it has to do.
 use Rattle.std.proofs.Common.{◌≡◌, ℕ, zero, suc, ◌+◌, ◌≤◌, Bool, true, false, leb, List, [], ◌∷◌, ◌++◌, ap, subst, sym, refl, arith}
 use Rattle.std.proofs.lemmas.List.{append_assoc}
-use Rattle.wbt_replay_moves.specs.Definition.Idle.{domain_loads, measure, measures_of, weighs_of}
-use Rattle.wbt_rules.specs.declared.moments.TheConstants.{ESTIMATE_AGE}
-use Rattle.wbt_replay_moves.specs.Definition.State.{State, writeback_of}
-use Rattle.wbt_replay_moves.specs.Definition.Timer.{domain_turns, domain_periods, turn_items}
-use Rattle.wbt_replay_moves.specs.declared.todo.Silent.{Silent}
+use Rattle.wbt_replay_order.proofs.Common.{domain_loads, measure, measures_of, weighs_of, ESTIMATE_AGE, State, writeback_of, domain_turns, domain_periods, turn_items, Silent, TimerTodo, Todo, ahead_cost, StepsPay, timer_silent_cost}
 use Rattle.wbt_replay_moves.specs.declared.todo.Silent.TheVariants as silent
 use Rattle.wbt_replay_moves.specs.declared.todo.TimerSilent.TheVariants as timer_silent
-use Rattle.wbt_replay_moves.specs.declared.todo.TimerTodo.{TimerTodo}
 use Rattle.wbt_replay_moves.specs.declared.todo.TimerTodo.TheVariants as timer_todo
-use Rattle.wbt_replay_moves.specs.declared.todo.Todo.{Todo}
 use Rattle.wbt_replay_moves.specs.declared.todo.Todo.TheVariants as todo
-use Rattle.wbt_replay_order.specs.Kept.Ending.{silent_cost, ahead_cost, StepsPay, timer_ahead_cost, timer_silent_cost}
+use Rattle.wbt_replay_order.specs.Kept.Ending.{silent_cost, timer_ahead_cost}
 use Rattle.wbt_replay_order.proofs.Facts.Lists.{either}
 
 -- ---- a task that has nothing left costs no more

@@ -6,26 +6,12 @@ use Rattle.std.proofs.lemmas.List.Sums.{sum_by-set}
 use Rattle.std.proofs.lemmas.List.{get_or-set_other, set-get_or}
 use Rattle.wbt_grant.specs.declared.who.StepKind.TheVariants as kind
 use Rattle.wbt_journal.specs.declared.entry.Entry.TheVariants as entry
-use Rattle.wbt_pause.specs.declared.decision.Decision.{Decision}
-use Rattle.wbt_trace.specs.declared.trace.Trace.{Trace}
-use Rattle.wbt_replay_moves.specs.Definition.Check.{writer_of, check_of, decide_so, told_task}
-use Rattle.wbt_replay_moves.specs.Definition.Cpu.{do_next, logged, log_at, checked, owed_to}
-use Rattle.wbt_replay_moves.specs.Definition.State.{State, no_cpu, no_task, cpu_of, task_of, with_task, plain_step}
-use Rattle.wbt_rules.specs.Things.{context_of, group_of}
-use Rattle.wbt_replay_moves.specs.Definition.Writer.{without_page, passed_page, counted_page, counted_local, dirty_fresh, dirty_page, dirty_next, leaked, end_now, end_by, has_nothing}
-use Rattle.wbt_replay_moves.specs.declared.state.Cpu.{Cpu}
-use Rattle.wbt_replay_moves.specs.declared.state.Flusher.{Flusher}
-use Rattle.wbt_replay_moves.specs.declared.state.ReplayTask.{ReplayTask}
-use Rattle.wbt_replay_moves.specs.declared.state.Whose.{Whose}
+use Rattle.wbt_replay_order.proofs.Common.{Decision, Trace, writer_of, check_of, decide_so, told_task, do_next, logged, log_at, checked, owed_to, State, no_cpu, no_task, cpu_of, task_of, with_task, plain_step, context_of, group_of, without_page, passed_page, counted_page, counted_local, dirty_fresh, dirty_page, dirty_next, leaked, end_now, end_by, has_nothing, Cpu, Flusher, ReplayTask, Whose, ReplayWork, Todo, ahead_cost, StepsPay, IsPaid, is_last, cpu_cost, wait, pause_cost, task_cost, flusher_cost, WritesNext}
 use Rattle.wbt_replay_moves.specs.declared.state.Whose.TheVariants as whose
-use Rattle.wbt_replay_moves.specs.declared.state.ReplayWork.{ReplayWork}
 use Rattle.wbt_replay_moves.specs.declared.state.ReplayWork.TheVariants as work
 use Rattle.wbt_replay_moves.specs.declared.todo.Silent.TheVariants as silent
 use Rattle.wbt_replay_moves.specs.declared.todo.Step.TheVariants as step
-use Rattle.wbt_replay_moves.specs.declared.todo.Todo.{Todo}
 use Rattle.wbt_replay_moves.specs.declared.todo.Todo.TheVariants as todo
-use Rattle.wbt_replay_order.specs.Kept.Ending.{ahead_cost, StepsPay, IsPaid, is_last, cpu_cost, wait, pause_cost, task_cost, flusher_cost}
-use Rattle.wbt_replay_order.specs.Kept.Turns.{WritesNext}
 use Rattle.wbt_replay_order.proofs.Facts.Lists.{either, twice}
 use Rattle.wbt_replay_ends.proofs.Ends.Goes.{Outside, outside, pace, Goes, cpu_goes, one_more, paid_most, wait_most}
 use Rattle.wbt_replay_ends.proofs.Ends.Steps.{Pays, Steps}

@@ -1,29 +1,12 @@
 -- What a change logs that changes no count names what is there, and so does what a turn begins with.
 use Rattle.std.proofs.Common.{◌≡◌, ℕ, eqb, ℤ, pos, ◌+ℤ◌, unsigned_abs, fold, set, refl}
-use Rattle.wbt_counter.specs.declared.counter.Counter.{Counter}
-use Rattle.wbt_counter.specs.declared.counter.Counter.TheVariants.{Domain, Context}
-use Rattle.wbt_journal.specs.Machine.{batch_of}
-use Rattle.wbt_journal.specs.declared.entry.Entry.{Entry}
+use Rattle.wbt_replay_order.proofs.Common.{Counter, Context, batch_of, Entry, page_of, Trace, logged, own_of, with_own, added, make_step, make_move, begin_turn, State, cpu_of, task_of, leaked, Cpu, Whose, Silent, Step, cpu_after, apply, Change, CpuChange, IsPlainMove, turn_keeps, move_keeps, uncounted, PartNamesInOrder}
+use Rattle.wbt_counter.specs.declared.counter.Counter.TheVariants.{Domain}
 use Rattle.wbt_journal.specs.declared.entry.Entry.TheVariants as entry
-use Rattle.wbt_rules.specs.Places.{page_of}
-use Rattle.wbt_trace.specs.declared.trace.Trace.{Trace}
-use Rattle.wbt_replay_moves.specs.Definition.Cpu.{logged, own_of, with_own, added}
-use Rattle.wbt_replay_moves.specs.Definition.Perform.{make_step, make_move, begin_turn}
-use Rattle.wbt_replay_moves.specs.Definition.State.{State, cpu_of, task_of}
-use Rattle.wbt_replay_moves.specs.Definition.Writer.{leaked}
-use Rattle.wbt_replay_moves.specs.declared.state.Cpu.{Cpu}
-use Rattle.wbt_replay_moves.specs.declared.state.Whose.{Whose}
-use Rattle.wbt_replay_moves.specs.declared.todo.Silent.{Silent}
-use Rattle.wbt_replay_moves.specs.declared.todo.Step.{Step}
-use Rattle.wbt_replay_changes.specs.Apply.{cpu_after, apply}
-use Rattle.wbt_replay_changes.specs.Change.{Change}
 use Rattle.wbt_replay_changes.specs.Change as change
-use Rattle.wbt_replay_changes.specs.Change.Cpu.{CpuChange}
 use Rattle.wbt_replay_changes.specs.Change.Cpu as cpu_change
-use Rattle.wbt_replay_changes.specs.Plain.{IsUncounted, IsUncountedStep, IsPlainMove}
-use Rattle.wbt_replay_changes.proofs.Keeping.{turn_keeps, uncounted_keeps, move_keeps}
-use Rattle.wbt_replay_changes.proofs.Plain.{uncounted}
-use Rattle.wbt_replay_order.specs.Kept.Naming.{PartNamesInOrder}
+use Rattle.wbt_replay_changes.specs.Plain.{IsUncounted, IsUncountedStep}
+use Rattle.wbt_replay_changes.proofs.Keeping.{uncounted_keeps}
 use Rattle.wbt_replay_order.proofs.Facts.Lists.{either}
 use Rattle.wbt_replay_ends.proofs.Names.Logs.{Logs, logged_named, quiet_logs, entry_logs, alone_logs, NamesNone}
 

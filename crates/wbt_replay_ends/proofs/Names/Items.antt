@@ -3,35 +3,16 @@ use Rattle.std.proofs.Common.{ℕ, ◌<◌, true, false, pos, negsuc, List, [], 
 use Rattle.std.proofs.lemmas.Bool.{cases_lt}
 use Rattle.std.proofs.lemmas.List.{get_or_past}
 use Rattle.std.proofs.lemmas.List.Elements.{All-head, All-nil}
-use Rattle.wbt_journal.specs.declared.entry.EstEntry.{EstEntry}
+use Rattle.wbt_replay_order.proofs.Common.{EstEntry, update_of, Estimate, Trace, check_of, decision_at, decide_so, decide_by, do_next, logged, checked, estimated, owed_to, log_at, sample_of, estimate_to, complete_first, complete_in, complete_by, make_step, make_move, State, no_task, cpu_of, task_of, flusher_of, writeback_of, with_event, with_task, context_of, group_of, passed_page, counted_local, count_page, dirty_fresh, dirty_next, dirty_by, ReplayPhase, ReplayTask, Whose, ReplayWork, Silent, Step, Facts, IsAt, WorkFits, Sound}
 use Rattle.wbt_book.specs.declared.event.Event.TheVariants as event
-use Rattle.wbt_estimate.specs.Estimate.{update_of}
-use Rattle.wbt_estimate.specs.declared.estimate.Estimate.{Estimate}
 use Rattle.wbt_grant.specs.declared.who.StepKind.TheVariants as kind
 use Rattle.wbt_journal.specs.declared.entry.Entry.TheVariants as entry
-use Rattle.wbt_trace.specs.declared.trace.Trace.{Trace}
-use Rattle.wbt_replay_moves.specs.Definition.Check.{check_of, decision_at, decide_so, decide_by}
-use Rattle.wbt_replay_moves.specs.Definition.Cpu.{do_next, logged, checked, estimated, owed_to, log_at}
-use Rattle.wbt_replay_moves.specs.Definition.Estimates.{sample_of, estimate_to}
-use Rattle.wbt_replay_moves.specs.Definition.Flight.{complete_first, complete_in, complete_by}
-use Rattle.wbt_replay_moves.specs.Definition.Perform.{make_step, make_move}
-use Rattle.wbt_replay_moves.specs.Definition.State.{State, no_task, cpu_of, task_of, flusher_of, writeback_of, with_event, with_task}
-use Rattle.wbt_rules.specs.Things.{context_of, group_of}
-use Rattle.wbt_replay_moves.specs.Definition.Writer.{passed_page, counted_local, count_page, dirty_fresh, dirty_next, dirty_by}
-use Rattle.wbt_replay_moves.specs.declared.state.ReplayPhase.{ReplayPhase}
 use Rattle.wbt_replay_moves.specs.declared.state.ReplayPhase.TheVariants as phase
-use Rattle.wbt_replay_moves.specs.declared.state.ReplayTask.{ReplayTask}
-use Rattle.wbt_replay_moves.specs.declared.state.Whose.{Whose}
 use Rattle.wbt_replay_moves.specs.declared.state.Whose.TheVariants as whose
-use Rattle.wbt_replay_moves.specs.declared.state.ReplayWork.{ReplayWork}
 use Rattle.wbt_replay_moves.specs.declared.state.ReplayWork.TheVariants as work
-use Rattle.wbt_replay_moves.specs.declared.todo.Silent.{Silent}
 use Rattle.wbt_replay_moves.specs.declared.todo.Silent.TheVariants as silent
-use Rattle.wbt_replay_moves.specs.declared.todo.Step.{Step}
 use Rattle.wbt_replay_moves.specs.declared.todo.Step.TheVariants as step
 use Rattle.wbt_replay_moves.specs.declared.todo.Todo.TheVariants as todo
-use Rattle.wbt_replay_order.specs.Kept.Facts.{Facts}
-use Rattle.wbt_replay_order.specs.Kept.Sound.{IsAt, WorkFits, Sound}
 use Rattle.wbt_replay_order.proofs.Facts.Lists.{either}
 use Rattle.wbt_replay_ends.proofs.Names.Changes.{plain_move_logs, uncounted_step_logs}
 use Rattle.wbt_replay_ends.proofs.Names.Logs.{Logs, logged_named, checked_named, estimated_named, entry_logs, plain_logs, change_logs}

@@ -1,8 +1,6 @@
 -- The pages that are left, one after another.
 use Rattle.std.proofs.Common.{◌≡◌, ℕ, zero, suc, ◌+◌, ◌-◌, ◌<◌, true, false, cond, eqb, List, [], ◌∷◌, ◌++◌, sym, ◌∙◌, ap, arith, append_assoc}
-use Rattle.wbt_book.specs.Book.{Book, page_word}
-use Rattle.wbt_journal.specs.declared.journal.Left.{Left}
-use Rattle.wbt_replay_order.specs.Definition.Run.{left_from}
+use Rattle.wbt_replay_order.proofs.Common.{Book, page_word, Left, left_from}
 
 left_more : (n m page : ℕ) (book : Book) → n ≡ m + 1
     → left_from n page book ≡ cond (eqb (page_word (book page)) 0) (left_from m (page + 1) book) ((record { page = page; word = page_word (book page) }) ∷ left_from m (page + 1) book)

@@ -2,21 +2,8 @@
 use Rattle.std.proofs.Common.{◌≡◌, inl, inr, ℕ, zero, suc, ◌+◌, ◌<◌, ℤ, pos, List, [], ◌∷◌, ◌++◌, length, get_or, refl, sym, ◌∙◌, subst, arith}
 use Rattle.std.proofs.Math.ListN.{set}
 use Rattle.std.proofs.lemmas.List.{length-append, append-nil}
-use Rattle.wbt_grant.specs.declared.who.StepKind.{StepKind}
-use Rattle.wbt_journal.specs.Each.{Each}
-use Rattle.wbt_journal.specs.Machine.{domains}
-use Rattle.wbt_journal.specs.Told.{InOrder}
-use Rattle.wbt_journal.specs.declared.entry.CheckEntry.{CheckEntry}
-use Rattle.wbt_journal.specs.declared.entry.Entry.{Entry}
+use Rattle.wbt_replay_order.proofs.Common.{StepKind, Each, domains, InOrder, CheckEntry, Entry, EstEntry, StepEntry, Trace, logged, checked, estimated, State, no_cpu, cpu_of, Cpu, IsAtHome, PartNamesInOrder, Naming}
 use Rattle.wbt_journal.specs.declared.entry.Entry.TheVariants as entry
-use Rattle.wbt_journal.specs.declared.entry.EstEntry.{EstEntry}
-use Rattle.wbt_journal.specs.declared.step.StepEntry.{StepEntry}
-use Rattle.wbt_trace.specs.declared.trace.Trace.{Trace}
-use Rattle.wbt_replay_moves.specs.Definition.Cpu.{logged, checked, estimated}
-use Rattle.wbt_replay_moves.specs.Definition.State.{State, no_cpu, cpu_of}
-use Rattle.wbt_replay_moves.specs.declared.state.Cpu.{Cpu}
-use Rattle.wbt_replay_order.specs.Claims.Whole.{IsAtHome}
-use Rattle.wbt_replay_order.specs.Kept.Naming.{PartNamesInOrder, Naming}
 
 -- ---- one entry more
 

@@ -1,33 +1,16 @@
 -- Each move of a run names what is there.
 use Rattle.std.proofs.Common.{inl, ℕ, pos, zero, suc, ◌+◌, Bool, true, false, List, [], ◌∷◌, length, get_or, All, Option, Some, None, refl}
 use Rattle.std.proofs.lemmas.List.Elements.{All-head}
-use Rattle.wbt_flex.specs.Proportions.{after_period}
-use Rattle.wbt_flex.specs.declared.half.Half.{Half}
+use Rattle.wbt_replay_order.proofs.Common.{after_period, Half, Trace, make_timer_step, make_timer_move, State, cpu_of, domain_of, with_cpu, begin_timer, with_timer, peak, is_time, periods, period_to, Actor, Cpu, ReplayJob, Stretch, TimerSilent, TimerStep, TimerTodo, Todo, actor_at, after, ahead_of, is_nothing, turn_at, job_at, is_full, is_halted, stop, cpu_on, timer_on, go_on, begin_job, begin, with_orders, begin_or_drop, follow, next_moment, at_moment, place_after, chance_of, take, take_turn, seek_turn, next_turn, finish_turn, rotate_from, tick, advance_by, advance, Facts, PartNamesInOrder, Naming, TimerItemFits, Sound}
 use Rattle.wbt_grant.specs.declared.who.StepKind.TheVariants as kind
-use Rattle.wbt_trace.specs.declared.trace.Trace.{Trace}
-use Rattle.wbt_replay_moves.specs.Definition.Perform.{make_timer_step, make_timer_move}
-use Rattle.wbt_replay_moves.specs.Definition.State.{State, cpu_of, domain_of, with_cpu}
-use Rattle.wbt_replay_moves.specs.Definition.Timer.{begin_timer, with_timer, peak, is_time, periods, period_to}
-use Rattle.wbt_replay_moves.specs.declared.state.Actor.{Actor}
 use Rattle.wbt_replay_moves.specs.declared.state.Actor.TheVariants as who
-use Rattle.wbt_replay_moves.specs.declared.state.Cpu.{Cpu}
-use Rattle.wbt_replay_moves.specs.declared.state.ReplayJob.{ReplayJob}
 use Rattle.wbt_replay_moves.specs.declared.state.ReplayJob.TheVariants as job
-use Rattle.wbt_replay_moves.specs.declared.state.Stretch.{Stretch}
 use Rattle.wbt_replay_moves.specs.declared.state.Stretch.TheVariants as stretch
 use Rattle.wbt_replay_moves.specs.declared.state.Whose.TheVariants as whose
-use Rattle.wbt_replay_moves.specs.declared.todo.TimerSilent.{TimerSilent}
 use Rattle.wbt_replay_moves.specs.declared.todo.TimerSilent.TheVariants as timer_silent
-use Rattle.wbt_replay_moves.specs.declared.todo.TimerStep.{TimerStep}
 use Rattle.wbt_replay_moves.specs.declared.todo.TimerStep.TheVariants as timer_step
-use Rattle.wbt_replay_moves.specs.declared.todo.TimerTodo.{TimerTodo}
 use Rattle.wbt_replay_moves.specs.declared.todo.TimerTodo.TheVariants as timer_todo
-use Rattle.wbt_replay_moves.specs.declared.todo.Todo.{Todo}
 use Rattle.wbt_replay_moves.specs.declared.todo.Todo.TheVariants as todo
-use Rattle.wbt_replay_order.specs.Definition.Order.{actor_at, after, ahead_of, is_nothing, turn_at, job_at, is_full, is_halted, stop, cpu_on, timer_on, go_on, begin_job, begin, with_orders, begin_or_drop, follow, next_moment, at_moment, place_after, chance_of, take, take_turn, seek_turn, next_turn, finish_turn, rotate_from, tick, advance_by, advance}
-use Rattle.wbt_replay_order.specs.Kept.Facts.{Facts}
-use Rattle.wbt_replay_order.specs.Kept.Naming.{PartNamesInOrder, Naming}
-use Rattle.wbt_replay_order.specs.Kept.Sound.{TimerItemFits, Sound}
 use Rattle.wbt_replay_order.specs.declared.chance.Ahead.{Ahead as Next}
 use Rattle.wbt_replay_order.specs.declared.chance.Ahead.TheVariants as next
 use Rattle.wbt_replay_order.specs.declared.chance.Chance.{Chance}

@@ -2,23 +2,11 @@
 use Rattle.std.proofs.Common.{◌≡◌, ℕ, zero, suc, ◌+◌, ◌<◌, ◌≤◌, false, eqb, List, [], ◌∷◌, length, map, get_or, refl, sym, subst, arith, None}
 use Rattle.std.proofs.lemmas.Bool.Decides.{nat_tests}
 use Rattle.std.proofs.lemmas.List.{length-map, length_push}
-use Rattle.wbt_book.specs.Book.{Book, page_word}
+use Rattle.wbt_replay_order.proofs.Common.{Book, page_word, Each, domains, Trace, State, no_cpu, Cpu, IsAtHome, IsWhole, opening, first_cpu, first_cpus, advance, is_ended, base_of, bases_of, left_from, part_of, last_state, state_at, most_moves, journal_of, Facts, PartNamesInOrder, Naming, Sound}
 use Rattle.wbt_book.proofs.Ledgers.{at_most_one}
-use Rattle.wbt_journal.specs.Each.{Each}
 use Rattle.wbt_journal.specs.Leaves.{LeftFrom}
-use Rattle.wbt_journal.specs.Machine.{domains}
 use Rattle.wbt_journal.specs.Told.{NamesInOrder}
 use Rattle.wbt_trace.specs.declared.trace.Context.{Context}
-use Rattle.wbt_trace.specs.declared.trace.Trace.{Trace}
-use Rattle.wbt_replay_moves.specs.Definition.State.{State, no_cpu}
-use Rattle.wbt_replay_moves.specs.declared.state.Cpu.{Cpu}
-use Rattle.wbt_replay_order.specs.Claims.Whole.{IsAtHome, IsWhole}
-use Rattle.wbt_replay_order.specs.Definition.Opening.{opening, first_cpu, first_cpus}
-use Rattle.wbt_replay_order.specs.Definition.Order.{advance, is_ended}
-use Rattle.wbt_replay_order.specs.Definition.Run.{base_of, bases_of, left_from, part_of, last_state, state_at, most_moves, journal_of}
-use Rattle.wbt_replay_order.specs.Kept.Facts.{Facts}
-use Rattle.wbt_replay_order.specs.Kept.Naming.{PartNamesInOrder, Naming}
-use Rattle.wbt_replay_order.specs.Kept.Sound.{Sound}
 use Rattle.wbt_replay_order.proofs.Facts.Lists.{either}
 use Rattle.wbt_replay_ends.proofs.Ends.Opening.{each_push}
 use Rattle.wbt_replay_order.proofs.Growth.Runs.{run_along}

@@ -6,31 +6,15 @@ use Rattle.std.proofs.lemmas.List.{length-set, get_or-set_same, get_or-set_other
 use Rattle.std.specs.List.{list_any}
 use mathlib.Core.Logic.{dite}
 use native.Mathlib.Decide.{ℕ_discrete}
-use Rattle.wbt_trace.specs.declared.trace.Trace.{Trace}
+use Rattle.wbt_replay_order.proofs.Common.{Trace, then_do, places_after, keep_place, close_in, close_items, is_scan_over, hand_over_in, land_empty, fly, done_at, State, no_cpu, cpu_of, flusher_of, with_cpu, in_phase, IsAhead, flusher_device, Scan, Cpu, Flusher, ReplayPhase, Whose, Todo, is_finished, IsPageOf, IsFlusherOn, is_mark_of, is_hand_over, owes_mark, IsStillOpen, IsPlaced, AreBefore, Waiting, queued, taken, takeable, owed}
 use Rattle.wbt_journal.specs.declared.entry.Entry.TheVariants as entry
-use Rattle.wbt_replay_moves.specs.Definition.Cpu.{then_do}
-use Rattle.wbt_replay_moves.specs.Definition.Scan.{places_after, keep_place, close_in, close_items, is_scan_over, hand_over_in, land_empty, fly}
-use Rattle.wbt_io.specs.Moments.{done_at}
-use Rattle.wbt_replay_moves.specs.Definition.State.{State, no_cpu, cpu_of, flusher_of, with_cpu, in_phase}
-use Rattle.wbt_rules.specs.Places.{IsAhead}
-use Rattle.wbt_rules.specs.Things.{flusher_device, rate_of}
+use Rattle.wbt_rules.specs.Things.{rate_of}
 use Rattle.wbt_rules.proofs.Places.{none_ahead}
-use Rattle.wbt_rules.specs.declared.scan.Scan.{Scan}
-use Rattle.wbt_replay_moves.specs.declared.state.Cpu.{Cpu}
-use Rattle.wbt_replay_moves.specs.declared.state.Flusher.{Flusher}
-use Rattle.wbt_replay_moves.specs.declared.state.ReplayPhase.{ReplayPhase}
 use Rattle.wbt_replay_moves.specs.declared.state.ReplayPhase.TheVariants as phase
-use Rattle.wbt_replay_moves.specs.declared.state.Whose.{Whose}
 use Rattle.wbt_replay_moves.specs.declared.state.Whose.TheVariants as whose
 use Rattle.wbt_replay_moves.specs.declared.todo.Silent.TheVariants as silent
 use Rattle.wbt_replay_moves.specs.declared.todo.Step.TheVariants as step
-use Rattle.wbt_replay_moves.specs.declared.todo.Todo.{Todo}
 use Rattle.wbt_replay_moves.specs.declared.todo.Todo.TheVariants as todo
-use Rattle.wbt_replay_order.specs.Definition.Order.{is_finished}
-use Rattle.wbt_replay_order.specs.Kept.Facts.{IsPageOf, IsFlusherOn}
-use Rattle.wbt_replay_order.specs.Kept.Waiting.{is_mark_of, is_hand_over, owes_mark, IsStillOpen, IsPlaced, AreBefore, Waiting}
-use Rattle.wbt_replay_order.specs.Kept.Waiting.IsTakeable.{queued, taken}
-use Rattle.wbt_replay_order.specs.Kept.Waiting.IsAwaited.{takeable, owed}
 use Rattle.wbt_replay_order.proofs.Facts.Lists.{either}
 use Rattle.wbt_replay_order.proofs.Lists.Todos.{same_alike, pop_alike}
 use Rattle.wbt_replay_ends.proofs.Waiting.Moved.{lists_stay, ours_stay, empties_stay, moved_waits}

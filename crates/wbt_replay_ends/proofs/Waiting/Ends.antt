@@ -3,30 +3,14 @@ use Rattle.std.proofs.Common.{◌≡◌, ℕ, zero, suc, ◌+◌, ◌<◌, ◌�
 use Rattle.std.proofs.lemmas.Bool.{false_from_ne_true}
 use Rattle.std.proofs.lemmas.List.Sums.{get_or-le-sum_by}
 use Rattle.std.specs.List.{list_any}
-use Rattle.wbt_trace.specs.declared.trace.Trace.{Trace}
-use Rattle.wbt_book.specs.Book.{Bits, Book, clean, page_word}
-use Rattle.wbt_book.specs.Ledger.{times_in}
-use Rattle.wbt_expiry.specs.Waiting.{has_inode}
-use Rattle.wbt_replay_moves.specs.Definition.State.{State, no_cpu, no_task, cpu_of, task_of, flusher_of, queue_of}
-use Rattle.wbt_rules.specs.Things.{device_of, flusher_cpu}
-use Rattle.wbt_replay_moves.specs.declared.state.ReplayJob.{ReplayJob}
+use Rattle.wbt_replay_order.proofs.Common.{Trace, Bits, Book, clean, page_word, times_in, has_inode, State, no_cpu, no_task, cpu_of, task_of, flusher_of, queue_of, device_of, flusher_cpu, ReplayJob, ReplayPhase, Whose, Todo, is_finished, job_at, left_from, Facts, IsPageOf, Sound, IsAt, IsWhose, is_running, is_stopped, is_at_work, working_on, Agrees, is_mark_of, is_end, is_hand_over, AreBefore, IsTakeable, IsAwaited, Waiting, queued, listed, taken, takeable, scanned, owed}
 use Rattle.wbt_replay_moves.specs.declared.state.ReplayJob.TheVariants as job
-use Rattle.wbt_replay_moves.specs.declared.state.ReplayPhase.{ReplayPhase}
 use Rattle.wbt_replay_moves.specs.declared.state.ReplayPhase.TheVariants as phase
-use Rattle.wbt_replay_moves.specs.declared.state.Whose.{Whose}
 use Rattle.wbt_replay_moves.specs.declared.state.Whose.TheVariants as whose
 use Rattle.wbt_replay_moves.specs.declared.todo.Step.TheVariants as step
-use Rattle.wbt_replay_moves.specs.declared.todo.Todo.{Todo}
 use Rattle.wbt_replay_moves.specs.declared.todo.Todo.TheVariants as todo
 use Rattle.wbt_replay_moves.specs.declared.todo.Silent.TheVariants as silent
-use Rattle.wbt_replay_order.specs.Definition.Order.{is_finished, job_at}
-use Rattle.wbt_replay_order.specs.Definition.Run.{left_from}
-use Rattle.wbt_replay_order.specs.Kept.Facts.{Facts, IsPageOf}
-use Rattle.wbt_replay_order.specs.Kept.Sound.{Sound, IsAt, IsWhose, is_running, is_stopped, is_at_work, working_on}
-use Rattle.wbt_replay_order.specs.Kept.Turns.{Agrees}
-use Rattle.wbt_replay_order.specs.Kept.Waiting.{is_mark_of, is_end, is_hand_over, AreBefore, IsTakeable, IsAwaited, IsHeld, Waiting}
-use Rattle.wbt_replay_order.specs.Kept.Waiting.IsTakeable.{queued, listed, taken}
-use Rattle.wbt_replay_order.specs.Kept.Waiting.IsAwaited.{takeable, scanned, owed}
+use Rattle.wbt_replay_order.specs.Kept.Waiting.{IsHeld}
 use Rattle.wbt_replay_order.proofs.Facts.Lists.{none_counts}
 use Rattle.wbt_replay_ends.proofs.Waiting.Performs.{an_end, a_hand_over, scanning_works}
 

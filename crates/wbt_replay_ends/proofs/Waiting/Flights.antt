@@ -2,27 +2,14 @@
 use Rattle.std.proofs.Common.{◌≡◌, ◌≢◌, ℕ, zero, suc, ◌<◌, false, eqb, negsuc, List, [], ◌∷◌, ◌++◌, length, refl, sym, ◌∙◌, ap, arith, ne_eqb}
 use mathlib.Core.Logic.{dite}
 use native.Mathlib.Decide.{ℕ_discrete}
-use Rattle.wbt_trace.specs.declared.trace.Trace.{Trace}
-use Rattle.wbt_counter.specs.Sums.{one_if}
-use Rattle.wbt_counter.specs.declared.counter.Counter.TheVariants.{Domain, Context}
-use Rattle.wbt_counter.proofs.Sums.{put_same, put_other}
-use Rattle.wbt_book.specs.Book.{Bits, bits_after}
-use Rattle.wbt_book.specs.Ledger.{times_in}
+use Rattle.wbt_replay_order.proofs.Common.{Trace, one_if, Context, put_same, put_other, Bits, bits_after, times_in, fraction_of, may_be_added, log_at, owed_to, complete_in, complete_first, complete_page, land_in, landed, share, share_now, share_group, part_in, with_written, State, cpu_of, flusher_of, with_flusher, with_event, domain_of, writeback_of, in_phase, context_of, group_of, max_share, Flusher, ReplayPhase, IsFlusherOn, Waiting}
+use Rattle.wbt_counter.specs.declared.counter.Counter.TheVariants.{Domain}
 use Rattle.wbt_book.specs.declared.event.Event.TheVariants as event
-use Rattle.wbt_flex.specs.Proportions.{fraction_of, may_be_added}
 use Rattle.wbt_journal.specs.declared.entry.Entry.TheVariants as entry
-use Rattle.wbt_replay_moves.specs.Definition.Cpu.{log_at, owed_to}
-use Rattle.wbt_replay_moves.specs.Definition.Flight.{complete_in, complete_first, complete_page, land_in, landed, share, share_now, share_group, part_in, with_written}
-use Rattle.wbt_replay_moves.specs.Definition.State.{State, cpu_of, flusher_of, with_flusher, with_event, domain_of, writeback_of, in_phase}
-use Rattle.wbt_rules.specs.Things.{context_of, group_of, max_share}
-use Rattle.wbt_replay_moves.specs.declared.state.Flusher.{Flusher}
-use Rattle.wbt_replay_moves.specs.declared.state.ReplayPhase.{ReplayPhase}
 use Rattle.wbt_replay_moves.specs.declared.state.ReplayPhase.TheVariants as phase
 use Rattle.wbt_replay_moves.specs.declared.todo.Silent.TheVariants as silent
 use Rattle.wbt_replay_moves.specs.declared.todo.Step.TheVariants as step
 use Rattle.wbt_replay_moves.specs.declared.todo.Todo.TheVariants as todo
-use Rattle.wbt_replay_order.specs.Kept.Facts.{IsFlusherOn}
-use Rattle.wbt_replay_order.specs.Kept.Waiting.{Waiting}
 use Rattle.wbt_replay_order.proofs.Facts.Lists.{either}
 use Rattle.wbt_replay_order.proofs.Lists.Todos.{AreCalm, same_alike}
 use Rattle.wbt_replay_ends.proofs.Waiting.Scans.{push_waits}

@@ -6,44 +6,25 @@ use Rattle.std.proofs.lemmas.List.Elements.{All-head, All-tail}
 use Rattle.std.specs.List.{list_any}
 use mathlib.Core.Logic.{dite}
 use native.Mathlib.Decide.{ℕ_discrete}
-use Rattle.wbt_trace.specs.declared.trace.Trace.{Trace}
-use Rattle.wbt_counter.specs.Sums.{one_if}
-use Rattle.wbt_book.specs.Ledger.{times_in}
-use Rattle.wbt_replay_moves.specs.Definition.Idle.{finish, rest_until, take, take_or_finish, take_or_rest, with_hard, scan_of, unmark_of, unmark_in, take_now, with_pairs, take_last, told_by, tell, waits, note, noticed, age, tested_by}
-use Rattle.wbt_replay_moves.specs.Definition.State.{State, cpu_of, flusher_of, queue_of, with_queue, in_phase, no_flusher, waiting_of, with_waiting}
-use Rattle.wbt_rules.specs.declared.scan.Scan.{Scan}
-use Rattle.wbt_rules.specs.Things.{device_at, inode_of, device_of, flusher_device}
+use Rattle.wbt_replay_order.proofs.Common.{Trace, one_if, times_in, finish, rest_until, take_or_finish, take_or_rest, with_hard, scan_of, unmark_of, unmark_in, take_now, with_pairs, take_last, told_by, tell, waits, note, noticed, age, tested_by, State, cpu_of, flusher_of, queue_of, with_queue, in_phase, no_flusher, waiting_of, with_waiting, Scan, device_at, inode_of, device_of, flusher_device, Flusher, ReplayPhase, ReplayTurn, is_finished, Facts, IsPageOf, IsFlusherOn, AreQueued, AreQueues, IsIdle, is_hand_over, IsStillOpen, IsPlaced, Waiting, pairs_in, AreListed, queued, listed, taken, scanned, has_inode, each_put, due_after, logged, log_at, Entry, Cpu}
+use Rattle.wbt_replay_moves.specs.Definition.Idle.{take}
 use Rattle.wbt_rules.proofs.Places.{all_ahead}
-use Rattle.wbt_replay_moves.specs.declared.state.Flusher.{Flusher}
-use Rattle.wbt_replay_moves.specs.declared.state.ReplayPhase.{ReplayPhase}
 use Rattle.wbt_replay_moves.specs.declared.state.ReplayPhase.TheVariants as phase
-use Rattle.wbt_replay_moves.specs.declared.state.ReplayTurn.{ReplayTurn}
 use Rattle.wbt_replay_moves.specs.declared.todo.Step.TheVariants as step
 use Rattle.wbt_replay_moves.specs.declared.todo.Todo.TheVariants as todo
-use Rattle.wbt_replay_order.specs.Definition.Order.{is_finished}
-use Rattle.wbt_replay_order.specs.Kept.Facts.{Facts, IsPageOf, IsFlusherOn}
-use Rattle.wbt_replay_order.specs.Kept.Sound.{AreQueued, AreQueues}
-use Rattle.wbt_replay_order.specs.Kept.Turns.{IsIdle}
-use Rattle.wbt_replay_order.specs.Kept.Waiting.{is_hand_over, IsStillOpen, IsPlaced, Waiting, pairs_in, AreListed}
-use Rattle.wbt_replay_order.specs.Kept.Waiting.IsTakeable.{queued, listed, taken}
-use Rattle.wbt_replay_order.specs.Kept.Waiting.IsAwaited.{scanned}
 use Rattle.wbt_replay_order.proofs.Facts.Lists.{either, twice}
 use Rattle.wbt_replay_ends.proofs.Waiting.Scans.{push_waits}
 use Rattle.wbt_replay_ends.proofs.Waiting.Still.{still_alike, cpu_stays}
 use Rattle.wbt_replay_ends.proofs.Waiting.Turned.{is_parked, scan_in, now_is, turned_waits, parks, goes_on, same_queue, same_lists, same_ours}
 use Rattle.std.proofs.Math.ListN.{set}
 use Rattle.std.proofs.lemmas.Bool.{or_left, or_right}
-use Rattle.wbt_expiry.specs.Waiting.{Waiting as Wheel, has_inode}
+use Rattle.wbt_expiry.specs.Waiting.{Waiting as Wheel}
 use Rattle.wbt_expiry.specs.declared.due.Due.{Due}
-use Rattle.wbt_expiry.proofs.Sorting.{each_put, has_put}
-use Rattle.wbt_rules.specs.Age.{due_after}
-use Rattle.wbt_replay_moves.specs.Definition.Cpu.{logged, log_at}
+use Rattle.wbt_expiry.proofs.Sorting.{has_put}
 use Rattle.wbt_replay_order.proofs.Facts.Ages.{noticed_kept, aged_kept}
 use Rattle.wbt_replay_order.proofs.Lists.Numbered.{set_all}
 use Rattle.wbt_replay_order.proofs.Lists.Todos.{same_alike}
-use Rattle.wbt_journal.specs.declared.entry.Entry.{Entry}
 use Rattle.wbt_journal.specs.declared.entry.Entry.TheVariants as entry
-use Rattle.wbt_replay_moves.specs.declared.state.Cpu.{Cpu}
 
 -- another inode waits as before
 others_wait : (m : ℕ) (pair : Due) (pairs : List Due) → m ≢ pair.inode → has_inode m (pair ∷ pairs) ≡ true → has_inode m pairs ≡ true

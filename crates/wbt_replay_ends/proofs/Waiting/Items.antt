@@ -3,30 +3,12 @@ use Rattle.std.proofs.Common.{◌≡◌, ℕ, ◌+◌, ◌<◌, ◌≤◌, false
 use Rattle.std.proofs.lemmas.List.Elements.{All-head, All-tail}
 use Rattle.std.proofs.lemmas.List.Sums.{get_or-le-sum_by}
 use Rattle.std.specs.List.{list_any}
-use Rattle.wbt_trace.specs.declared.trace.Trace.{Trace}
-use Rattle.wbt_replay_moves.specs.Definition.Flight.{complete_by, land_by}
-use Rattle.wbt_replay_moves.specs.Definition.Idle.{test_by, unmark_by}
-use Rattle.wbt_replay_moves.specs.Definition.Perform.{make_step, make_move}
-use Rattle.wbt_replay_moves.specs.Definition.Scan.{look_by, claim_by, close_by, hand_over_by}
-use Rattle.wbt_replay_moves.specs.Definition.State.{State, no_task, cpu_of, task_of, flusher_of, with_cpu}
-use Rattle.wbt_rules.specs.Things.{device_of}
-use Rattle.wbt_replay_moves.specs.Definition.Writer.{dirty_by}
-use Rattle.wbt_replay_moves.specs.declared.state.Cpu.{Cpu}
-use Rattle.wbt_replay_moves.specs.declared.state.ReplayTask.{ReplayTask}
-use Rattle.wbt_replay_moves.specs.declared.state.Whose.{Whose}
+use Rattle.wbt_replay_order.proofs.Common.{Trace, complete_by, land_by, test_by, unmark_by, make_step, make_move, look_by, claim_by, close_by, hand_over_by, State, no_task, cpu_of, task_of, flusher_of, with_cpu, device_of, dirty_by, Cpu, ReplayTask, Whose, ReplayWork, Silent, Step, Todo, Facts, IsFlusherOn, IsPageOf, IsTaskOn, IsAt, IsWhose, WorkFits, is_running, Agrees, ItemFits, is_mark_of, is_end, is_hand_over, IsServed, Waiting}
 use Rattle.wbt_replay_moves.specs.declared.state.Whose.TheVariants as whose
-use Rattle.wbt_replay_moves.specs.declared.state.ReplayWork.{ReplayWork}
 use Rattle.wbt_replay_moves.specs.declared.state.ReplayWork.TheVariants as work
-use Rattle.wbt_replay_moves.specs.declared.todo.Silent.{Silent}
 use Rattle.wbt_replay_moves.specs.declared.todo.Silent.TheVariants as silent
-use Rattle.wbt_replay_moves.specs.declared.todo.Step.{Step}
 use Rattle.wbt_replay_moves.specs.declared.todo.Step.TheVariants as step
-use Rattle.wbt_replay_moves.specs.declared.todo.Todo.{Todo}
 use Rattle.wbt_replay_moves.specs.declared.todo.Todo.TheVariants as todo
-use Rattle.wbt_replay_order.specs.Kept.Facts.{Facts, IsFlusherOn, IsPageOf, IsTaskOn}
-use Rattle.wbt_replay_order.specs.Kept.Sound.{IsAt, IsWhose, WorkFits, is_running}
-use Rattle.wbt_replay_order.specs.Kept.Turns.{Agrees, ItemFits}
-use Rattle.wbt_replay_order.specs.Kept.Waiting.{is_mark_of, is_end, is_hand_over, IsServed, Waiting}
 use Rattle.wbt_replay_ends.proofs.Waiting.Closing.{close_waits, hand_over_waits}
 use Rattle.wbt_replay_ends.proofs.Waiting.Flights.{complete_waits, land_waits}
 use Rattle.wbt_replay_ends.proofs.Waiting.Idles.{tested_waits, unmark_waits}

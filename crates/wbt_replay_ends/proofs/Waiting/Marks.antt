@@ -6,25 +6,12 @@ use Rattle.std.proofs.lemmas.List.{get_or-set_same, get_or-set_other}
 use Rattle.std.specs.List.{list_any}
 use mathlib.Core.Logic.{dite}
 use native.Mathlib.Decide.{ℕ_discrete}
-use Rattle.wbt_trace.specs.declared.trace.Trace.{Trace}
-use Rattle.wbt_counter.specs.Sums.{one_if}
-use Rattle.wbt_book.specs.Ledger.{times_in}
-use Rattle.wbt_expiry.specs.Waiting.{has_inode}
-use Rattle.wbt_grant.proofs.Entries.{times_in-append}
+use Rattle.wbt_replay_order.proofs.Common.{Trace, one_if, times_in, has_inode, times_in-append, State, no_cpu, no_flusher, cpu_of, queue_of, with_cpu, plain_step, device_of, flusher_cpu, mark, Cpu, Todo, is_finished, Facts, AreQueues, is_mark_of, is_hand_over, owes_mark, IsStillOpen, AreBefore, IsTakeable, IsPlaced, IsServed, pairs_in, Waiting, listed, taken, takeable, scanned, owed}
 use Rattle.wbt_grant.specs.declared.who.StepKind.TheVariants as kind
-use Rattle.wbt_replay_moves.specs.Definition.State.{State, no_cpu, no_flusher, cpu_of, queue_of, with_cpu, plain_step, queued}
-use Rattle.wbt_rules.specs.Things.{device_of, flusher_cpu}
-use Rattle.wbt_replay_moves.specs.Definition.Writer.{mark}
-use Rattle.wbt_replay_moves.specs.declared.state.Cpu.{Cpu}
+use Rattle.wbt_replay_moves.specs.Definition.State.{queued}
 use Rattle.wbt_replay_moves.specs.declared.todo.Step.TheVariants as step
-use Rattle.wbt_replay_moves.specs.declared.todo.Todo.{Todo}
 use Rattle.wbt_replay_moves.specs.declared.todo.Todo.TheVariants as todo
-use Rattle.wbt_replay_order.specs.Definition.Order.{is_finished}
-use Rattle.wbt_replay_order.specs.Kept.Facts.{Facts}
-use Rattle.wbt_replay_order.specs.Kept.Sound.{AreQueues}
-use Rattle.wbt_replay_order.specs.Kept.Waiting.{is_mark_of, is_hand_over, owes_mark, IsStillOpen, AreBefore, IsTakeable, IsPlaced, IsServed, pairs_in, Waiting}
-use Rattle.wbt_replay_order.specs.Kept.Waiting.IsTakeable.{queued as in_queue, listed, taken}
-use Rattle.wbt_replay_order.specs.Kept.Waiting.IsAwaited.{takeable, scanned, owed}
+use Rattle.wbt_replay_order.specs.Kept.Waiting.IsTakeable.{queued as in_queue}
 use Rattle.wbt_replay_order.proofs.Facts.Lists.{either}
 use Rattle.wbt_replay_ends.proofs.Waiting.Moved.{lists_stay, ours_stay, empties_stay, moved_waits}
 

@@ -3,20 +3,9 @@ use Rattle.std.proofs.Common.{◌≡◌, ◌≢◌, ◌⊎◌, ℕ, ◌<◌, ◌
 use Rattle.std.proofs.lemmas.Bool.{cases_Bool}
 use mathlib.Core.Logic.{dite}
 use native.Mathlib.Decide.{ℕ_discrete}
-use Rattle.wbt_trace.specs.declared.trace.Trace.{Trace}
-use Rattle.wbt_book.specs.Ledger.{times_in}
-use Rattle.wbt_expiry.specs.Waiting.{has_inode}
-use Rattle.wbt_replay_moves.specs.Definition.State.{State, cpu_of, flusher_of, waiting_of, queue_of}
-use Rattle.wbt_rules.specs.Places.{IsAhead}
-use Rattle.wbt_rules.specs.declared.scan.Scan.{Scan}
-use Rattle.wbt_rules.specs.Things.{device_of, flusher_cpu, flusher_device}
-use Rattle.wbt_replay_moves.specs.declared.state.Flusher.{Flusher}
+use Rattle.wbt_replay_order.proofs.Common.{Trace, times_in, has_inode, State, cpu_of, flusher_of, waiting_of, queue_of, IsAhead, Scan, device_of, flusher_cpu, flusher_device, Flusher, is_finished, IsPageOf, owes_mark, IsStillOpen, AreBefore, IsTakeable, IsAwaited, IsPlaced, IsServed, pairs_in, AreListed, Waiting, queued, listed, taken, takeable, scanned, owed}
 use Rattle.wbt_replay_moves.specs.declared.state.ReplayPhase.TheVariants as phase
-use Rattle.wbt_replay_order.specs.Definition.Order.{is_finished}
-use Rattle.wbt_replay_order.specs.Kept.Facts.{IsPageOf}
-use Rattle.wbt_replay_order.specs.Kept.Waiting.{owes_mark, IsStillOpen, AreBefore, IsTakeable, IsAwaited, IsHeld, IsPlaced, IsServed, pairs_in, AreListed, Waiting}
-use Rattle.wbt_replay_order.specs.Kept.Waiting.IsTakeable.{queued, listed, taken}
-use Rattle.wbt_replay_order.specs.Kept.Waiting.IsAwaited.{takeable, scanned, owed}
+use Rattle.wbt_replay_order.specs.Kept.Waiting.{IsHeld}
 
 -- From s the run came to t, and of the flushers f changed at most.
 pub record Moved (trace : Trace) (f : ℕ) (s t : State) : Type 0 where

@@ -3,29 +3,17 @@ use Rattle.std.proofs.Common.{◌≡◌, ℕ, zero, suc, ◌+◌, ◌<◌, Bool,
 use Rattle.std.proofs.lemmas.Bool.{cases_lt}
 use Rattle.std.proofs.lemmas.List.{get_or_past}
 use Rattle.std.proofs.lemmas.List.Elements.{All-get_or}
-use Rattle.wbt_trace.specs.declared.trace.Trace.{Trace}
-use Rattle.wbt_replay_moves.specs.Definition.Perform.{make_step, make_timer_step}
-use Rattle.wbt_replay_moves.specs.Definition.State.{State, no_cpu, cpu_of, with_cpu}
-use Rattle.wbt_replay_moves.specs.Definition.Timer.{begin_timer, with_timer}
-use Rattle.wbt_replay_moves.specs.declared.state.Actor.{Actor}
+use Rattle.wbt_replay_order.proofs.Common.{Trace, make_step, make_timer_step, State, no_cpu, cpu_of, with_cpu, begin_timer, with_timer, Actor, Cpu, ReplayJob, Stretch, TimerTodo, Todo, actor_at, after, ahead_of, turn_at, job_at, is_nothing, is_full, is_halted, spend, stop, cpu_on, timer_on, go_on, begin_job, begin, with_orders, begin_or_drop, follow, next_moment, at_moment, place_after, chance_of, take, take_turn, seek_turn, next_turn, finish_turn, rotate_from, tick, advance_by, advance, Facts, IsFlusherOn, IsJobOn, Waiting}
 use Rattle.wbt_replay_moves.specs.declared.state.Actor.TheVariants as who
-use Rattle.wbt_replay_moves.specs.declared.state.Cpu.{Cpu}
-use Rattle.wbt_replay_moves.specs.declared.state.ReplayJob.{ReplayJob}
 use Rattle.wbt_replay_moves.specs.declared.state.ReplayJob.TheVariants as job
-use Rattle.wbt_replay_moves.specs.declared.state.Stretch.{Stretch}
 use Rattle.wbt_replay_moves.specs.declared.state.Stretch.TheVariants as stretch
 use Rattle.wbt_replay_moves.specs.declared.state.Whose.TheVariants as whose
-use Rattle.wbt_replay_moves.specs.declared.todo.TimerTodo.{TimerTodo}
 use Rattle.wbt_replay_moves.specs.declared.todo.TimerTodo.TheVariants as timer_todo
-use Rattle.wbt_replay_moves.specs.declared.todo.Todo.{Todo}
 use Rattle.wbt_replay_moves.specs.declared.todo.Todo.TheVariants as todo
 use Rattle.wbt_replay_order.specs.declared.chance.Ahead.{Ahead}
 use Rattle.wbt_replay_order.specs.declared.chance.Ahead.TheVariants as ahead
 use Rattle.wbt_replay_order.specs.declared.chance.Chance.{Chance}
 use Rattle.wbt_replay_order.specs.declared.chance.Chance.TheVariants as chance
-use Rattle.wbt_replay_order.specs.Definition.Order.{actor_at, after, ahead_of, turn_at, job_at, is_nothing, is_full, is_halted, spend, stop, cpu_on, timer_on, go_on, begin_job, begin, with_orders, begin_or_drop, follow, next_moment, at_moment, place_after, chance_of, take, take_turn, seek_turn, next_turn, finish_turn, rotate_from, tick, advance_by, advance}
-use Rattle.wbt_replay_order.specs.Kept.Facts.{Facts, IsFlusherOn, IsJobOn}
-use Rattle.wbt_replay_order.specs.Kept.Waiting.{Waiting}
 use Rattle.wbt_replay_order.proofs.Facts.Lists.{either}
 use Rattle.wbt_replay_order.proofs.Frames.Chances.{IsSeeker, CanBegin, MayBegin, may_moved, turn_begins, chance_begins}
 use Rattle.wbt_replay_ends.proofs.Waiting.Items.{step_waits, move_waits}

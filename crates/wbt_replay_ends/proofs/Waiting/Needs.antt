@@ -1,11 +1,8 @@
 -- What of a sound state a move needs so that whatever is still to be cleaned waits on: the order lines and the rotation don't matter to it.
 use Rattle.std.proofs.Common.{◌≡◌, List, length, Option}
 use Rattle.std.specs.List.{count_by}
-use Rattle.wbt_trace.specs.declared.trace.Trace.{Trace}
-use Rattle.wbt_replay_moves.specs.Definition.State.{State}
-use Rattle.wbt_replay_moves.specs.declared.state.Actor.{Actor}
-use Rattle.wbt_replay_moves.specs.declared.state.Stretch.{Stretch}
-use Rattle.wbt_replay_order.specs.Kept.Sound.{Sound, AreQueues, AreTasks, AreFlushers, AreCpus, AreAgreed, is_running}
+use Rattle.wbt_replay_order.proofs.Common.{Trace, State, Actor, Stretch, Sound, AreQueues, AreTasks, AreCpus, is_running}
+use Rattle.wbt_replay_order.specs.Kept.Sound.{AreFlushers, AreAgreed}
 
 pub record Needs (trace : Trace) (s : State) : Type 0 where
   pub marks : length s.marks ≡ length trace.inodes

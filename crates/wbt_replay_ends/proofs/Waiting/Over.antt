@@ -2,18 +2,8 @@
 use Rattle.std.proofs.Common.{◌≡◌, ℕ, suc, ◌+◌, ◌<◌, ◌≤◌, Bool, false, List, [], ◌∷◌, length, get_or, ◌∙◌, ap, arith, ⊎_elim}
 use Rattle.std.proofs.lemmas.Bool.{cases_lt}
 use Rattle.std.proofs.lemmas.List.Sums.{sum_by-cons}
-use Rattle.wbt_trace.specs.Lawful.{AreFirsts, IsLawful}
-use Rattle.wbt_trace.specs.Sofar.{pages_in}
-use Rattle.wbt_trace.specs.declared.trace.Inode.{Inode}
-use Rattle.wbt_trace.specs.declared.trace.Trace.{Trace}
+use Rattle.wbt_replay_order.proofs.Common.{AreFirsts, IsLawful, pages_in, Inode, Trace, Bits, State, HasEnded, CompletesAll, most_moves, state_at, last_state, journal_of, IsPageOf, Sound}
 use Rattle.wbt_journal.specs.declared.journal.Ending.TheVariants as ending
-use Rattle.wbt_book.specs.Book.{Bits}
-use Rattle.wbt_replay_moves.specs.Definition.State.{State}
-use Rattle.wbt_replay_order.specs.Claims.Bound.{HasEnded}
-use Rattle.wbt_replay_order.specs.Claims.Complete.{CompletesAll}
-use Rattle.wbt_replay_order.specs.Definition.Run.{most_moves, state_at, last_state, journal_of}
-use Rattle.wbt_replay_order.specs.Kept.Facts.{IsPageOf}
-use Rattle.wbt_replay_order.specs.Kept.Sound.{Sound}
 use Rattle.wbt_replay_order.proofs.Facts.Facts.{facts}
 use Rattle.wbt_replay_order.proofs.Facts.Inodes.{no_inode}
 use Rattle.wbt_replay_order.proofs.Facts.Over.{not_cut, all_over}

@@ -3,24 +3,11 @@ use Rattle.std.proofs.Common.{◌≡◌, ℕ, ◌<◌, ◌≤◌, Bool, true, fa
 use Rattle.std.proofs.lemmas.List.{get_or-set_same, length-set}
 use Rattle.std.proofs.lemmas.List.Elements.{All-head, All-tail}
 use Rattle.std.specs.List.{list_any}
-use Rattle.wbt_trace.specs.declared.trace.Trace.{Trace}
-use Rattle.wbt_replay_moves.specs.Definition.State.{State, no_cpu, no_task, no_flusher, cpu_of, with_cpu}
-use Rattle.wbt_replay_moves.specs.declared.state.Cpu.{Cpu}
-use Rattle.wbt_replay_moves.specs.declared.state.Flusher.{Flusher}
-use Rattle.wbt_replay_moves.specs.declared.state.ReplayPhase.{ReplayPhase}
+use Rattle.wbt_replay_order.proofs.Common.{Trace, State, no_cpu, no_task, no_flusher, cpu_of, with_cpu, Cpu, Flusher, ReplayPhase, ReplayTask, ReplayTurn, Whose, Todo, is_finished, Facts, IsFlusherOn, IsTaskOn, IsWhose, is_running, Agrees, IsScanning, AreFrom, AreInOrder, is_mark_of, is_end, is_hand_over, AreBefore, Waiting}
 use Rattle.wbt_replay_moves.specs.declared.state.ReplayPhase.TheVariants as phase
-use Rattle.wbt_replay_moves.specs.declared.state.ReplayTask.{ReplayTask}
-use Rattle.wbt_replay_moves.specs.declared.state.ReplayTurn.{ReplayTurn}
-use Rattle.wbt_replay_moves.specs.declared.state.Whose.{Whose}
 use Rattle.wbt_replay_moves.specs.declared.state.Whose.TheVariants as whose
 use Rattle.wbt_replay_moves.specs.declared.todo.Silent.TheVariants as silent
-use Rattle.wbt_replay_moves.specs.declared.todo.Todo.{Todo}
 use Rattle.wbt_replay_moves.specs.declared.todo.Todo.TheVariants as todo
-use Rattle.wbt_replay_order.specs.Definition.Order.{is_finished}
-use Rattle.wbt_replay_order.specs.Kept.Facts.{Facts, IsFlusherOn, IsTaskOn}
-use Rattle.wbt_replay_order.specs.Kept.Sound.{IsWhose, is_running}
-use Rattle.wbt_replay_order.specs.Kept.Turns.{Agrees, IsScanning, AreFrom, AreInOrder}
-use Rattle.wbt_replay_order.specs.Kept.Waiting.{is_mark_of, is_end, is_hand_over, AreBefore, Waiting}
 use Rattle.wbt_replay_order.proofs.Lists.Todos.{pop_alike}
 use Rattle.wbt_replay_ends.proofs.Waiting.Needs.{Needs}
 use Rattle.wbt_replay_ends.proofs.Waiting.Still.{cpu_stays}

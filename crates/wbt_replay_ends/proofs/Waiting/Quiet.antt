@@ -1,32 +1,14 @@
 -- Items of a turn that change nothing that waits: counters, loads, checks, ends and estimates; and the timer's moves.
 use Rattle.std.proofs.Common.{ℕ, zero, suc, eqb, ℤ, pos, ◌+ℤ◌, unsigned_abs, [], ◌∷◌, refl, arith, Option, Some, None}
-use Rattle.wbt_trace.specs.declared.trace.Trace.{Trace}
-use Rattle.wbt_counter.specs.declared.counter.Counter.{Counter}
+use Rattle.wbt_replay_order.proofs.Common.{Trace, Counter, update_of, Estimate, after_period, Half, decide_by, writer_of, add, fold, clear, load_first, load_middle, load_limits, load_count, batch_of, added, own_of, with_own, estimate, estimate_to, sample_of, make_timer_step, make_timer_move, State, cpu_of, task_of, domain_of, writeback_of, period, period_to, periods, is_time, weigh, end_by, end_now, has_nothing, Cpu, Whose, TimerSilent, TimerStep, Waiting}
 use Rattle.wbt_counter.specs.declared.counter.Counter.TheVariants.{Domain as ofDomain, Context as ofContext}
-use Rattle.wbt_estimate.specs.Estimate.{update_of}
-use Rattle.wbt_estimate.specs.declared.estimate.Estimate.{Estimate}
-use Rattle.wbt_flex.specs.Proportions.{after_period}
-use Rattle.wbt_flex.specs.declared.half.Half.{Half}
-use Rattle.wbt_replay_moves.specs.Definition.Check.{decide, decide_by, writer_of}
-use Rattle.wbt_replay_moves.specs.Definition.Counters.{add, fold, clear, load_first, load_middle, load_limits, load_count}
-use Rattle.wbt_journal.specs.Machine.{batch_of}
-use Rattle.wbt_replay_moves.specs.Definition.Cpu.{added, own_of, with_own}
-use Rattle.wbt_replay_moves.specs.Definition.Estimates.{estimate, estimate_to, sample_of}
-use Rattle.wbt_replay_moves.specs.Definition.Perform.{make_timer_step, make_timer_move}
-use Rattle.wbt_replay_moves.specs.Definition.State.{State, cpu_of, task_of, domain_of, writeback_of}
-use Rattle.wbt_replay_moves.specs.Definition.Timer.{period, period_to, periods, is_time}
-use Rattle.wbt_replay_moves.specs.Definition.Weigh.{weigh}
-use Rattle.wbt_replay_moves.specs.Definition.Writer.{end, end_by, end_now, has_nothing}
-use Rattle.wbt_replay_moves.specs.declared.state.Cpu.{Cpu}
-use Rattle.wbt_replay_moves.specs.declared.state.Whose.{Whose}
+use Rattle.wbt_replay_moves.specs.Definition.Check.{decide}
+use Rattle.wbt_replay_moves.specs.Definition.Writer.{end}
 use Rattle.wbt_replay_moves.specs.declared.state.Whose.TheVariants as whose
 use Rattle.wbt_replay_moves.specs.declared.todo.Step.TheVariants as step
-use Rattle.wbt_replay_moves.specs.declared.todo.TimerSilent.{TimerSilent}
 use Rattle.wbt_replay_moves.specs.declared.todo.TimerSilent.TheVariants as timer_silent
-use Rattle.wbt_replay_moves.specs.declared.todo.TimerStep.{TimerStep}
 use Rattle.wbt_replay_moves.specs.declared.todo.TimerStep.TheVariants as timer_step
 use Rattle.wbt_replay_moves.specs.declared.todo.Todo.TheVariants as todo
-use Rattle.wbt_replay_order.specs.Kept.Waiting.{Waiting}
 use Rattle.wbt_replay_order.proofs.Facts.Lists.{either}
 use Rattle.wbt_replay_order.proofs.Lists.Todos.{Alike, same_alike, push_alike}
 use Rattle.wbt_replay_ends.proofs.Waiting.Still.{still, cpu_stays}

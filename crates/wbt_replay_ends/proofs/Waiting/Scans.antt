@@ -2,28 +2,13 @@
 use Rattle.std.proofs.Common.{◌≡◌, ◌≢◌, ℕ, ◌+◌, ◌<◌, ◌≤◌, Bool, true, false, not, ◌&&◌, ◌||◌, eqb, List, [], ◌∷◌, ◌++◌, length, refl, sym, ◌∙◌, ap, arith, inl, inr, eq-eqb}
 use mathlib.Core.Logic.{dite}
 use native.Mathlib.Decide.{ℕ_discrete}
-use Rattle.wbt_trace.specs.declared.trace.Trace.{Trace}
-use Rattle.wbt_counter.specs.Sums.{one_if}
-use Rattle.wbt_counter.proofs.Sums.{put_same, put_other}
-use Rattle.wbt_book.specs.Book.{Bits, is_claimable, bits_after}
-use Rattle.wbt_book.specs.PageWords.{shared_word}
+use Rattle.wbt_replay_order.proofs.Common.{Trace, one_if, put_same, put_other, Bits, is_claimable, bits_after, shared_word, times_in-append, then_do, log_at, look_in, looked_at, claim_in, claim_now, State, cpu_of, flusher_of, with_flusher, with_event, in_phase, page_of, Scan, Flusher, ReplayPhase, Todo, IsFlusherOn, Waiting}
 use Rattle.wbt_book.specs.declared.event.Event.TheVariants as event
-use Rattle.wbt_grant.proofs.Entries.{times_in-append}
 use Rattle.wbt_journal.specs.declared.entry.Entry.TheVariants as entry
-use Rattle.wbt_replay_moves.specs.Definition.Cpu.{then_do, log_at}
-use Rattle.wbt_replay_moves.specs.Definition.Scan.{look_in, looked_at, claim_in, claim_now}
-use Rattle.wbt_replay_moves.specs.Definition.State.{State, cpu_of, flusher_of, with_flusher, with_event, in_phase}
-use Rattle.wbt_rules.specs.Places.{page_of}
-use Rattle.wbt_rules.specs.declared.scan.Scan.{Scan}
-use Rattle.wbt_replay_moves.specs.declared.state.Flusher.{Flusher}
-use Rattle.wbt_replay_moves.specs.declared.state.ReplayPhase.{ReplayPhase}
 use Rattle.wbt_replay_moves.specs.declared.state.ReplayPhase.TheVariants as phase
 use Rattle.wbt_replay_moves.specs.declared.todo.Silent.TheVariants as silent
 use Rattle.wbt_replay_moves.specs.declared.todo.Step.TheVariants as step
-use Rattle.wbt_replay_moves.specs.declared.todo.Todo.{Todo}
 use Rattle.wbt_replay_moves.specs.declared.todo.Todo.TheVariants as todo
-use Rattle.wbt_replay_order.specs.Kept.Facts.{IsFlusherOn}
-use Rattle.wbt_replay_order.specs.Kept.Waiting.{Waiting}
 use Rattle.wbt_replay_order.proofs.Facts.Lists.{either}
 use Rattle.wbt_replay_order.proofs.Lists.Todos.{AreCalm, same_alike, push_alike}
 use Rattle.wbt_replay_ends.proofs.Waiting.Still.{still, cpu_stays, still_alike}

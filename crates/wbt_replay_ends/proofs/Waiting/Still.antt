@@ -5,17 +5,7 @@ use Rattle.std.proofs.lemmas.Bool.{cases_lt}
 use Rattle.std.proofs.lemmas.List.{get_or-set_same, get_or-set_other, set_past}
 use mathlib.Core.Logic.{dite}
 use native.Mathlib.Decide.{ℕ_discrete}
-use Rattle.wbt_trace.specs.declared.trace.Trace.{Trace}
-use Rattle.wbt_book.specs.Book.{Book}
-use Rattle.wbt_book.specs.Ledger.{times_in}
-use Rattle.wbt_replay_moves.specs.Definition.State.{State, no_cpu, no_flusher, cpu_of, flusher_of}
-use Rattle.wbt_rules.specs.Things.{device_of, flusher_cpu}
-use Rattle.wbt_replay_moves.specs.declared.state.Cpu.{Cpu}
-use Rattle.wbt_replay_moves.specs.declared.state.Flusher.{Flusher}
-use Rattle.wbt_replay_order.specs.Definition.Order.{is_finished}
-use Rattle.wbt_replay_order.specs.Kept.Waiting.{IsPlaced, Waiting}
-use Rattle.wbt_replay_order.specs.Kept.Waiting.IsTakeable.{queued, taken}
-use Rattle.wbt_replay_order.specs.Kept.Waiting.IsAwaited.{takeable, scanned, owed}
+use Rattle.wbt_replay_order.proofs.Common.{Trace, Book, times_in, State, no_cpu, no_flusher, cpu_of, flusher_of, device_of, flusher_cpu, Cpu, Flusher, is_finished, IsPlaced, Waiting, queued, taken, takeable, scanned, owed}
 use Rattle.wbt_replay_order.proofs.Lists.Todos.{Alike, same_alike}
 use Rattle.wbt_replay_ends.proofs.Waiting.Moved.{lists_stay, ours_stay, empties_stay, moved_waits}
 

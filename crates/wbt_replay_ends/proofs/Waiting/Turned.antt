@@ -2,22 +2,9 @@
 use Rattle.std.proofs.Common.{◌≡◌, ◌⊎◌, ℕ, ◌+◌, ◌<◌, ◌≤◌, Bool, true, false, List, [], length, get_or, sym, ◌∙◌, ap, subst, arith, inl, inr, ⊎_elim}
 use Rattle.std.proofs.Math.ListN.{set}
 use Rattle.std.proofs.lemmas.List.{get_or-set_same, get_or-set_other}
-use Rattle.wbt_trace.specs.declared.trace.Trace.{Trace}
-use Rattle.wbt_book.specs.Ledger.{times_in}
-use Rattle.wbt_expiry.specs.Waiting.{has_inode}
-use Rattle.wbt_replay_moves.specs.Definition.State.{State, no_flusher, cpu_of, flusher_of, waiting_of, queue_of}
-use Rattle.wbt_rules.specs.Places.{page_of, IsAhead}
+use Rattle.wbt_replay_order.proofs.Common.{Trace, times_in, has_inode, State, no_flusher, cpu_of, flusher_of, waiting_of, queue_of, page_of, IsAhead, Scan, device_of, flusher_cpu, flusher_device, Flusher, ReplayPhase, is_finished, IsPageOf, IsFlusherOn, IsStillOpen, IsTakeable, IsAwaited, IsPlaced, pairs_in, AreListed, Waiting, queued, listed, taken, takeable, scanned, owed}
 use Rattle.wbt_rules.proofs.Places.{next_or_ahead}
-use Rattle.wbt_rules.specs.declared.scan.Scan.{Scan}
-use Rattle.wbt_rules.specs.Things.{device_of, flusher_cpu, flusher_device}
-use Rattle.wbt_replay_moves.specs.declared.state.Flusher.{Flusher}
-use Rattle.wbt_replay_moves.specs.declared.state.ReplayPhase.{ReplayPhase}
 use Rattle.wbt_replay_moves.specs.declared.state.ReplayPhase.TheVariants as phase
-use Rattle.wbt_replay_order.specs.Definition.Order.{is_finished}
-use Rattle.wbt_replay_order.specs.Kept.Facts.{IsPageOf, IsFlusherOn}
-use Rattle.wbt_replay_order.specs.Kept.Waiting.{IsStillOpen, IsTakeable, IsAwaited, IsPlaced, pairs_in, AreListed, Waiting}
-use Rattle.wbt_replay_order.specs.Kept.Waiting.IsTakeable.{queued, listed, taken}
-use Rattle.wbt_replay_order.specs.Kept.Waiting.IsAwaited.{takeable, scanned, owed}
 use Rattle.wbt_replay_order.proofs.Lists.Todos.{Alike}
 use Rattle.wbt_replay_ends.proofs.Waiting.Moved.{moved_waits}
 

@@ -1,33 +1,14 @@
 -- The beginning of a turn keeps it that what is still to be cleaned waits.
 use Rattle.std.proofs.Common.{◌≡◌, ℕ, zero, suc, ◌+◌, ◌<◌, leb, List, [], ◌∷◌, ◌++◌, length, refl, sym, ◌∙◌, ap, subst, arith, eqb-true, Option, None, Some}
 use Rattle.std.proofs.lemmas.List.{get_or-set_same, length-set}
-use Rattle.wbt_trace.specs.declared.trace.Trace.{Trace}
-use Rattle.wbt_counter.specs.declared.counter.Counter.TheVariants.{Context}
-use Rattle.wbt_replay_moves.specs.Definition.Check.{writer_of}
-use Rattle.wbt_replay_moves.specs.Definition.Cpu.{at_turn, do_last_at}
-use Rattle.wbt_replay_moves.specs.Definition.Idle.{begin_idle, begin_test, domain_loads, measure, measures_of, weighs_of, take_last}
-use Rattle.wbt_replay_moves.specs.Definition.Perform.{begin_turn, begin_for, begin_phase}
-use Rattle.wbt_replay_moves.specs.Definition.State.{State, no_cpu, cpu_of, flusher_of, with_cpu, task_of, with_task, writeback_of, is_drained, waiting_of}
-use Rattle.wbt_rules.specs.Things.{group_of}
-use Rattle.wbt_replay_moves.specs.Definition.Writer.{check_items, pause_in, begin_due, begin_page, begin_work}
-use Rattle.wbt_replay_moves.specs.declared.state.Cpu.{Cpu}
-use Rattle.wbt_replay_moves.specs.declared.state.ReplayPhase.{ReplayPhase}
+use Rattle.wbt_replay_order.proofs.Common.{Trace, Context, writer_of, at_turn, do_last_at, begin_idle, begin_test, domain_loads, measure, measures_of, weighs_of, take_last, begin_turn, begin_for, begin_phase, State, no_cpu, cpu_of, flusher_of, with_cpu, task_of, with_task, writeback_of, is_drained, waiting_of, group_of, check_items, pause_in, begin_due, begin_page, begin_work, Cpu, ReplayPhase, ReplayTask, Whose, ReplayWork, Todo, Due, Facts, IsFlusherOn, AreQueues, IsIdle, Waiting}
 use Rattle.wbt_replay_moves.specs.declared.state.ReplayPhase.TheVariants as phase
-use Rattle.wbt_replay_moves.specs.declared.state.ReplayTask.{ReplayTask}
-use Rattle.wbt_replay_moves.specs.declared.state.Whose.{Whose}
 use Rattle.wbt_replay_moves.specs.declared.state.Whose.TheVariants as whose
-use Rattle.wbt_replay_moves.specs.declared.state.ReplayWork.{ReplayWork}
 use Rattle.wbt_replay_moves.specs.declared.state.ReplayWork.TheVariants as work
 use Rattle.wbt_replay_moves.specs.declared.todo.Silent.TheVariants as silent
 use Rattle.wbt_replay_moves.specs.declared.todo.Step.TheVariants as step
-use Rattle.wbt_replay_moves.specs.declared.todo.Todo.{Todo}
 use Rattle.wbt_replay_moves.specs.declared.todo.Todo.TheVariants as todo
-use Rattle.wbt_task.specs.declared.allowance.Due.{Due}
 use Rattle.wbt_task.specs.declared.allowance.Due.TheVariants as due
-use Rattle.wbt_replay_order.specs.Kept.Facts.{Facts, IsFlusherOn}
-use Rattle.wbt_replay_order.specs.Kept.Sound.{AreQueues}
-use Rattle.wbt_replay_order.specs.Kept.Turns.{IsIdle}
-use Rattle.wbt_replay_order.specs.Kept.Waiting.{Waiting}
 use Rattle.wbt_replay_order.proofs.Facts.Lists.{either}
 use Rattle.wbt_replay_ends.proofs.Waiting.Idles.{take_last_waits}
 use Rattle.wbt_replay_order.proofs.Lists.Todos.{AreCalm, Alike, calm_both, last_alike, turn_alike}

@@ -2,16 +2,7 @@
 use Rattle.std.proofs.Common.{ℕ, zero, suc, true, false, List, [], length, ⊎_elim, refl, sym, ◌∙◌, ap, subst, arith, ◌≡◌}
 use Rattle.std.proofs.lemmas.Bool.{cases_Bool}
 use Rattle.std.proofs.lemmas.List.{get_or-replicate}
-use Rattle.wbt_trace.specs.declared.trace.Trace.{Trace}
-use Rattle.wbt_replay_moves.specs.Definition.State.{no_cpu, no_flusher}
-use Rattle.wbt_replay_moves.specs.declared.state.Cpu.{Cpu}
-use Rattle.wbt_replay_moves.specs.declared.state.Flusher.{Flusher}
-use Rattle.wbt_replay_order.specs.Definition.Opening.{opening, first_cpu, first_cpus, first_flusher, first_flushers}
-use Rattle.wbt_replay_order.specs.Definition.Order.{is_ended, is_finished}
-use Rattle.wbt_replay_order.specs.Definition.Run.{state_at}
-use Rattle.wbt_replay_order.specs.Kept.Facts.{Facts}
-use Rattle.wbt_replay_order.specs.Kept.Sound.{Sound}
-use Rattle.wbt_replay_order.specs.Kept.Waiting.{AreBefore, IsPlaced, pairs_in, AreListed, Waiting}
+use Rattle.wbt_replay_order.proofs.Common.{Trace, no_cpu, no_flusher, Cpu, Flusher, opening, first_cpu, first_cpus, first_flusher, first_flushers, is_ended, is_finished, state_at, Facts, Sound, AreBefore, IsPlaced, pairs_in, AreListed, Waiting}
 use Rattle.wbt_replay_order.proofs.Growth.Runs.{run_none, run_last, run_stays}
 use Rattle.wbt_replay_order.proofs.Outset.Numbered.{numbered_all, numbered_at}
 use Rattle.wbt_replay_ends.proofs.Waiting.Moves.{advance_waits}

@@ -5,31 +5,14 @@ use Rattle.std.proofs.lemmas.List.{get_or-set_same, get_or-set_other, length-set
 use Rattle.std.specs.List.{list_any}
 use mathlib.Core.Logic.{dite}
 use native.Mathlib.Decide.{ℕ_discrete}
-use Rattle.wbt_trace.specs.declared.trace.Trace.{Trace}
-use Rattle.wbt_counter.specs.declared.counter.Counter.TheVariants.{Domain, Context}
-use Rattle.wbt_counter.proofs.Sums.{put_same, put_other}
-use Rattle.wbt_book.specs.Book.{Bits, bits_after}
-use Rattle.wbt_book.specs.Ledger.{times_in}
+use Rattle.wbt_replay_order.proofs.Common.{Trace, Context, put_same, put_other, Bits, bits_after, times_in, owed_to, log_at, State, no_cpu, no_flusher, cpu_of, task_of, with_task, with_event, context_of, device_of, group_of, flusher_cpu, dirty_next, dirty_page, dirty_fresh, count_page, counted_local, passed_page, Cpu, ReplayTask, Whose, ReplayWork, Todo, is_finished, Facts, IsPageOf, is_mark_of, is_end, is_hand_over, owes_mark, IsStillOpen, AreBefore, IsPlaced, Waiting, queued, taken, takeable, scanned, owed}
+use Rattle.wbt_counter.specs.declared.counter.Counter.TheVariants.{Domain}
 use Rattle.wbt_book.specs.declared.event.Event.TheVariants as event
 use Rattle.wbt_journal.specs.declared.entry.Entry.TheVariants as entry
-use Rattle.wbt_replay_moves.specs.Definition.Cpu.{owed_to, log_at}
-use Rattle.wbt_replay_moves.specs.Definition.State.{State, no_cpu, no_flusher, cpu_of, task_of, with_task, with_event}
-use Rattle.wbt_rules.specs.Things.{context_of, device_of, group_of, flusher_cpu}
-use Rattle.wbt_replay_moves.specs.Definition.Writer.{dirty_next, dirty_page, dirty_fresh, count_page, counted_local, passed_page}
-use Rattle.wbt_replay_moves.specs.declared.state.Cpu.{Cpu}
-use Rattle.wbt_replay_moves.specs.declared.state.ReplayTask.{ReplayTask}
-use Rattle.wbt_replay_moves.specs.declared.state.Whose.{Whose}
 use Rattle.wbt_replay_moves.specs.declared.state.Whose.TheVariants as whose
-use Rattle.wbt_replay_moves.specs.declared.state.ReplayWork.{ReplayWork}
 use Rattle.wbt_replay_moves.specs.declared.state.ReplayWork.TheVariants as work
 use Rattle.wbt_replay_moves.specs.declared.todo.Step.TheVariants as step
-use Rattle.wbt_replay_moves.specs.declared.todo.Todo.{Todo}
 use Rattle.wbt_replay_moves.specs.declared.todo.Todo.TheVariants as todo
-use Rattle.wbt_replay_order.specs.Definition.Order.{is_finished}
-use Rattle.wbt_replay_order.specs.Kept.Facts.{Facts, IsPageOf}
-use Rattle.wbt_replay_order.specs.Kept.Waiting.{is_mark_of, is_end, is_hand_over, owes_mark, IsStillOpen, AreBefore, IsPlaced, Waiting}
-use Rattle.wbt_replay_order.specs.Kept.Waiting.IsTakeable.{queued, taken}
-use Rattle.wbt_replay_order.specs.Kept.Waiting.IsAwaited.{takeable, scanned, owed}
 use Rattle.wbt_replay_order.proofs.Facts.Lists.{either}
 use Rattle.wbt_replay_order.proofs.Lists.Todos.{same_alike}
 use Rattle.wbt_replay_ends.proofs.Waiting.Moved.{lists_stay, ours_stay, empties_stay, moved_waits}

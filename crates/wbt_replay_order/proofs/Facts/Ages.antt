@@ -1,13 +1,9 @@
 -- An idle turn of a flusher of an ageing device, one change after another: what each of them keeps is kept by all.
 use Rattle.std.proofs.Common.{◌≡◌, ℕ, zero, suc, ◌+◌, ◌≤◌, Bool, true, false, leb, List, [], ◌∷◌, refl, arith}
 use Rattle.std.proofs.lemmas.Bool.Decides.{nat_tests}
-use Rattle.wbt_expiry.specs.Waiting.{has_inode}
+use Rattle.wbt_replay_order.proofs.Common.{has_inode, flusher_device, FLUSHER_REST, Trace, rest_until, take_first, tell, note, notice_all, noticed, State, waiting_of, queue_of, with_queue}
 use Rattle.wbt_expiry.specs.declared.due.Due.{Due}
-use Rattle.wbt_rules.specs.Things.{flusher_device}
-use Rattle.wbt_rules.specs.declared.moments.TheConstants.{FLUSHER_REST}
-use Rattle.wbt_trace.specs.declared.trace.Trace.{Trace}
-use Rattle.wbt_replay_moves.specs.Definition.Idle.{rest_until, take_due, take_first, tell, note, notice_from, notice_all, noticed, take_aged, age_so}
-use Rattle.wbt_replay_moves.specs.Definition.State.{State, waiting_of, queue_of, with_queue}
+use Rattle.wbt_replay_moves.specs.Definition.Idle.{take_due, notice_from, take_aged, age_so}
 use Rattle.wbt_replay_order.proofs.Facts.Lists.{either}
 
 up_to : (a b : ℕ) → leb a b ≡ true → a ≤ b

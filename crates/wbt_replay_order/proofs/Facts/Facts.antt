@@ -2,24 +2,15 @@
 use Rattle.std.proofs.Common.{◌≡◌, ℕ, suc, ◌<◌, Bool, true, false, ◌||◌, eqb, List, [], ◌∷◌, length, get_or, refl, sym, subst, arith, eqb-true, ⊎_elim, None, Option, Some, IfSome, unwrap_or, ◌*◌, ◌≤◌}
 use Rattle.std.proofs.lemmas.Bool.{cases_lt}
 use Rattle.std.proofs.lemmas.List.{get_or_past}
-use Rattle.wbt_trace.specs.Lawful.{IsLawful, IsChunk, IsContext, IsFirstEstimate, IsInode, IsExpire, IsPace}
+use Rattle.wbt_replay_order.proofs.Common.{IsLawful, IsPace, Device, FlusherLine, TaskLine, Trace, pace_of, inode_of, context_of, context_at, device_at, tasks_from, inode_with, writers_in, Facts, IsPageOf, expire_ticks}
+use Rattle.wbt_trace.specs.Lawful.{IsChunk, IsContext, IsFirstEstimate, IsInode, IsExpire}
 use Rattle.wbt_trace.specs.Lawful.{has_flusher}
 use Rattle.wbt_trace.specs.declared.trace.Cgroup.{Cgroup}
 use Rattle.wbt_trace.specs.declared.trace.Context.{Context}
-use Rattle.wbt_trace.specs.declared.trace.Device.{Device}
-use Rattle.wbt_trace.specs.declared.trace.FlusherLine.{FlusherLine}
-use Rattle.wbt_trace.specs.declared.trace.TaskLine.{TaskLine}
-use Rattle.wbt_trace.specs.declared.trace.Trace.{Trace}
-use Rattle.wbt_rules.specs.Pace.{pace_of}
-use Rattle.wbt_rules.specs.Things.{inode_of, context_of, context_at, device_at}
-use Rattle.wbt_replay_order.specs.Definition.Opening.{tasks_from}
-use Rattle.wbt_replay_order.specs.Claims.Setting.{inode_with, writers_in}
-use Rattle.wbt_replay_order.specs.Kept.Facts.{Facts, IsPageOf}
 use Rattle.wbt_replay_order.proofs.Facts.Inodes.{no_inode, before_ends, found_in}
 use Rattle.wbt_replay_order.proofs.Facts.Jobs.{no_line, jobs_are_jobs, few_jobs_with, has_flusher_job, one_job}
 use Rattle.wbt_replay_order.proofs.Facts.Pairs.{has_place}
 use Rattle.wbt_replay_order.proofs.Facts.Tasks.{no_task, tasks_of_cpu, few_tasks_from}
-use Rattle.wbt_rules.specs.Age.{expire_ticks}
 use Rattle.wbt_expiry.specs.Kept.{reach}
 
 abbrev no_context : Context

@@ -2,9 +2,7 @@
 use Rattle.std.proofs.Common.{◌≡◌, ℕ, zero, suc, ◌+◌, ◌<◌, ◌≤◌, ltb, List, [], ◌∷◌, length, get_or, arith}
 use Rattle.std.proofs.lemmas.Bool.Decides.{nat_tests}
 use Rattle.std.proofs.lemmas.List.Sums.{sum_by-cons}
-use Rattle.wbt_trace.specs.Lawful.{AreFirsts}
-use Rattle.wbt_trace.specs.Sofar.{pages_in}
-use Rattle.wbt_trace.specs.declared.trace.Inode.{Inode}
+use Rattle.wbt_replay_order.proofs.Common.{AreFirsts, pages_in, Inode}
 use Rattle.wbt_replay_order.specs.Claims.Setting.{inode_from}
 use Rattle.wbt_replay_order.proofs.Facts.Lists.{either}
 

@@ -3,12 +3,9 @@ use Rattle.std.proofs.Common.{◌≡◌, ℕ, zero, suc, ◌+◌, ◌<◌, ◌�
 use Rattle.std.proofs.lemmas.List.{get_or_append_left, get_or_push}
 use Rattle.std.proofs.lemmas.List.Sums.{sum_by_push}
 use Rattle.std.proofs.lemmas.List.Elements.{All-nil, All-cons}
-use Rattle.wbt_trace.specs.declared.trace.FlusherLine.{FlusherLine}
-use Rattle.wbt_trace.specs.declared.trace.Trace.{Trace}
-use Rattle.wbt_replay_order.specs.Definition.Opening.{flushers_from, jobs_with, tasks_from}
-use Rattle.wbt_replay_order.specs.Kept.Facts.{IsJobOn, IsFlusherOn, is_job_of}
-use Rattle.wbt_rules.specs.Things.{flusher_cpu}
-use Rattle.wbt_replay_moves.specs.declared.state.ReplayJob.{ReplayJob}
+use Rattle.wbt_replay_order.proofs.Common.{FlusherLine, Trace, tasks_from, IsJobOn, IsFlusherOn, flusher_cpu, ReplayJob}
+use Rattle.wbt_replay_order.specs.Definition.Opening.{flushers_from, jobs_with}
+use Rattle.wbt_replay_order.specs.Kept.Facts.{is_job_of}
 use Rattle.wbt_replay_moves.specs.declared.state.ReplayJob.TheVariants as job
 use Rattle.wbt_replay_order.proofs.Facts.Lists.{all_push, either, one_when, none_when}
 

@@ -3,9 +3,7 @@ use Rattle.std.proofs.Common.{◌≡◌, Bool, true, false, ◌||◌, ◌&&◌, 
 use Rattle.std.proofs.lemmas.Bool.{and_parts}
 use Rattle.std.proofs.lemmas.Bool.Decides.{nat_tests}
 use Rattle.wbt_journal.specs.declared.journal.Ending.TheVariants as ending
-use Rattle.wbt_replay_moves.specs.Definition.State.{State}
-use Rattle.wbt_replay_order.specs.Definition.Order.{is_ended}
-use Rattle.wbt_replay_order.specs.Definition.Run.{ending_of}
+use Rattle.wbt_replay_order.proofs.Common.{State, is_ended, ending_of}
 
 -- a run that is told as done isn't cut off
 pub not_cut : (s : State) → ending_of s ≡ ending.Done → (s.spent ≡ false) × (s.stopped ≡ 0)

@@ -1,10 +1,8 @@
 -- When a task rests for its pace, and for how long.
 use Rattle.std.proofs.Common.{◌≡◌, ℕ, ◌+◌, ◌<◌, ◌≤◌, Bool, true, false, cond, eqb, leb, Option, None, Some, IfSome, refl, arith}
 use Rattle.std.proofs.lemmas.Bool.Decides.{nat_tests}
-use Rattle.wbt_trace.specs.Lawful.{IsPace}
-use Rattle.wbt_trace.specs.declared.ranges.TheConstants.{MOST_COUNT}
-use Rattle.wbt_trace.specs.declared.trace.Pace.{Pace}
-use Rattle.wbt_rules.specs.Pace.{pause_of, since_after}
+use Rattle.wbt_replay_order.proofs.Common.{IsPace, MOST_COUNT, Pace, pause_of}
+use Rattle.wbt_rules.specs.Pace.{since_after}
 use Rattle.wbt_replay_order.specs.Kept.Horizon.{pause_ticks}
 use Rattle.wbt_replay_order.specs.Kept.Sound.{SinceFits}
 

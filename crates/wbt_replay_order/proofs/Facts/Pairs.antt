@@ -2,12 +2,9 @@
 use Rattle.std.proofs.Common.{◌≡◌, ℕ, suc, ◌<◌, Bool, true, false, ◌&&◌, ◌||◌, eqb, List, [], ◌∷◌, ◌++◌, length, get_or, All, refl, ◌∙◌, ap, arith, eq-eqb, eqb-true}
 use Rattle.std.proofs.lemmas.Bool.{and_parts}
 use Rattle.std.proofs.lemmas.List.Elements.{All-nil, All-cons, All-head, All-tail}
-use Rattle.wbt_trace.specs.Lawful.{IsAction, writers_after}
+use Rattle.wbt_replay_order.proofs.Common.{IsAction, writers_after, is_writer, Action, Write, Rest, Inode}
 use Rattle.wbt_trace.specs.Sofar.{inode_at}
-use Rattle.wbt_trace.specs.WriterList.{is_writer, with_writer}
-use Rattle.wbt_trace.specs.declared.trace.Action.{Action}
-use Rattle.wbt_trace.specs.declared.trace.Action.TheVariants.{Write, Rest}
-use Rattle.wbt_trace.specs.declared.trace.Inode.{Inode}
+use Rattle.wbt_trace.specs.WriterList.{with_writer}
 use Rattle.wbt_trace.specs.declared.writers.Writer.{Writer}
 use Rattle.wbt_replay_order.proofs.Facts.Lists.{all_push, either}
 

@@ -7,22 +7,14 @@ use Rattle.std.proofs.lemmas.List.Elements.{All-head, All-tail}
 use Rattle.std.proofs.lemmas.List.{get_or-set_same, get_or-set_other, get_or_default, length-set, take_more}
 use mathlib.Core.Logic.{dite}
 use native.Mathlib.Decide.{ℕ_discrete}
-use Rattle.wbt_num.specs.declared.limits.TheConstants.{MAX_LIMIT}
+use Rattle.wbt_replay_order.proofs.Common.{MAX_LIMIT, context_at, device_at, Trace, at_least_zero, CheckEntry, DomainLine, no_cpu, Cpu, part_used, Facts, ChecksFit}
 use Rattle.wbt_rules.proofs.Parts.{part_is_within}
-use Rattle.wbt_rules.specs.Things.{context_at, device_at}
 use Rattle.wbt_trace.specs.Sofar.{least_shares}
-use Rattle.wbt_trace.specs.declared.trace.Trace.{Trace}
-use Rattle.wbt_counter.specs.History.{at_least_zero}
 use Rattle.wbt_strict.specs.Decision.{greatest_part}
 use Rattle.wbt_journal.specs.Checks.{domain_read, cgroup_read, reads_by}
-use Rattle.wbt_journal.specs.declared.entry.CheckEntry.{CheckEntry}
-use Rattle.wbt_journal.specs.declared.entry.DomainLine.{DomainLine}
-use Rattle.wbt_replay_moves.specs.Definition.State.{no_cpu}
 use Rattle.wbt_replay_moves.specs.Kept.Fit.{IsLine}
-use Rattle.wbt_replay_moves.specs.declared.state.Cpu.{Cpu}
-use Rattle.wbt_replay_order.specs.Definition.Strict.{part_in, part_among, part_used}
-use Rattle.wbt_replay_order.specs.Kept.Facts.{Facts}
-use Rattle.wbt_replay_order.specs.Kept.Strict.{AreParts, CheckFits, ChecksFit, WithChecks}
+use Rattle.wbt_replay_order.specs.Definition.Strict.{part_in, part_among}
+use Rattle.wbt_replay_order.specs.Kept.Strict.{AreParts, CheckFits, WithChecks}
 
 -- ---- one check more at the end
 

@@ -4,12 +4,7 @@ use Rattle.std.proofs.lemmas.List.Elements.{All-nil}
 use Rattle.wbt_num.specs.Limits as numbers
 use Rattle.wbt_limits.proofs.Rising.{sequence_in-word, limits_in-words}
 use Rattle.wbt_rules.proofs.Firsts.{first_lawful}
-use Rattle.wbt_trace.specs.Lawful.{IsLawful}
-use Rattle.wbt_trace.specs.declared.trace.Trace.{Trace}
-use Rattle.wbt_book.proofs.PageWords.{word_holds_page}
-use Rattle.wbt_grant.specs.Setting.{IsSetting}
-use Rattle.wbt_replay_order.specs.Definition.Opening.{opening_moment, first_limits}
-use Rattle.wbt_replay_order.specs.Claims.Setting.{inode_with, writers_in, writer_at, setting_of}
+use Rattle.wbt_replay_order.proofs.Common.{IsLawful, Trace, word_holds_page, IsSetting, opening_moment, first_limits, inode_with, writers_in, writer_at, setting_of}
 use Rattle.wbt_replay_order.proofs.Facts.Facts.{facts}
 use Rattle.wbt_replay_order.proofs.Facts.Inodes.{no_inode, found_there}
 use Rattle.wbt_replay_order.proofs.Facts.Pairs.{IsPair, no_writer, pairs_of_writers}

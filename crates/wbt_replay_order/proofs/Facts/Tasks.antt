@@ -1,11 +1,7 @@
 -- The tasks of the CPUs at the opening.
 use Rattle.std.proofs.Common.{◌≡◌, ℕ, zero, suc, ◌+◌, ◌<◌, ◌≤◌, Bool, true, false, cond, eqb, List, [], ◌∷◌, ◌++◌, length, get_or, All, ◌∙◌, ap, subst, arith, eq-eqb, eqb-true, length-append, None}
 use Rattle.std.proofs.lemmas.List.Elements.{All-nil}
-use Rattle.wbt_trace.specs.declared.trace.TaskLine.{TaskLine}
-use Rattle.wbt_trace.specs.declared.trace.Trace.{Trace}
-use Rattle.wbt_replay_order.specs.Definition.Opening.{tasks_from}
-use Rattle.wbt_replay_order.specs.Definition.Tasks.{task_cpu}
-use Rattle.wbt_replay_order.specs.Kept.Facts.{IsTaskOn}
+use Rattle.wbt_replay_order.proofs.Common.{TaskLine, Trace, tasks_from, task_cpu, IsTaskOn}
 use Rattle.wbt_replay_order.proofs.Facts.Lists.{all_push, either}
 
 abbrev pub no_task : TaskLine

@@ -2,17 +2,10 @@
 use Rattle.std.proofs.Common.{ℕ, ◌^◌, ◌<◌, ◌≤◌, List, length, arith, Option, None, Some}
 use Rattle.std.specs.List.{sum_by}
 use Rattle.std.proofs.lemmas.List.Elements.{All-weaker}
-use Rattle.wbt_trace.specs.declared.trace.Trace.{Trace}
-use Rattle.wbt_replay_moves.specs.Definition.State.{State, cpu_of, flusher_of, domain_of, writeback_of, no_context, queue_of}
-use Rattle.wbt_rules.specs.Things.{context_of, context_at, group_of, end_of, flusher_device}
-use Rattle.wbt_replay_moves.specs.Kept.Fit.{IsCpus, HasInode, HasContext, HasFlusher, IsPart, TurnFits, ReadFits, HoldsLimits, EstimateFits, TakenFits, ScanningFits, FlyingFits, TestFits, QueueFits, NoticeFits}
-use Rattle.wbt_replay_moves.specs.declared.state.Cpu.{Cpu}
-use Rattle.wbt_replay_moves.specs.declared.state.ReplayPhase.{ReplayPhase}
+use Rattle.wbt_replay_order.proofs.Common.{Trace, State, cpu_of, flusher_of, domain_of, writeback_of, no_context, queue_of, context_of, context_at, group_of, flusher_device, ReadFits, FlyingFits, Cpu, ReplayPhase, ReplayTurn, Facts, IsPageOf, latest, Sound, IsAt, IsTurn, written_of, AreQueued, WheelFits}
+use Rattle.wbt_rules.specs.Things.{end_of}
+use Rattle.wbt_replay_moves.specs.Kept.Fit.{IsCpus, HasInode, HasContext, HasFlusher, IsPart, TurnFits, HoldsLimits, EstimateFits, TakenFits, ScanningFits, TestFits, QueueFits, NoticeFits}
 use Rattle.wbt_replay_moves.specs.declared.state.ReplayPhase.TheVariants as phase
-use Rattle.wbt_replay_moves.specs.declared.state.ReplayTurn.{ReplayTurn}
-use Rattle.wbt_replay_order.specs.Kept.Facts.{Facts, IsPageOf}
-use Rattle.wbt_replay_order.specs.Kept.Horizon.{latest}
-use Rattle.wbt_replay_order.specs.Kept.Sound.{Sound, IsAt, IsTurn, written_of, AreQueued, WheelFits}
 use Rattle.wbt_replay_order.proofs.Lists.Numbered.{sum_part}
 use Rattle.wbt_expiry.specs.Waiting.{Waiting as Wheel}
 

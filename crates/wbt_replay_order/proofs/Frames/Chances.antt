@@ -2,31 +2,16 @@
 use Rattle.std.proofs.Common.{◌≡◌, ℕ, zero, suc, ◌+◌, ◌<◌, ◌≤◌, Bool, true, false, not, ◌&&◌, cond, ltb, leb, ℤ, List, [], ◌∷◌, length, get_or, Option, refl, sym, subst, arith, ⊎_elim}
 use Rattle.std.proofs.lemmas.Bool.{cases_lt}
 use Rattle.std.proofs.lemmas.Bool.Decides.{nat_tests}
-use Rattle.wbt_trace.specs.declared.trace.Trace.{Trace}
-use Rattle.wbt_counter.specs.declared.counter.Counter.{Counter}
-use Rattle.wbt_grant.specs.Setting.{Setting}
+use Rattle.wbt_replay_order.proofs.Common.{Trace, Counter, Setting, CpuRecord, State, cpu_of, with_cpu, task_of, is_drained, Actor, Cpu, Flusher, ReplayJob, ReplayTask, Stretch, TimerTodo, Todo, after, todo_ahead, timer_todo_ahead, cpu_ahead, timer_ahead, ahead_of, is_task_ready, task_turn, job_turn, job_at, is_nothing, seek_job, cpu_turn, timer_turn, turn_at, chance_by, chance_of, Suits, FollowsCpu, Follows, Ranges}
 use Rattle.wbt_grant.specs.State as throttle
-use Rattle.wbt_grant.specs.declared.record.CpuRecord.{CpuRecord}
-use Rattle.wbt_replay_moves.specs.Definition.State.{State, cpu_of, with_cpu, task_of, is_drained}
-use Rattle.wbt_replay_moves.specs.declared.state.Actor.{Actor}
 use Rattle.wbt_replay_moves.specs.declared.state.Actor.TheVariants as who
-use Rattle.wbt_replay_moves.specs.declared.state.Cpu.{Cpu}
-use Rattle.wbt_replay_moves.specs.declared.state.Flusher.{Flusher}
-use Rattle.wbt_replay_moves.specs.declared.state.ReplayJob.{ReplayJob}
 use Rattle.wbt_replay_moves.specs.declared.state.ReplayJob.TheVariants as job
-use Rattle.wbt_replay_moves.specs.declared.state.ReplayTask.{ReplayTask}
-use Rattle.wbt_replay_moves.specs.declared.state.Stretch.{Stretch}
-use Rattle.wbt_replay_moves.specs.declared.todo.TimerTodo.{TimerTodo}
 use Rattle.wbt_replay_moves.specs.declared.todo.TimerTodo.TheVariants as timer_todo
-use Rattle.wbt_replay_moves.specs.declared.todo.Todo.{Todo}
 use Rattle.wbt_replay_moves.specs.declared.todo.Todo.TheVariants as todo
 use Rattle.wbt_replay_order.specs.declared.chance.Ahead.{Ahead}
 use Rattle.wbt_replay_order.specs.declared.chance.Ahead.TheVariants as ahead
 use Rattle.wbt_replay_order.specs.declared.chance.Chance.{Chance}
 use Rattle.wbt_replay_order.specs.declared.chance.Chance.TheVariants as chance
-use Rattle.wbt_replay_order.specs.Definition.Order.{after, todo_ahead, timer_todo_ahead, cpu_ahead, timer_ahead, ahead_of, is_task_ready, task_turn, job_turn, job_at, is_nothing, seek_job, cpu_turn, timer_turn, turn_at, chance_by, chance_of}
-use Rattle.wbt_replay_order.specs.Kept.Following.{Suits, FollowsCpu, Follows}
-use Rattle.wbt_replay_order.specs.Kept.Ranges.{Ranges}
 use Rattle.wbt_replay_order.proofs.Facts.Actors.{past_turn}
 use Rattle.wbt_replay_order.proofs.Facts.Lists.{either}
 use Rattle.wbt_replay_order.proofs.Frames.Quiet.{same_shared, plainly, all_same}

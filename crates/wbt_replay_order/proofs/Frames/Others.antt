@@ -6,37 +6,12 @@ use Rattle.std.proofs.lemmas.List.{get_or-set_same, get_or-set_other}
 use Rattle.std.specs.List.{list_any}
 use mathlib.Core.Logic.{dite}
 use native.Mathlib.Decide.{ℕ_discrete}
-use Rattle.wbt_trace.specs.declared.trace.Trace.{Trace}
-use Rattle.wbt_trace.specs.WriterList.{is_writer}
-use Rattle.wbt_counter.specs.declared.counter.Counter.{Counter}
-use Rattle.wbt_counter.specs.History.{sum_of}
+use Rattle.wbt_replay_order.proofs.Common.{Trace, is_writer, Counter, sum_of, total_same, times_in, Setting, CpuRecord, TimerRecord, domains, State, no_cpu, no_task, no_flusher, cpu_of, with_cpu, domain_of, writer_in, writer_of, flusher_cpu, Cpu, Flusher, ReplayTask, Timer, Whose, Todo, is_decide, writers_in, writer_at, task_cpu, Suits, Looked, InCheck, ScansInside, batch_on, batched, count_in, FollowsCpu, Follows, IsTurnOf, Found, sequence_of, stage_of, heights_of}
 use Rattle.wbt_counter.specs.Sums as sums
-use Rattle.wbt_counter.proofs.Sums.{total_same}
-use Rattle.wbt_book.specs.Ledger.{times_in}
-use Rattle.wbt_grant.specs.Setting.{Setting}
 use Rattle.wbt_grant.specs.State as throttle
-use Rattle.wbt_grant.specs.declared.record.CpuRecord.{CpuRecord}
-use Rattle.wbt_grant.specs.declared.record.TimerRecord.{TimerRecord}
-use Rattle.wbt_journal.specs.Machine.{domains}
-use Rattle.wbt_replay_moves.specs.Definition.State.{State, no_cpu, no_task, no_flusher, cpu_of, with_cpu, domain_of}
-use Rattle.wbt_replay_moves.specs.Definition.Check.{writer_in, writer_of}
-use Rattle.wbt_rules.specs.Things.{flusher_cpu}
-use Rattle.wbt_replay_moves.specs.declared.state.Cpu.{Cpu}
-use Rattle.wbt_replay_moves.specs.declared.state.Flusher.{Flusher}
-use Rattle.wbt_replay_moves.specs.declared.state.ReplayTask.{ReplayTask}
-use Rattle.wbt_replay_moves.specs.declared.state.Timer.{Timer}
-use Rattle.wbt_replay_moves.specs.declared.state.Whose.{Whose}
 use Rattle.wbt_replay_moves.specs.declared.state.Whose.TheVariants as whose
-use Rattle.wbt_replay_moves.specs.declared.todo.Todo.{Todo}
-use Rattle.wbt_replay_order.specs.Claims.Path.{is_decide, LinesArePublished}
-use Rattle.wbt_replay_order.specs.Claims.Setting.{writers_in, writer_at}
-use Rattle.wbt_replay_order.specs.Definition.Tasks.{task_cpu}
-use Rattle.wbt_replay_order.specs.Kept.Following.{Suits, Looked, InCheck, ScansInside, page_in, page_of, batch_on, batched, count_in, FollowsCpu, RaisesFirst, HasRaised, Follows}
-use Rattle.wbt_replay_order.specs.Kept.Ranges.{IsTurnOf}
-use Rattle.wbt_replay_moves.specs.declared.state.Found.{Found}
-use Rattle.wbt_grant.specs.State.{sequence_of}
-use Rattle.wbt_grant.specs.State.{stage_of}
-use Rattle.wbt_replay_order.specs.Kept.Following.{heights_of}
+use Rattle.wbt_replay_order.specs.Claims.Path.{LinesArePublished}
+use Rattle.wbt_replay_order.specs.Kept.Following.{page_in, page_of, RaisesFirst, HasRaised}
 use Rattle.wbt_replay_order.specs.Kept.Following.{stage_in}
 
 -- a CPU whose next item was taken from its list: a silent move, and a step

@@ -6,46 +6,17 @@ use Rattle.std.proofs.lemmas.List.{get_or-set_same, get_or-set_other}
 use Rattle.std.specs.List.{list_any}
 use mathlib.Core.Logic.{dite}
 use native.Mathlib.Decide.{ℕ_discrete}
-use Rattle.wbt_trace.specs.declared.trace.Trace.{Trace}
-use Rattle.wbt_trace.specs.WriterList.{is_writer}
-use Rattle.wbt_counter.specs.declared.counter.Count.{Count}
-use Rattle.wbt_counter.specs.declared.counter.Counter.{Counter}
-use Rattle.wbt_counter.specs.declared.record.Fold.{Fold}
-use Rattle.wbt_counter.specs.History.{History, sum_of}
+use Rattle.wbt_replay_order.proofs.Common.{Trace, is_writer, Count, Counter, Fold, sum_of, Book, Limits, Setting, CpuRecord, TimerRecord, writer_in, writer_of, State, no_task, no_flusher, no_domain, cpu_of, domain_of, Cpu, Domain, Flusher, ReplayTask, Timer, Writeback, Todo, new_writer, Writer, events_told, folds_told, founds_told, readings_told, AreAmong, is_decide, writers_in, writer_at, IsTaskOn, IsFlusherOn, Suits, Tidy, Looked, AreLoads, InCheck, debts_in, resumes, is_closing, ScansInside, batched, own_in, count_in, FollowsCpu, Follows, Moves, silently, Found, Held, sequence_of, heights_of, HasTriples, CheckEntry}
+use Rattle.wbt_counter.specs.History.{History}
 use Rattle.wbt_counter.specs.Sums as sums
-use Rattle.wbt_book.specs.Book.{Book}
-use Rattle.wbt_num.specs.declared.limits.Limits.{Limits}
-use Rattle.wbt_grant.specs.Setting.{Setting}
 use Rattle.wbt_grant.specs.State as throttle
 use Rattle.wbt_grant.specs.State.{writer_in as record_of}
-use Rattle.wbt_grant.specs.declared.record.CpuRecord.{CpuRecord}
-use Rattle.wbt_grant.specs.declared.record.TimerRecord.{TimerRecord}
-use Rattle.wbt_replay_moves.specs.Definition.Check.{writer_in, writer_of}
-use Rattle.wbt_replay_moves.specs.Definition.State.{State, no_task, no_flusher, no_domain, cpu_of, domain_of}
-use Rattle.wbt_replay_moves.specs.declared.state.Cpu.{Cpu}
-use Rattle.wbt_replay_moves.specs.declared.state.Domain.{Domain}
-use Rattle.wbt_replay_moves.specs.declared.state.Flusher.{Flusher}
-use Rattle.wbt_replay_moves.specs.declared.state.ReplayTask.{ReplayTask}
-use Rattle.wbt_replay_moves.specs.declared.state.Timer.{Timer}
-use Rattle.wbt_replay_moves.specs.declared.state.Writeback.{Writeback}
 use Rattle.wbt_replay_moves.specs.declared.state.Whose.TheVariants as whose
 use Rattle.wbt_replay_moves.specs.declared.todo.Step.TheVariants as item
-use Rattle.wbt_replay_moves.specs.declared.todo.Todo.{Todo}
 use Rattle.wbt_replay_moves.specs.declared.todo.Todo.TheVariants as todo
-use Rattle.wbt_task.specs.History.{new_writer}
 use Rattle.wbt_task.specs.declared.allowance.Due.TheVariants as due
-use Rattle.wbt_task.specs.declared.history.Writer.{Writer}
-use Rattle.wbt_replay_order.specs.Claims.Path.{events_told, folds_told, founds_told, readings_told, AreAmong, is_decide}
-use Rattle.wbt_replay_order.specs.Claims.Setting.{writers_in, writer_at}
-use Rattle.wbt_replay_order.specs.Kept.Facts.{IsTaskOn, IsFlusherOn}
-use Rattle.wbt_replay_order.specs.Kept.Following.{Suits, Tidy, Looked, AreLoads, InCheck, debts_in, resumes, is_closing, ScansInside, page_of, batched, own_in, count_in, FollowsCpu, Follows, Moves, silently}
+use Rattle.wbt_replay_order.specs.Kept.Following.{page_of}
 use Rattle.wbt_replay_order.proofs.Frames.Others.{IsTurnOn, SameOn, one_cpu, popped, stepping}
-use Rattle.wbt_replay_moves.specs.declared.state.Found.{Found}
-use Rattle.wbt_replay_moves.specs.declared.state.Held.{Held}
-use Rattle.wbt_grant.specs.State.{sequence_of}
-use Rattle.wbt_replay_order.specs.Kept.Following.{heights_of}
-use Rattle.wbt_replay_order.specs.Claims.Path.{HasTriples}
-use Rattle.wbt_journal.specs.declared.entry.CheckEntry.{CheckEntry}
 
 -- ---- what is shared stays
 

@@ -4,18 +4,9 @@ use Rattle.std.proofs.lemmas.Bool.{and_parts, cases_lt}
 use Rattle.std.proofs.lemmas.Bool.Decides.{nat_tests}
 use Rattle.std.proofs.lemmas.List.{get_or_past}
 use Rattle.std.proofs.lemmas.List.Sums.{AllPass-from_list_all}
-use Rattle.wbt_num.specs.declared.most.TheConstants.{MOST_STEPS}
-use Rattle.wbt_counter.specs.declared.counter.Count.{Count}
-use Rattle.wbt_trace.specs.declared.trace.Trace.{Trace}
-use Rattle.wbt_replay_moves.specs.Definition.Forget.{extended}
-use Rattle.wbt_replay_moves.specs.Definition.State.{State, no_context, no_domain, no_flusher, no_task, domain_of, writeback_of}
-use Rattle.wbt_replay_moves.specs.declared.state.Domain.{Domain}
-use Rattle.wbt_replay_moves.specs.declared.state.Flusher.{Flusher}
-use Rattle.wbt_replay_moves.specs.declared.state.ReplayTask.{ReplayTask}
-use Rattle.wbt_replay_moves.specs.declared.state.Writeback.{Writeback}
-use Rattle.wbt_replay_order.specs.Kept.Further.{after_rests, after_waits, counts_fit, fits_further, latest_moment, left_further, moments_fit, takes_folds}
-use Rattle.wbt_replay_order.specs.Kept.Horizon.{MomentsAreWithin, latest, most_ever, reserve, step_ticks, until_of}
-use Rattle.wbt_replay_order.specs.Kept.Sound.{Sound, Holds, HasRoom, IsCount, IsDomain, IsContext, most_counted}
+use Rattle.wbt_replay_order.proofs.Common.{MOST_STEPS, Count, Trace, extended, State, no_context, no_domain, no_flusher, no_task, domain_of, writeback_of, Domain, Flusher, ReplayTask, Writeback, after_rests, after_waits, fits_further, latest_moment, latest, most_ever, reserve, step_ticks, until_of, Sound, Holds, HasRoom, IsCount, IsDomain, IsContext, most_counted}
+use Rattle.wbt_replay_order.specs.Kept.Further.{counts_fit, left_further, moments_fit, takes_folds}
+use Rattle.wbt_replay_order.specs.Kept.Horizon.{MomentsAreWithin}
 
 -- ---- the latest moment
 

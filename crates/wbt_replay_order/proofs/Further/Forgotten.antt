@@ -3,19 +3,9 @@ use Rattle.std.proofs.Common.{◌≡◌, ℕ, zero, suc, ◌<◌, ◌≤◌, fal
 use Rattle.std.specs.List.{sum_by, count_by}
 use Rattle.std.proofs.lemmas.List.{length-map, length-replicate}
 use Rattle.std.proofs.lemmas.List.Sums.{sum_by-cons}
-use Rattle.wbt_counter.specs.declared.counter.Counter.{Counter}
-use Rattle.wbt_counter.specs.declared.counter.Counter.TheVariants.{Domain, Context}
-use Rattle.wbt_journal.specs.Machine.{batch_of}
-use Rattle.wbt_journal.specs.declared.step.StepEntry.{StepEntry}
-use Rattle.wbt_trace.specs.declared.trace.Trace.{Trace}
-use Rattle.wbt_replay_moves.specs.Definition.Cpu.{own_of}
-use Rattle.wbt_replay_moves.specs.Definition.Forget.{bare, forgotten}
-use Rattle.wbt_replay_moves.specs.Definition.State.{State, no_cpu, no_step, cpu_of}
-use Rattle.wbt_replay_moves.specs.declared.state.Cpu.{Cpu}
-use Rattle.wbt_replay_order.specs.Kept.Horizon.{credit_of}
-use Rattle.wbt_replay_order.specs.Kept.Sound.{Sound, Holds, HasRoom, IsRoom, IsClosed, AreDomains, AreContexts, AreWritten}
-use Rattle.wbt_replay_order.specs.Kept.Sound.{AreTasks, AreDirtied, AreCpus, IsCpu, IsAgreed, leaks_of, working_on, is_stopped}
-use Rattle.wbt_replay_order.specs.Kept.Turns.{settles_next}
+use Rattle.wbt_replay_order.proofs.Common.{Counter, Context, batch_of, StepEntry, Trace, own_of, forgotten, State, no_cpu, no_step, cpu_of, Cpu, credit_of, Sound, Holds, HasRoom, IsRoom, IsClosed, AreDomains, AreContexts, AreWritten, AreTasks, AreDirtied, AreCpus, IsCpu, IsAgreed, leaks_of, working_on, is_stopped, settles_next}
+use Rattle.wbt_counter.specs.declared.counter.Counter.TheVariants.{Domain}
+use Rattle.wbt_replay_moves.specs.Definition.Forget.{bare}
 use Rattle.wbt_replay_order.proofs.Lists.Numbered.{count_cons}
 
 -- ---- a CPU without its part of the journal

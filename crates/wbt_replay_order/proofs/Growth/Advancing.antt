@@ -2,45 +2,24 @@
 use Rattle.std.proofs.Common.{◌≡◌, ℕ, zero, suc, ◌+◌, ◌<◌, Bool, true, false, List, [], ◌∷◌, length, get_or, refl, sym, ◌∙◌, ap, subst, arith, ⊎_elim, Option, Some, None}
 use Rattle.std.proofs.lemmas.Bool.{cases_lt}
 use Rattle.std.proofs.lemmas.List.{get_or_past, length-set}
-use Rattle.wbt_trace.specs.declared.trace.Trace.{Trace}
-use Rattle.wbt_replay_moves.specs.Definition.Check.{decide_for, decide_by}
-use Rattle.wbt_replay_moves.specs.Definition.Estimates.{estimate}
-use Rattle.wbt_replay_moves.specs.Definition.Perform.{make_step, make_move, make_timer_step, make_timer_move, begin_turn}
-use Rattle.wbt_replay_moves.specs.Definition.State.{State, no_cpu, cpu_of, with_cpu, task_of}
-use Rattle.wbt_replay_moves.specs.Definition.Timer.{begin_timer, with_timer}
-use Rattle.wbt_replay_moves.specs.declared.state.Actor.{Actor}
+use Rattle.wbt_replay_order.proofs.Common.{Trace, decide_for, decide_by, estimate, make_step, make_move, make_timer_step, make_timer_move, begin_turn, State, no_cpu, cpu_of, with_cpu, task_of, begin_timer, with_timer, Actor, Cpu, Domain, ReplayJob, Stretch, ReplayTask, Whose, Writeback, Silent, Step, TimerSilent, TimerStep, TimerTodo, Todo, actor_at, after, ahead_of, turn_at, job_at, is_full, is_halted, is_nothing, spend, stop, cpu_on, timer_on, go_on, begin_job, begin, with_orders, begin_or_drop, follow, next_moment, at_moment, place_after, chance_of, take, take_turn, seek_turn, next_turn, finish_turn, rotate_from, tick, advance_by, advance, dirty, IsPlainMove}
 use Rattle.wbt_replay_moves.specs.declared.state.Actor.TheVariants as who
-use Rattle.wbt_replay_moves.specs.declared.state.Cpu.{Cpu}
-use Rattle.wbt_replay_moves.specs.declared.state.Domain.{Domain}
-use Rattle.wbt_replay_moves.specs.declared.state.ReplayJob.{ReplayJob}
 use Rattle.wbt_replay_moves.specs.declared.state.ReplayJob.TheVariants as job
-use Rattle.wbt_replay_moves.specs.declared.state.Stretch.{Stretch}
 use Rattle.wbt_replay_moves.specs.declared.state.Stretch.TheVariants as stretch
-use Rattle.wbt_replay_moves.specs.declared.state.ReplayTask.{ReplayTask}
-use Rattle.wbt_replay_moves.specs.declared.state.Whose.{Whose}
 use Rattle.wbt_replay_moves.specs.declared.state.Whose.TheVariants as whose
-use Rattle.wbt_replay_moves.specs.declared.state.Writeback.{Writeback}
-use Rattle.wbt_replay_moves.specs.declared.todo.Silent.{Silent}
 use Rattle.wbt_replay_moves.specs.declared.todo.Silent.TheVariants as silent
-use Rattle.wbt_replay_moves.specs.declared.todo.Step.{Step}
 use Rattle.wbt_replay_moves.specs.declared.todo.Step.TheVariants as step
-use Rattle.wbt_replay_moves.specs.declared.todo.TimerSilent.{TimerSilent}
-use Rattle.wbt_replay_moves.specs.declared.todo.TimerStep.{TimerStep}
-use Rattle.wbt_replay_moves.specs.declared.todo.TimerTodo.{TimerTodo}
 use Rattle.wbt_replay_moves.specs.declared.todo.TimerTodo.TheVariants as timer_todo
-use Rattle.wbt_replay_moves.specs.declared.todo.Todo.{Todo}
 use Rattle.wbt_replay_moves.specs.declared.todo.Todo.TheVariants as todo
-use Rattle.wbt_replay_order.specs.Definition.Order.{actor_at, after, ahead_of, turn_at, job_at, is_full, is_halted, is_nothing, spend, stop, cpu_on, timer_on, go_on, begin_job, begin, with_orders, begin_or_drop, follow, next_moment, at_moment, place_after, chance_of, take, take_turn, seek_turn, next_turn, finish_turn, rotate_from, tick, advance_by, advance}
 use Rattle.wbt_replay_order.specs.declared.chance.Ahead.{Ahead}
 use Rattle.wbt_replay_order.specs.declared.chance.Ahead.TheVariants as ahead
 use Rattle.wbt_replay_order.specs.declared.chance.Chance.{Chance}
 use Rattle.wbt_replay_order.specs.declared.chance.Chance.TheVariants as chance
 use Rattle.wbt_replay_order.proofs.Facts.Lists.{either}
 use Rattle.wbt_replay_order.proofs.Growth.Quiet.{HasNames, Quiet, still, same_at, quiet_cpu}
-use Rattle.wbt_replay_moves.specs.Definition.Writer.{dirty}
 use Rattle.wbt_replay_order.proofs.Written.Same.{told_by, Wrote, unwritten, wrote_cpu}
 use Rattle.wbt_replay_order.proofs.Growth.Calm.{calm_turn, calm_step, calm_move, quiet_dirty}
-use Rattle.wbt_replay_changes.specs.Plain.{IsPlainStep, IsPlainMove}
+use Rattle.wbt_replay_changes.specs.Plain.{IsPlainStep}
 
 -- the CPU's first item is taken
 abbrev popped : (cpu : ℕ) (rest : List Todo) (s : State) → State

@@ -2,20 +2,12 @@
 use Rattle.std.proofs.Common.{◌≡◌, ℕ, zero, suc, ◌+◌, ◌<◌, ◌≤◌, true, List, [], ◌∷◌, ◌++◌, length, map, flat_map, Option, Some, None, refl, sym, ◌∙◌, ap, subst, arith}
 use Rattle.std.specs.List.{slice_get, list_all}
 use Rattle.std.proofs.lemmas.List.{append-nil, map-append}
-use Rattle.wbt_counter.specs.Counters.{is_same}
-use Rattle.wbt_counter.specs.declared.counter.Counter.{Counter}
-use Rattle.wbt_counter.specs.declared.record.Fold.{Fold}
-use Rattle.wbt_journal.specs.Counts.{Load, Version, fold_in, loads_in, loads_of, versions_in, version_of_fold, versions_of, is_behind, is_fresh_count, CountsAreFresh, versions_after}
-use Rattle.wbt_journal.specs.Each.{Each}
-use Rattle.wbt_journal.specs.Effects.{effect, listed, of_part}
-use Rattle.wbt_journal.specs.Items.{tells}
-use Rattle.wbt_journal.specs.Told.{Told, InOrder, one_checked, one_estimated, told_entry}
-use Rattle.wbt_journal.specs.Walk.{Along, after}
-use Rattle.wbt_journal.specs.declared.entry.CheckEntry.{CheckEntry}
-use Rattle.wbt_journal.specs.declared.entry.Entry.{Entry}
+use Rattle.wbt_replay_order.proofs.Common.{is_same, Counter, Fold, Load, Version, fold_in, loads_in, loads_of, is_fresh_count, CountsAreFresh, versions_after, Each, effect, of_part, tells, Told, InOrder, one_checked, one_estimated, told_entry, Along, CheckEntry, Entry, EstEntry, flat_append, and_both}
+use Rattle.wbt_journal.specs.Counts.{versions_in, version_of_fold, versions_of, is_behind}
+use Rattle.wbt_journal.specs.Effects.{listed}
+use Rattle.wbt_journal.specs.Walk.{after}
 use Rattle.wbt_journal.specs.declared.entry.Entry.TheVariants as entry
-use Rattle.wbt_journal.specs.declared.entry.EstEntry.{EstEntry}
-use Rattle.wbt_run_laws.proofs.Lists.{flat_append, and_both, not_ahead, list_all_append}
+use Rattle.wbt_run_laws.proofs.Lists.{not_ahead, list_all_append}
 
 -- ---- the walk
 

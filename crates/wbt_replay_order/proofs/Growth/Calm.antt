@@ -1,46 +1,23 @@
 -- Plain changes leave the timer, the peaks, the checks and the estimates as they are, and write no page; and so does each move but a write,
 -- a check, an estimate and the timer's. A write leaves all but the pages as they are.
 use Rattle.std.proofs.Common.{◌≡◌, ℕ, zero, suc, true, false, eqb, ℤ, pos, ◌+ℤ◌, unsigned_abs, List, [], ◌∷◌, flat_map, refl, ap, sym}
-use Rattle.wbt_trace.specs.declared.trace.Trace.{Trace}
+use Rattle.wbt_replay_order.proofs.Common.{Trace, Counter, aged, Half, batch_of, Entry, page_of, context_of, group_of, counted, added, own_of, with_own, log_at, logged, then_do, owed_to, part_in, make_step, make_move, begin_turn, State, cpu_of, with_cpu, task_of, with_task, domain_of, with_domain, count_of, with_count, writeback_of, with_writeback, with_event, passed_page, count_page, dirty, dirty_by, dirty_next, dirty_page, dirty_fresh, Cpu, Domain, ReplayTask, ReplayWork, Whose, Writeback, Silent, Step, cpu_after, apply, Change, CpuChange, IsPlainMove, turn_keeps, move_keeps, uncounted, written_in}
 use Rattle.wbt_book.specs.declared.event.Event.TheVariants as event
-use Rattle.wbt_counter.specs.declared.counter.Counter.{Counter}
 use Rattle.wbt_counter.specs.declared.counter.Counter.TheVariants.{Domain as ofDomain, Context as ofContext}
-use Rattle.wbt_flex.specs.Proportions.{added as added_events, aged}
-use Rattle.wbt_flex.specs.declared.half.Half.{Half}
-use Rattle.wbt_journal.specs.Machine.{batch_of}
-use Rattle.wbt_journal.specs.declared.entry.Entry.{Entry}
+use Rattle.wbt_flex.specs.Proportions.{added as added_events}
 use Rattle.wbt_journal.specs.declared.entry.Entry.TheVariants as entry
-use Rattle.wbt_rules.specs.Places.{page_of}
-use Rattle.wbt_rules.specs.Things.{context_of, group_of}
-use Rattle.wbt_replay_moves.specs.Definition.Counters.{counted}
-use Rattle.wbt_replay_moves.specs.Definition.Cpu.{added, own_of, with_own, log_at, logged, then_do, owed_to}
-use Rattle.wbt_replay_moves.specs.Definition.Flight.{part_in, with_part}
-use Rattle.wbt_replay_moves.specs.Definition.Perform.{make_step, make_move, begin_turn}
-use Rattle.wbt_replay_moves.specs.Definition.State.{State, cpu_of, with_cpu, task_of, with_task, domain_of, with_domain, count_of, with_count, writeback_of, with_writeback, with_event}
-use Rattle.wbt_replay_moves.specs.Definition.Writer.{passed_page, count_page, dirty, dirty_by, dirty_next, dirty_page, dirty_fresh}
-use Rattle.wbt_replay_moves.specs.declared.state.Cpu.{Cpu}
-use Rattle.wbt_replay_moves.specs.declared.state.Domain.{Domain}
-use Rattle.wbt_replay_moves.specs.declared.state.ReplayTask.{ReplayTask}
-use Rattle.wbt_replay_moves.specs.declared.state.ReplayWork.{ReplayWork}
+use Rattle.wbt_replay_moves.specs.Definition.Flight.{with_part}
 use Rattle.wbt_replay_moves.specs.declared.state.ReplayWork.TheVariants as work
-use Rattle.wbt_replay_moves.specs.declared.state.Whose.{Whose}
 use Rattle.wbt_replay_moves.specs.declared.state.Whose.TheVariants as whose
-use Rattle.wbt_replay_moves.specs.declared.state.Writeback.{Writeback}
-use Rattle.wbt_replay_moves.specs.declared.todo.Silent.{Silent}
-use Rattle.wbt_replay_moves.specs.declared.todo.Step.{Step}
 use Rattle.wbt_replay_moves.specs.declared.todo.Step.TheVariants as step
 use Rattle.wbt_replay_moves.specs.declared.todo.Todo.TheVariants as todo
-use Rattle.wbt_replay_changes.specs.Apply.{cpu_after, apply}
-use Rattle.wbt_replay_changes.specs.Change.{Change}
 use Rattle.wbt_replay_changes.specs.Change as change
-use Rattle.wbt_replay_changes.specs.Change.Cpu.{CpuChange}
 use Rattle.wbt_replay_changes.specs.Change.Cpu as cpu_change
 use Rattle.wbt_replay_changes.specs.Change.Task.{TaskChange}
 use Rattle.wbt_replay_changes.specs.Change.Task as task_change
-use Rattle.wbt_replay_changes.specs.Plain.{IsPlain, IsPlainTask, IsPlainStep, IsPlainMove}
-use Rattle.wbt_replay_changes.proofs.Keeping.{turn_keeps, step_keeps, move_keeps}
-use Rattle.wbt_replay_changes.proofs.Plain.{plain, uncounted}
-use Rattle.wbt_replay_order.specs.Claims.Complete.{written_in}
+use Rattle.wbt_replay_changes.specs.Plain.{IsPlain, IsPlainTask, IsPlainStep}
+use Rattle.wbt_replay_changes.proofs.Keeping.{step_keeps}
+use Rattle.wbt_replay_changes.proofs.Plain.{plain}
 use Rattle.wbt_replay_order.proofs.Facts.Lists.{either}
 use Rattle.wbt_replay_order.proofs.Growth.Quiet.{HasNames, Quiet, still, then_still, is_name, log_names, quiet_cpu, quiet_domain, quiet_writeback}
 use Rattle.wbt_replay_order.proofs.Written.Same.{pages_of, told_by, Wrote, unwritten, then_unwritten, wrote_cpu, wrote_task, unlogged}

@@ -1,42 +1,17 @@
 -- A move makes one step at most.
 use Rattle.std.proofs.Common.{◌≡◌, ℕ, ◌⊎◌, inl, inr, Bool, true, cond, eqb, List, [], ◌∷◌, ◌++◌, get_or, refl, ◌∙◌, ap, Option, Some, None}
-use Rattle.wbt_trace.specs.declared.trace.Trace.{Trace}
-use Rattle.wbt_book.specs.Book.{is_claimable}
-use Rattle.wbt_book.specs.PageWords.{shared_word}
-use Rattle.wbt_counter.specs.declared.counter.Counter.{Counter}
+use Rattle.wbt_replay_order.proofs.Common.{Trace, is_claimable, shared_word, Counter, Estimate, update_of, StepEntry, decide_by, fold, estimate_to, sample_of, complete_by, complete_in, complete_first, unmark_by, unmark_in, make_step, make_move, look_by, look_in, looked_at, claim_by, claim_in, claim_now, State, cpu_of, flusher_of, task_of, with_task, writeback_of, page_of, context_of, passed_page, dirty_by, dirty_next, dirty_page, dirty_fresh, mark, ReplayPhase, Whose, ReplayWork, Silent, Step, TimerTodo, apply, Change, move_keeps}
 use Rattle.wbt_counter.specs.declared.counter.Counter.TheVariants.{Domain as ofDomain, Context as ofContext}
-use Rattle.wbt_estimate.specs.declared.estimate.Estimate.{Estimate}
-use Rattle.wbt_estimate.specs.Estimate.{update_of}
-use Rattle.wbt_journal.specs.declared.step.StepEntry.{StepEntry}
-use Rattle.wbt_replay_moves.specs.Definition.Check.{decide_by}
-use Rattle.wbt_replay_moves.specs.Definition.Counters.{fold}
-use Rattle.wbt_replay_moves.specs.Definition.Estimates.{estimate_to, sample_of}
-use Rattle.wbt_replay_moves.specs.Definition.Flight.{complete_by, complete_in, complete_first}
-use Rattle.wbt_replay_moves.specs.Definition.Idle.{unmark_by, unmark_in}
-use Rattle.wbt_replay_moves.specs.Definition.Perform.{make_step, make_move}
-use Rattle.wbt_replay_moves.specs.Definition.Scan.{look_by, look_in, looked_at, claim_by, claim_in, claim_now}
-use Rattle.wbt_replay_moves.specs.Definition.State.{State, cpu_of, flusher_of, task_of, with_task, writeback_of}
-use Rattle.wbt_rules.specs.Places.{page_of}
-use Rattle.wbt_rules.specs.Things.{context_of}
-use Rattle.wbt_replay_moves.specs.Definition.Writer.{passed_page, dirty_by, dirty_next, dirty_page, dirty_fresh, mark, marked}
-use Rattle.wbt_replay_moves.specs.declared.state.ReplayPhase.{ReplayPhase}
+use Rattle.wbt_replay_moves.specs.Definition.Writer.{marked}
 use Rattle.wbt_replay_moves.specs.declared.state.ReplayPhase.TheVariants as phase
-use Rattle.wbt_replay_moves.specs.declared.state.Whose.{Whose}
 use Rattle.wbt_replay_moves.specs.declared.state.Whose.TheVariants as whose
-use Rattle.wbt_replay_moves.specs.declared.state.ReplayWork.{ReplayWork}
 use Rattle.wbt_replay_moves.specs.declared.state.ReplayWork.TheVariants as work
-use Rattle.wbt_replay_moves.specs.declared.todo.Silent.{Silent}
 use Rattle.wbt_replay_moves.specs.declared.todo.Silent.TheVariants as silent
-use Rattle.wbt_replay_moves.specs.declared.todo.Step.{Step}
 use Rattle.wbt_replay_moves.specs.declared.todo.Step.TheVariants as step
 use Rattle.wbt_replay_moves.specs.declared.todo.TimerStep.TheVariants as timer_step
-use Rattle.wbt_replay_moves.specs.declared.todo.TimerTodo.{TimerTodo}
 use Rattle.wbt_replay_moves.specs.declared.todo.TimerTodo.TheVariants as timer_todo
-use Rattle.wbt_replay_changes.specs.Apply.{apply}
-use Rattle.wbt_replay_changes.specs.Change.{Change}
 use Rattle.wbt_replay_changes.specs.Change as change
 use Rattle.wbt_replay_changes.specs.Plain.{IsSilent}
-use Rattle.wbt_replay_changes.proofs.Keeping.{move_keeps}
 use Rattle.wbt_replay_order.proofs.Facts.Lists.{either}
 
 -- ---- steps before, and now

@@ -1,22 +1,8 @@
 -- No move changes how many steps may be made.
 use Rattle.std.proofs.Common.{◌≡◌, ℕ, refl, ◌∙◌, Option, Some, None}
-use Rattle.wbt_num.specs.declared.most.TheConstants.{MOST_STEPS}
-use Rattle.wbt_trace.specs.declared.trace.Trace.{Trace}
-use Rattle.wbt_estimate.specs.Estimate.{update_of}
-use Rattle.wbt_estimate.specs.declared.estimate.Estimate.{Estimate}
-use Rattle.wbt_flex.specs.Proportions.{after_period}
-use Rattle.wbt_flex.specs.declared.half.Half.{Half}
-use Rattle.wbt_replay_moves.specs.Definition.Estimates.{estimate_to, sample_of}
-use Rattle.wbt_replay_moves.specs.Definition.Perform.{make_timer_step, make_timer_move}
-use Rattle.wbt_replay_moves.specs.Definition.State.{State, cpu_of, domain_of, writeback_of}
-use Rattle.wbt_replay_moves.specs.Definition.Timer.{with_timer, is_time, periods, period_to}
-use Rattle.wbt_replay_moves.specs.declared.todo.TimerSilent.{TimerSilent}
+use Rattle.wbt_replay_order.proofs.Common.{MOST_STEPS, Trace, update_of, Estimate, after_period, Half, estimate_to, sample_of, make_timer_step, make_timer_move, State, cpu_of, domain_of, writeback_of, with_timer, is_time, periods, period_to, TimerSilent, TimerStep, opening, advance, run, state_at}
 use Rattle.wbt_replay_moves.specs.declared.todo.TimerSilent.TheVariants as silent
-use Rattle.wbt_replay_moves.specs.declared.todo.TimerStep.{TimerStep}
 use Rattle.wbt_replay_moves.specs.declared.todo.TimerStep.TheVariants as step
-use Rattle.wbt_replay_order.specs.Definition.Opening.{opening}
-use Rattle.wbt_replay_order.specs.Definition.Order.{advance, run}
-use Rattle.wbt_replay_order.specs.Definition.Run.{state_at}
 use Rattle.wbt_replay_order.proofs.Facts.Lists.{either}
 use Rattle.wbt_replay_order.proofs.Growth.Advancing.{advance_keeps}
 use Rattle.wbt_replay_order.proofs.Growth.Runs.{run_along}

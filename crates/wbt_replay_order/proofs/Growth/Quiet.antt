@@ -5,19 +5,8 @@ use Rattle.std.proofs.lemmas.Bool.{cases_lt}
 use Rattle.std.proofs.lemmas.List.{get_or-set_same, get_or-set_other, set_past, length-set}
 use mathlib.Core.Logic.{dite}
 use native.Mathlib.Decide.{ℕ_discrete}
-use Rattle.wbt_journal.specs.Counts.{Version, CountsAreFresh, versions_after}
-use Rattle.wbt_journal.specs.Items.{tells}
-use Rattle.wbt_journal.specs.Told.{InOrder, told_entry}
-use Rattle.wbt_journal.specs.Walk.{Along}
-use Rattle.wbt_journal.specs.declared.entry.CheckEntry.{CheckEntry}
-use Rattle.wbt_journal.specs.declared.entry.EstEntry.{EstEntry}
-use Rattle.wbt_journal.specs.declared.entry.Entry.{Entry}
+use Rattle.wbt_replay_order.proofs.Common.{Version, CountsAreFresh, versions_after, tells, InOrder, told_entry, Along, CheckEntry, EstEntry, Entry, State, no_cpu, no_domain, no_context, cpu_of, with_cpu, domain_of, with_domain, writeback_of, with_writeback, Cpu, Domain, Timer, Writeback}
 use Rattle.wbt_journal.specs.declared.entry.Entry.TheVariants as entry
-use Rattle.wbt_replay_moves.specs.Definition.State.{State, no_cpu, no_domain, no_context, cpu_of, with_cpu, domain_of, with_domain, writeback_of, with_writeback}
-use Rattle.wbt_replay_moves.specs.declared.state.Cpu.{Cpu}
-use Rattle.wbt_replay_moves.specs.declared.state.Domain.{Domain}
-use Rattle.wbt_replay_moves.specs.declared.state.Timer.{Timer}
-use Rattle.wbt_replay_moves.specs.declared.state.Writeback.{Writeback}
 use Rattle.wbt_replay_order.proofs.Growth.Afresh.{told_in, FreshIn, seen_in, fresh_logged}
 
 -- The entries of the CPU's part name its checks and estimates, each once, in order, and along them no count is older than what the CPU

@@ -1,11 +1,7 @@
 -- The moments of a run, one move after another.
 use Rattle.std.proofs.Common.{◌≡◌, ℕ, zero, suc, ◌+◌, Bool, true, false, refl, sym, ◌∙◌, ap, arith, ⊎_elim}
 use Rattle.std.proofs.lemmas.Bool.{cases_Bool}
-use Rattle.wbt_trace.specs.declared.trace.Trace.{Trace}
-use Rattle.wbt_replay_order.specs.Definition.Order.{advance, is_ended, run}
-use Rattle.wbt_replay_order.specs.Definition.Opening.{opening}
-use Rattle.wbt_replay_order.specs.Definition.Run.{state_at}
-use Rattle.wbt_replay_moves.specs.Definition.State.{State}
+use Rattle.wbt_replay_order.proofs.Common.{Trace, advance, is_ended, run, opening, state_at, State}
 
 pub run_none : (trace : Trace) (n : ℕ) (s : State) → n ≡ 0 → run trace n s ≡ s
 unfolding run

@@ -6,7 +6,7 @@ use Rattle.std.proofs.lemmas.List.{get_or-set_same, get_or-set_other, set-set}
 use mathlib.Core.Logic.{dite}
 use native.Mathlib.Decide.{ℕ_discrete}
 use Rattle.std.proofs.lemmas.List.Elements.{All-head, All-tail, All-cons, All-nil}
-use Rattle.wbt_replay_order.specs.Claims.Path.{AreAmong}
+use Rattle.wbt_replay_order.proofs.Common.{AreAmong}
 use Rattle.wbt_replay_order.proofs.Facts.Lists.{twice}
 
 -- what holds of all of a list holds of those among it, and a list is among itself

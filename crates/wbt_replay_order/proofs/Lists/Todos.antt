@@ -1,15 +1,12 @@
 -- Lists of what a CPU has to do: items that neither write, nor mark, nor hand over, come to them or leave them.
 use Rattle.std.proofs.Common.{◌≡◌, ℕ, Bool, true, false, ◌||◌, List, [], ◌∷◌, ◌++◌, refl, sym, ◌∙◌, ap, subst}
 use Rattle.std.specs.List.{list_any}
-use Rattle.wbt_trace.specs.declared.trace.Trace.{Trace}
-use Rattle.wbt_replay_moves.specs.declared.state.Cpu.{Cpu}
-use Rattle.wbt_replay_moves.specs.declared.state.Whose.{Whose}
+use Rattle.wbt_replay_order.proofs.Common.{Trace, Cpu, Whose, Todo, is_mark_of, is_end, is_hand_over, owes_mark, IsStillOpen, AreBefore}
 use Rattle.wbt_replay_moves.specs.declared.state.Whose.TheVariants as whose
 use Rattle.wbt_replay_moves.specs.declared.todo.Silent.TheVariants as silent
 use Rattle.wbt_replay_moves.specs.declared.todo.Step.TheVariants as step
-use Rattle.wbt_replay_moves.specs.declared.todo.Todo.{Todo}
 use Rattle.wbt_replay_moves.specs.declared.todo.Todo.TheVariants as todo
-use Rattle.wbt_replay_order.specs.Kept.Waiting.{is_mark_of, is_end, is_hand_over, is_calm, owes_mark, IsStillOpen, MarksBefore, IsBefore, AreBefore}
+use Rattle.wbt_replay_order.specs.Kept.Waiting.{is_calm, MarksBefore, IsBefore}
 
 -- All neither write, nor mark, nor hand over.
 abbrev pub AreCalm : List Todo → Type 0

@@ -1,11 +1,8 @@
 -- How many flushers the CPUs have at the opening, and that each is one job of its CPU.
 use Rattle.std.proofs.Common.{◌≡◌, ℕ, suc, ◌+◌, ◌<◌, Bool, true, false, cond, eqb, List, [], ◌∷◌, ◌++◌, length, get_or, count_by, refl, ◌∙◌, ap, arith}
 use Rattle.std.proofs.lemmas.List.Sums.{sum_by_push}
-use Rattle.wbt_trace.specs.declared.trace.FlusherLine.{FlusherLine}
-use Rattle.wbt_trace.specs.declared.trace.Trace.{Trace}
-use Rattle.wbt_counter.specs.Sums.{total}
-use Rattle.wbt_counter.proofs.Sums.{total_sum, total_nothing}
-use Rattle.wbt_replay_moves.specs.declared.state.ReplayJob.{ReplayJob}
+use Rattle.wbt_replay_order.proofs.Common.{FlusherLine, Trace, total, total_nothing, ReplayJob}
+use Rattle.wbt_counter.proofs.Sums.{total_sum}
 use Rattle.wbt_replay_moves.specs.declared.state.ReplayJob.TheVariants as job
 use Rattle.wbt_replay_order.specs.Definition.Opening.{flushers_from, jobs_with}
 use Rattle.wbt_replay_order.proofs.Facts.Jobs.{no_line}

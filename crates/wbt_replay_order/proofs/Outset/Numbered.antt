@@ -5,7 +5,7 @@ use Rattle.std.proofs.lemmas.List.{get_or_append_left, get_or_push, get_or_past}
 use Rattle.std.proofs.lemmas.List.Sums.{sum_by_push}
 use mathlib.Core.Logic.{dite}
 use native.Mathlib.Decide.{ℕ_discrete}
-use Rattle.wbt_counter.specs.Sums.{total}
+use Rattle.wbt_replay_order.proofs.Common.{total}
 
 module _ {A : Type 0} (xs : ℕ → List A) (f : ℕ → A) (d : A) (none : xs 0 ≡ []) (more : (n : ℕ) → xs (suc n) ≡ xs n ++ f n ∷ []) where
   pub numbered_length : (n : ℕ) → length (xs n) ≡ n

@@ -5,43 +5,19 @@ use Rattle.std.proofs.lemmas.List.{get_or_past, get_or-replicate, length-replica
 use Rattle.std.proofs.lemmas.List.Elements.{All-nil, All-head, All-tail, All-push, All-map, All-weaker, All-replicate}
 use Rattle.std.proofs.lemmas.List.Folds.{sum_by-replicate}
 use Rattle.std.proofs.lemmas.List.Sums.{sum_by-cons}
-use Rattle.wbt_num.specs.declared.most.TheConstants.{MOST_STEPS}
+use Rattle.wbt_replay_order.proofs.Common.{MOST_STEPS, domain_batch, context_batch, Counter, total_same, total_nothing, domains, first, new_writer, Writer, IsLawful, Pace, Trace, writer_in, batch_of, own_of, no_cpu, no_task, no_flusher, no_domain, no_context, no_held, flusher_of, pace_of, is_strict, flusher_device, Cpu, Domain, Flusher, Held, ReplayTask, ReplayWork, Writeback, opening, opening_moment, first_limits, first_domain, first_domains, first_context, first_contexts, works_of, first_task, first_tasks, first_flusher, first_flushers, tasks_from, first_cpu, first_cpus, stretch_of, is_finished, Facts, ticks_of, rest_of, rests_of, credit_of, until_of, IsDomain, AreDomains, IsContext, AreContexts, AreWritten, written_of, flown_of, AreQueued, WriterFits, IsTask, AreTasks, dirtied_by, dirtied_of, leaks_of, IsFlusher, IsCpu, AreCpus, IsAgreed, is_at_work, working_on, is_stopped, IsStretch, TimerItemFits, Holds, Sound, IsRoom, HasRoom, WheelFits, ItemFits, Agrees, IsOpen, is_ageing}
 use Rattle.wbt_num.specs.Limits.{IsLawful as AreLawful}
-use Rattle.wbt_counter.specs.Batch.{domain_batch, context_batch}
-use Rattle.wbt_counter.specs.declared.counter.Counter.{Counter}
 use Rattle.wbt_counter.specs.declared.counter.Counter.TheVariants.{Domain as ofDomain, Context as ofContext}
-use Rattle.wbt_counter.proofs.Sums.{total_same, total_nothing}
-use Rattle.wbt_journal.specs.Machine.{domains}
-use Rattle.wbt_task.specs.Allowance.{first}
-use Rattle.wbt_task.specs.History.{new_writer}
 use Rattle.wbt_task.specs.declared.allowance.Due.TheVariants as due
-use Rattle.wbt_task.specs.declared.history.Writer.{Writer}
-use Rattle.wbt_trace.specs.Lawful.{IsLawful, IsOrder}
+use Rattle.wbt_trace.specs.Lawful.{IsOrder}
 use Rattle.wbt_trace.specs.declared.trace.Context.{Context as ContextLine}
 use Rattle.wbt_trace.specs.declared.trace.Order.{Order}
 use Rattle.wbt_trace.specs.declared.trace.Order.TheVariants as order
-use Rattle.wbt_trace.specs.declared.trace.Pace.{Pace}
-use Rattle.wbt_trace.specs.declared.trace.Trace.{Trace}
-use Rattle.wbt_replay_moves.specs.Definition.Check.{writer_in}
-use Rattle.wbt_journal.specs.Machine.{batch_of}
-use Rattle.wbt_replay_moves.specs.Definition.Cpu.{own_of}
-use Rattle.wbt_replay_moves.specs.Definition.State.{no_cpu, no_task, no_flusher, no_domain, no_context, no_limits, no_held, flusher_of}
-use Rattle.wbt_rules.specs.Pace.{pace_of}
-use Rattle.wbt_rules.specs.Strict.{is_strict}
-use Rattle.wbt_rules.specs.Things.{flusher_device, leads}
-use Rattle.wbt_replay_moves.specs.declared.state.Cpu.{Cpu}
-use Rattle.wbt_replay_moves.specs.declared.state.Domain.{Domain}
-use Rattle.wbt_replay_moves.specs.declared.state.Flusher.{Flusher}
-use Rattle.wbt_replay_moves.specs.declared.state.Held.{Held}
-use Rattle.wbt_replay_moves.specs.declared.state.ReplayTask.{ReplayTask}
-use Rattle.wbt_replay_moves.specs.declared.state.ReplayWork.{ReplayWork}
-use Rattle.wbt_replay_moves.specs.declared.state.Writeback.{Writeback}
-use Rattle.wbt_replay_order.specs.Definition.Opening.{opening, opening_moment, first_limits, first_domain, first_domains, first_context, first_contexts, works_of, first_task, first_tasks, contexts_from, strict_from, first_flusher, first_flushers, tasks_from, first_cpu, first_cpus, first_held, stretch_of}
-use Rattle.wbt_replay_order.specs.Definition.Order.{is_finished}
-use Rattle.wbt_replay_order.specs.Kept.Facts.{Facts}
-use Rattle.wbt_replay_order.specs.Kept.Horizon.{horizon, ticks_of, rest_of, rests_of, credit_of, until_of}
-use Rattle.wbt_replay_order.specs.Kept.Sound.{IsDomain, AreDomains, IsContext, AreContexts, AreWritten, written_of, flown_of, AreQueued, WriterFits, IsTask, AreTasks, dirtied_by, dirtied_of, leaks_of, ArePlaces, IsFlusher, AreFlushers, IsCpu, AreCpus, IsAgreed, is_at_work, working_on, is_stopped, IsStretch, TimerItemFits, Holds, Sound, IsRoom, HasRoom, WheelFits}
-use Rattle.wbt_replay_order.specs.Kept.Turns.{ItemFits, Agrees, IsOpen}
+use Rattle.wbt_replay_moves.specs.Definition.State.{no_limits}
+use Rattle.wbt_rules.specs.Things.{leads}
+use Rattle.wbt_replay_order.specs.Definition.Opening.{contexts_from, strict_from, first_held}
+use Rattle.wbt_replay_order.specs.Kept.Horizon.{horizon}
+use Rattle.wbt_replay_order.specs.Kept.Sound.{ArePlaces, AreFlushers}
 use Rattle.wbt_replay_order.proofs.Facts.Facts.{facts}
 use Rattle.wbt_replay_order.proofs.Facts.Lists.{either}
 use Rattle.wbt_replay_order.proofs.Facts.Paces.{none_since, none_ticks}
@@ -50,7 +26,6 @@ use Rattle.wbt_replay_order.proofs.Outset.Cpus.{lines_on, counted_with, all_line
 use Rattle.wbt_replay_order.proofs.Outset.Numbered.{numbered_length, numbered_at, numbered_all, numbered_each, numbered_sum}
 use Rattle.wbt_replay_order.proofs.Outset.Tasks.{works_fit, all_rests, last_is}
 use Rattle.wbt_rules.proofs.Openings.{first_moment, first_sound}
-use Rattle.wbt_rules.specs.Age.{is_ageing}
 
 -- ---- domains and contexts
 

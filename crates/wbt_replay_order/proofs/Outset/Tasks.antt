@@ -2,21 +2,10 @@
 use Rattle.std.proofs.Common.{◌≡◌, ℕ, ◌+◌, ◌*◌, ◌^◌, ◌≤◌, Bool, true, false, cond, eqb, List, [], ◌∷◌, ◌++◌, length, flat_map, sum_by, All, refl, subst, arith, eqb-true}
 use Rattle.std.proofs.lemmas.List.Elements.{All-nil, All-cons, All-append, All-head, All-tail}
 use Rattle.std.proofs.lemmas.List.Sums.{sum_by-append}
-use Rattle.wbt_counter.specs.Sums.{total}
-use Rattle.wbt_counter.proofs.Sums.{total_sum, total_same, total_nothing}
-use Rattle.wbt_trace.specs.Lawful.{IsLawful, IsAction}
-use Rattle.wbt_trace.specs.WriterList.{is_writer}
-use Rattle.wbt_trace.specs.declared.trace.Action.{Action}
-use Rattle.wbt_trace.specs.declared.trace.Action.TheVariants.{Write, Rest}
-use Rattle.wbt_trace.specs.declared.trace.Trace.{Trace}
+use Rattle.wbt_replay_order.proofs.Common.{total, total_same, total_nothing, IsLawful, IsAction, is_writer, Action, Write, Rest, Trace, inode_of, context_of, ReplayWork, writers_in, work_of, works_of, rest_of, WorkFits, rests_at_end}
+use Rattle.wbt_counter.proofs.Sums.{total_sum}
 use Rattle.wbt_journal.specs.Machine.{rests_after}
-use Rattle.wbt_rules.specs.Things.{inode_of, context_of}
-use Rattle.wbt_replay_moves.specs.declared.state.ReplayWork.{ReplayWork}
 use Rattle.wbt_replay_moves.specs.declared.state.ReplayWork.TheVariants as work
-use Rattle.wbt_replay_order.specs.Claims.Setting.{writers_in}
-use Rattle.wbt_replay_order.specs.Definition.Opening.{work_of, works_of}
-use Rattle.wbt_replay_order.specs.Kept.Horizon.{rest_of}
-use Rattle.wbt_replay_order.specs.Kept.Sound.{WorkFits, rests_at_end}
 use Rattle.wbt_replay_order.proofs.Facts.Lists.{either}
 use Rattle.wbt_replay_order.proofs.Facts.Pairs.{HasWriter, all_stand}
 use Rattle.wbt_replay_order.proofs.Outset.Numbered.{one_part_most}

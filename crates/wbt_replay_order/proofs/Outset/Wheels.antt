@@ -1,12 +1,7 @@
 -- The lists of flushers at the opening: there is one where a device is ageing, and no inode waits.
 use Rattle.std.proofs.Common.{◌≡◌, ℕ, true, [], is_some, unwrap_or, Option, None, refl}
 use Rattle.wbt_expiry.specs.Waiting.{Waiting as Wheel}
-use Rattle.wbt_rules.specs.Age.{is_ageing}
-use Rattle.wbt_rules.specs.Things.{flusher_device}
-use Rattle.wbt_trace.specs.declared.trace.Trace.{Trace}
-use Rattle.wbt_replay_moves.specs.Definition.State.{no_waiting}
-use Rattle.wbt_replay_order.specs.Definition.Opening.{first_flusher}
-use Rattle.wbt_replay_order.specs.Kept.Waiting.{pairs_in, AreListed}
+use Rattle.wbt_replay_order.proofs.Common.{is_ageing, flusher_device, Trace, no_waiting, first_flusher, pairs_in, AreListed}
 use Rattle.wbt_replay_order.proofs.Facts.Lists.{either}
 
 pub first_empty : (trace : Trace) (f : ℕ) → pairs_in (first_flusher trace f) ≡ []

@@ -2,20 +2,10 @@
 use Rattle.std.proofs.Common.{◌≡◌, ℕ, ◌<◌, ◌≤◌, Bool, true, false, not, List, [], ◌++◌, length, flat_map, All, refl, sym, ◌∙◌, ap, subst, arith, true≢false}
 use Rattle.std.proofs.lemmas.List.{append-nil}
 use Rattle.std.proofs.lemmas.List.Elements.{All-head}
-use Rattle.wbt_trace.specs.declared.trace.Trace.{Trace}
-use Rattle.wbt_journal.specs.Machine.{pages_of_task}
+use Rattle.wbt_replay_order.proofs.Common.{Trace, pages_of_task, State, no_task, cpu_of, task_of, Whose, ReplayWork, Todo, HasEnded, most_moves, state_at, last_state, ending_of, journal_of, task_cpu, Facts, Sound, IsWhose, WorkFits, is_running}
 use Rattle.wbt_journal.specs.declared.journal.Ending.TheVariants as ending
-use Rattle.wbt_replay_moves.specs.Definition.State.{State, no_task, cpu_of, task_of}
-use Rattle.wbt_replay_moves.specs.declared.state.Whose.{Whose}
-use Rattle.wbt_replay_moves.specs.declared.state.ReplayWork.{ReplayWork}
 use Rattle.wbt_replay_moves.specs.declared.state.ReplayWork.TheVariants as work
-use Rattle.wbt_replay_moves.specs.declared.todo.Todo.{Todo}
-use Rattle.wbt_replay_order.specs.Claims.Bound.{HasEnded}
 use Rattle.wbt_replay_order.specs.Claims.Complete.{written_by}
-use Rattle.wbt_replay_order.specs.Definition.Run.{most_moves, state_at, last_state, ending_of, journal_of}
-use Rattle.wbt_replay_order.specs.Definition.Tasks.{task_cpu}
-use Rattle.wbt_replay_order.specs.Kept.Facts.{Facts}
-use Rattle.wbt_replay_order.specs.Kept.Sound.{Sound, IsWhose, WorkFits, is_running}
 use Rattle.wbt_replay_order.proofs.Facts.Lists.{none_counts}
 use Rattle.wbt_replay_order.proofs.Facts.Over.{not_cut, all_over}
 use Rattle.wbt_replay_order.proofs.Written.Same.{pages_of, told_by}

@@ -1,14 +1,8 @@
 -- Moves that write no page: what each part tells as written stays, and so do the pages that each task still has to write.
 use Rattle.std.proofs.Common.{◌≡◌, ℕ, List, [], ◌∷◌, ◌++◌, get_or, flat_map, refl, sym, ◌∙◌, ap, append_assoc}
 use Rattle.std.proofs.lemmas.List.{append-nil}
-use Rattle.wbt_journal.specs.Machine.{numbers}
-use Rattle.wbt_journal.specs.declared.entry.Entry.{Entry}
-use Rattle.wbt_replay_moves.specs.Definition.State.{State, no_cpu, no_task, cpu_of, with_cpu, task_of, with_task}
-use Rattle.wbt_replay_moves.specs.declared.state.Cpu.{Cpu}
-use Rattle.wbt_replay_moves.specs.declared.state.ReplayTask.{ReplayTask}
-use Rattle.wbt_replay_moves.specs.declared.state.ReplayWork.{ReplayWork}
+use Rattle.wbt_replay_order.proofs.Common.{numbers, Entry, State, no_cpu, no_task, cpu_of, with_cpu, task_of, with_task, Cpu, ReplayTask, ReplayWork, written_in}
 use Rattle.wbt_replay_moves.specs.declared.state.ReplayWork.TheVariants as work
-use Rattle.wbt_replay_order.specs.Claims.Complete.{written_in}
 use Rattle.wbt_replay_order.proofs.Growth.Quiet.{same_at}
 
 -- the pages that are still to be written

@@ -6,46 +6,20 @@ use Rattle.std.proofs.lemmas.List.{append-nil, length-set}
 use Rattle.std.proofs.lemmas.Bool.{cases_Bool}
 use mathlib.Core.Logic.{dite}
 use native.Mathlib.Decide.{ℕ_discrete}
-use Rattle.wbt_trace.specs.declared.trace.Action.{Action}
+use Rattle.wbt_replay_order.proofs.Common.{Action, Trace, update_of, Estimate, after_period, Half, numbers, pages_of_task, decision_at, told_task, decide_for, do_next, logged, log_at, owed_to, estimate, estimate_to, sample_of, pace_of, inode_of, context_of, group_of, make_timer_step, make_timer_move, State, no_cpu, no_task, cpu_of, with_cpu, task_of, with_task, plain_step, domain_of, writeback_of, with_timer, period, period_to, is_time, periods, passed_page, dirty, dirty_by, dirty_next, dirty_fresh, counted_page, counted_local, Cpu, ReplayTask, Whose, ReplayWork, TimerSilent, TimerStep, TimerTodo, Todo, opening, work_of, works_of, first_cpu, first_cpus, first_task, first_tasks, is_ended, state_at, task_cpu}
 use Rattle.wbt_trace.specs.declared.trace.Action.TheVariants as action
-use Rattle.wbt_trace.specs.declared.trace.Trace.{Trace}
-use Rattle.wbt_estimate.specs.Estimate.{update_of}
-use Rattle.wbt_estimate.specs.declared.estimate.Estimate.{Estimate}
-use Rattle.wbt_flex.specs.Proportions.{after_period}
-use Rattle.wbt_flex.specs.declared.half.Half.{Half}
 use Rattle.wbt_grant.specs.declared.who.StepKind.TheVariants as kind
-use Rattle.wbt_journal.specs.Machine.{numbers, pages_of_action, pages_of_task}
+use Rattle.wbt_journal.specs.Machine.{pages_of_action}
 use Rattle.wbt_journal.specs.declared.entry.Entry.TheVariants as entry
-use Rattle.wbt_replay_moves.specs.Definition.Check.{decision_at, told_task, decide_for}
-use Rattle.wbt_replay_moves.specs.Definition.Cpu.{do_next, logged, log_at, owed_to}
-use Rattle.wbt_replay_moves.specs.Definition.Estimates.{estimate, estimate_to, sample_of}
-use Rattle.wbt_rules.specs.Pace.{pace_of}
-use Rattle.wbt_rules.specs.Things.{inode_of, context_of, group_of}
-use Rattle.wbt_replay_moves.specs.Definition.Perform.{make_timer_step, make_timer_move}
-use Rattle.wbt_replay_moves.specs.Definition.State.{State, no_cpu, no_task, cpu_of, with_cpu, task_of, with_task, plain_step, domain_of, writeback_of}
-use Rattle.wbt_replay_moves.specs.Definition.Timer.{with_timer, period, period_to, is_time, periods}
-use Rattle.wbt_replay_moves.specs.Definition.Writer.{passed_page, dirty, dirty_by, dirty_next, dirty_fresh, counted_page, counted_local}
-use Rattle.wbt_replay_moves.specs.declared.state.Cpu.{Cpu}
-use Rattle.wbt_replay_moves.specs.declared.state.ReplayTask.{ReplayTask}
-use Rattle.wbt_replay_moves.specs.declared.state.Whose.{Whose}
 use Rattle.wbt_replay_moves.specs.declared.state.Whose.TheVariants as whose
-use Rattle.wbt_replay_moves.specs.declared.state.ReplayWork.{ReplayWork}
 use Rattle.wbt_replay_moves.specs.declared.state.ReplayWork.TheVariants as work
 use Rattle.wbt_replay_moves.specs.declared.todo.Silent.TheVariants as move
 use Rattle.wbt_replay_moves.specs.declared.todo.Step.TheVariants as item
-use Rattle.wbt_replay_moves.specs.declared.todo.TimerSilent.{TimerSilent}
 use Rattle.wbt_replay_moves.specs.declared.todo.TimerSilent.TheVariants as silent
-use Rattle.wbt_replay_moves.specs.declared.todo.TimerStep.{TimerStep}
 use Rattle.wbt_replay_moves.specs.declared.todo.TimerStep.TheVariants as step
-use Rattle.wbt_replay_moves.specs.declared.todo.TimerTodo.{TimerTodo}
 use Rattle.wbt_replay_moves.specs.declared.todo.TimerTodo.TheVariants as timer_todo
-use Rattle.wbt_replay_moves.specs.declared.todo.Todo.{Todo}
 use Rattle.wbt_replay_moves.specs.declared.todo.Todo.TheVariants as todo
-use Rattle.wbt_replay_order.specs.Definition.Opening.{opening, work_of, works_of, first_cpu, first_cpus, first_task, first_tasks}
-use Rattle.wbt_replay_order.specs.Definition.Order.{is_ended}
-use Rattle.wbt_replay_order.specs.Definition.Run.{state_at}
 use Rattle.wbt_replay_order.proofs.Growth.Runs.{run_none, run_last, run_stays}
-use Rattle.wbt_replay_order.specs.Definition.Tasks.{task_cpu}
 use Rattle.wbt_replay_order.proofs.Facts.Lists.{either, twice}
 use Rattle.wbt_replay_order.proofs.Lists.Places.{thrice}
 use Rattle.wbt_replay_order.proofs.Outset.Numbered.{numbered_all, numbered_at}

@@ -2,35 +2,16 @@
 use Rattle.std.proofs.Common.{◌≡◌, ◌≢◌, ℕ, ◌<◌, ◌≤◌, true, false, ℤ, List, [], ◌∷◌, ◌++◌, length, get_or, refl, sym, ◌∙◌, ap, subst}
 use Rattle.std.proofs.Math.ListN.{set}
 use Rattle.std.specs.List.{list_any}
-use Rattle.wbt_trace.specs.declared.trace.Trace.{Trace}
-use Rattle.wbt_counter.specs.declared.counter.Counter.{Counter}
+use Rattle.wbt_replay_order.proofs.Common.{Trace, Counter, Fold, Event, Setting, CheckEntry, Entry, logged, log_at, do_next, then_do, State, no_cpu, no_flusher, no_domain, no_context, cpu_of, domain_of, with_domain, writeback_of, with_writeback, Cpu, Domain, ReplayTurn, Writeback, Todo, events_with, events_told, folds_with, folds_told, founds_with, founds_told, is_decide, IsFlusherOn, Suits, heights_of, Tidy, Looked, ScansInside, is_closing, debts_in, batched, count_in, Follows, Moves, Found, Held, CpuRecord, Flusher}
 use Rattle.wbt_counter.specs.declared.counter.Counter.TheVariants.{Domain as ofDomain, Context as ofContext}
-use Rattle.wbt_counter.specs.declared.record.Fold.{Fold}
-use Rattle.wbt_book.specs.declared.event.Event.{Event}
-use Rattle.wbt_grant.specs.Setting.{Setting}
 use Rattle.wbt_grant.specs.State as throttle
-use Rattle.wbt_journal.specs.declared.entry.CheckEntry.{CheckEntry}
-use Rattle.wbt_journal.specs.declared.entry.Entry.{Entry}
-use Rattle.wbt_replay_moves.specs.Definition.Cpu.{logged, log_at, do_next, then_do}
-use Rattle.wbt_replay_moves.specs.Definition.State.{State, no_cpu, no_flusher, no_domain, no_context, cpu_of, domain_of, with_domain, writeback_of, with_writeback}
-use Rattle.wbt_replay_moves.specs.declared.state.Cpu.{Cpu}
-use Rattle.wbt_replay_moves.specs.declared.state.Domain.{Domain}
-use Rattle.wbt_replay_moves.specs.declared.state.ReplayTurn.{ReplayTurn}
-use Rattle.wbt_replay_moves.specs.declared.state.Writeback.{Writeback}
 use Rattle.wbt_replay_moves.specs.declared.state.Whose.TheVariants as whose
-use Rattle.wbt_replay_moves.specs.declared.todo.Todo.{Todo}
-use Rattle.wbt_replay_order.specs.Claims.Path.{events_with, events_told, folds_with, folds_told, founds_with, founds_told, is_decide}
-use Rattle.wbt_replay_order.specs.Kept.Facts.{IsFlusherOn}
-use Rattle.wbt_replay_order.specs.Kept.Following.{Suits, heights_of, Tidy, Looked, ScansInside, is_closing, debts_in, page_of, batched, count_in, Follows, Moves}
+use Rattle.wbt_replay_order.specs.Kept.Following.{page_of}
 use Rattle.wbt_replay_order.proofs.Facts.Lists.{twice}
 use Rattle.wbt_replay_order.proofs.Frames.Others.{IsTurnOn, SameOn}
 use Rattle.wbt_replay_order.proofs.Lists.Places.{still}
 use Rattle.wbt_replay_order.proofs.Frames.Quiet.{SameShared, SameWriters, TellsBoth, both_of, both_told, kept_by, quietly, goes_on}
 use Rattle.wbt_replay_path.proofs.Follow.Tells.{events_more, folds_more, founds_more}
-use Rattle.wbt_replay_moves.specs.declared.state.Found.{Found}
-use Rattle.wbt_replay_moves.specs.declared.state.Held.{Held}
-use Rattle.wbt_grant.specs.declared.record.CpuRecord.{CpuRecord}
-use Rattle.wbt_replay_moves.specs.declared.state.Flusher.{Flusher}
 
 -- ---- a CPU that is the same in all that is followed
 

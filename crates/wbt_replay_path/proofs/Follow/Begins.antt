@@ -8,42 +8,20 @@ use Rattle.std.specs.List.{list_any}
 use mathlib.Core.Logic.{dite}
 use native.Mathlib.Decide.{ℕ_discrete}
 use Rattle.wbt_counter.specs.declared.counter.Counter.TheVariants.{Domain}
-use Rattle.wbt_trace.specs.WriterList.{is_writer}
-use Rattle.wbt_trace.specs.declared.trace.Trace.{Trace}
-use Rattle.wbt_counter.specs.declared.record.Reading.{Reading}
-use Rattle.wbt_grant.specs.declared.record.DomainLimits.{DomainLimits}
-use Rattle.wbt_grant.specs.declared.record.WriterRecord.{WriterRecord}
-use Rattle.wbt_grant.specs.Setting.{Setting}
+use Rattle.wbt_replay_order.proofs.Common.{is_writer, Trace, Reading, DomainLimits, WriterRecord, Setting, Due, writer_of, do_next, do_last, then_do, at_turn, log_at, finish, take_or_finish, domain_loads, measures_of, weighs_of, begin_test, begin_idle, take_last, take_first, with_pairs, begin_phase, begin_turn, State, no_cpu, no_task, no_flusher, cpu_of, with_cpu, task_of, flusher_of, queue_of, is_drained, waiting_of, in_phase, flusher_device, group_of, check_items, begin_rest, pause_in, begin_pause, begin_page, begin_work, begin_due, Cpu, Flusher, ReplayPhase, ReplayTask, ReplayTurn, Whose, ReplayWork, Todo, reading_of, AreAmong, readings_told, is_limits_of, KeepsLoads, FoldsBehind, writers_in, IsTaskOn, IsFlusherOn, Suits, Tidy, ScansInside, OwesNothing, AreLoads, InCheck, resumes, is_closing, HoldsLoads, turn_readings, debts_in, batched, Follows, Moves, Ranges, IsTurnOf, Entry}
 use Rattle.wbt_grant.specs.State as throttle
 use Rattle.wbt_grant.specs.State.{writer_in as record_of}
-use Rattle.wbt_task.specs.declared.allowance.Due.{Due}
 use Rattle.wbt_task.specs.declared.allowance.Due.TheVariants as due
-use Rattle.wbt_replay_moves.specs.Definition.Check.{writer_of}
-use Rattle.wbt_replay_moves.specs.Definition.Cpu.{do_next, do_last, then_do, turn_of, at_turn, log_at}
-use Rattle.wbt_replay_moves.specs.Definition.Idle.{finish, take, take_or_finish, domain_loads, measures_of, weighs_of, begin_test, begin_idle, take_last, take_first, with_pairs}
-use Rattle.wbt_replay_moves.specs.Definition.Perform.{begin_phase, begin_turn}
-use Rattle.wbt_replay_moves.specs.Definition.State.{State, no_cpu, no_task, no_flusher, cpu_of, with_cpu, task_of, flusher_of, queue_of, is_drained, waiting_of, in_phase}
-use Rattle.wbt_rules.specs.Things.{flusher_device, group_of}
-use Rattle.wbt_replay_moves.specs.Definition.Writer.{check_items, begin_check, begin_rest, pause_in, begin_pause, begin_page, begin_work, begin_due}
-use Rattle.wbt_replay_moves.specs.declared.state.Cpu.{Cpu}
-use Rattle.wbt_replay_moves.specs.declared.state.Flusher.{Flusher}
-use Rattle.wbt_replay_moves.specs.declared.state.ReplayPhase.{ReplayPhase}
+use Rattle.wbt_replay_moves.specs.Definition.Cpu.{turn_of}
+use Rattle.wbt_replay_moves.specs.Definition.Idle.{take}
+use Rattle.wbt_replay_moves.specs.Definition.Writer.{begin_check}
 use Rattle.wbt_replay_moves.specs.declared.state.ReplayPhase.TheVariants as phase
-use Rattle.wbt_replay_moves.specs.declared.state.ReplayTask.{ReplayTask}
-use Rattle.wbt_replay_moves.specs.declared.state.ReplayTurn.{ReplayTurn}
-use Rattle.wbt_replay_moves.specs.declared.state.Whose.{Whose}
 use Rattle.wbt_replay_moves.specs.declared.state.Whose.TheVariants as whose
-use Rattle.wbt_replay_moves.specs.declared.state.ReplayWork.{ReplayWork}
 use Rattle.wbt_replay_moves.specs.declared.state.ReplayWork.TheVariants as work
 use Rattle.wbt_replay_moves.specs.declared.todo.Silent.TheVariants as silent
 use Rattle.wbt_replay_moves.specs.declared.todo.Step.TheVariants as item
-use Rattle.wbt_replay_moves.specs.declared.todo.Todo.{Todo}
 use Rattle.wbt_replay_moves.specs.declared.todo.Todo.TheVariants as todo
-use Rattle.wbt_replay_order.specs.Claims.Path.{reading_of, AreAmong, readings_told, is_limits_of, is_count_of, is_context_count, KeepsLoads, FoldsBehind}
-use Rattle.wbt_replay_order.specs.Claims.Setting.{writers_in}
-use Rattle.wbt_replay_order.specs.Kept.Facts.{IsTaskOn, IsFlusherOn}
-use Rattle.wbt_replay_order.specs.Kept.Following.{Suits, Tidy, ScansInside, OwesNothing, AreLoads, InCheck, resumes, is_closing, HoldsLoads, turn_readings, debts_in, batched, Follows, Moves}
-use Rattle.wbt_replay_order.specs.Kept.Ranges.{Ranges, IsTurnOf}
+use Rattle.wbt_replay_order.specs.Claims.Path.{is_count_of, is_context_count}
 use Rattle.wbt_replay_order.proofs.Facts.Lists.{either, twice}
 use Rattle.wbt_replay_path.proofs.Follow.Alike.{alike_moves, Alike, alike_log, alike_lists, alike_push}
 use Rattle.wbt_replay_order.proofs.Frames.Others.{IsTurnOn, SameOn, same_task}
@@ -54,7 +32,6 @@ use Rattle.wbt_replay_path.proofs.Follow.Pages.{flushers_elsewhere}
 use Rattle.wbt_replay_order.proofs.Frames.Quiet.{SameShared, SameWriters, same_shared, all_same, one_task, calm, quietly, goes_on}
 use Rattle.wbt_replay_path.proofs.Follow.Writers.{tasks_elsewhere}
 use Rattle.wbt_expiry.specs.declared.due.Due.{Due as Pair}
-use Rattle.wbt_journal.specs.declared.entry.Entry.{Entry}
 use Rattle.wbt_journal.specs.declared.entry.Entry.TheVariants as entry
 
 -- ---- the items of a check

@@ -2,27 +2,16 @@
 use Rattle.std.proofs.Common.{◌≡◌, ◌≢◌, ℕ, zero, suc, ◌<◌, inl, inr, Bool, true, false, ◌||◌, cond, eqb, Some, None, List, [], ◌∷◌, ◌++◌, refl, sym, ◌∙◌, ap, subst, append_assoc, arith, eq-eqb, ne_eqb, true≢false, ⊎_elim}
 use Rattle.std.proofs.lemmas.Bool.{cond-true, cond-false}
 use Rattle.std.specs.List.{list_any}
-use Rattle.wbt_counter.specs.declared.counter.Count.{Count}
-use Rattle.wbt_counter.specs.declared.counter.Counter.{Counter}
+use Rattle.wbt_replay_order.proofs.Common.{Count, Counter, Reading, at_least_zero, DomainLimits, WriterRecord, Setting, held_of, limits_kept, count_kept, Found, Held, ReplayTurn, Todo, reading_of, held_as, AreAmong, is_limits_of, KeepsLoads, AreLoads, HoldsLoads, turn_readings}
 use Rattle.wbt_counter.specs.declared.counter.Counter.TheVariants.{Domain as ofDomain, Context as ofContext}
-use Rattle.wbt_counter.specs.declared.record.Reading.{Reading}
-use Rattle.wbt_counter.specs.History.{at_least_zero}
-use Rattle.wbt_grant.specs.declared.record.DomainLimits.{DomainLimits}
 use Rattle.wbt_grant.specs.declared.record.Kept.{Kept}
-use Rattle.wbt_grant.specs.declared.record.WriterRecord.{WriterRecord}
 use Rattle.wbt_grant.specs.Record.{keeping, keeping_limits, keeping_reading}
-use Rattle.wbt_grant.specs.Setting.{Setting}
-use Rattle.wbt_grant.specs.State.{kept_of, held_of}
+use Rattle.wbt_grant.specs.State.{kept_of}
 use Rattle.wbt_grant.proofs.Entries.{kept_of-with}
-use Rattle.wbt_replay_moves.specs.Definition.Counters.{limits_kept, count_kept}
-use Rattle.wbt_replay_moves.specs.declared.state.Found.{Found}
-use Rattle.wbt_replay_moves.specs.declared.state.Held.{Held}
-use Rattle.wbt_replay_moves.specs.declared.state.ReplayTurn.{ReplayTurn}
 use Rattle.wbt_replay_moves.specs.declared.todo.Step.TheVariants as item
-use Rattle.wbt_replay_moves.specs.declared.todo.Todo.{Todo}
 use Rattle.wbt_replay_moves.specs.declared.todo.Todo.TheVariants as todo
-use Rattle.wbt_replay_order.specs.Claims.Path.{reading_of, held_as, AreAmong, is_limits_of, is_count_of, is_context_count, KeepsLoads}
-use Rattle.wbt_replay_order.specs.Kept.Following.{IsNeeded, AreLoads, loaded_as, HoldsLoads, one_reading, group_readings, turn_readings}
+use Rattle.wbt_replay_order.specs.Claims.Path.{is_count_of, is_context_count}
+use Rattle.wbt_replay_order.specs.Kept.Following.{IsNeeded, loaded_as, one_reading, group_readings}
 
 -- ---- lists among lists
 

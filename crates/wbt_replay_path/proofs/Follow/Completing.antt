@@ -2,40 +2,20 @@
 use Rattle.std.proofs.Common.{◌≡◌, ℕ, ◌+◌, ◌<◌, negsuc, List, [], ◌∷◌, ◌++◌, length, All, refl, sym, ◌∙◌, ap, subst, arith}
 use Rattle.std.proofs.lemmas.List.Elements.{All-head}
 use Rattle.std.specs.List.{list_any}
-use Rattle.wbt_trace.specs.declared.trace.Trace.{Trace}
-use Rattle.wbt_counter.specs.Sums.{put}
-use Rattle.wbt_counter.proofs.Sums.{put_changes}
-use Rattle.wbt_book.specs.declared.event.Event.{Event}
+use Rattle.wbt_replay_order.proofs.Common.{Trace, put, put_changes, Event, Book, bits_after, times_in, CpuRecord, Setting, page_now, do_next, logged, owed_to, complete_page, complete_first, complete_in, complete_by, State, no_cpu, cpu_of, flusher_of, with_flusher, context_of, group_of, Cpu, Flusher, ReplayPhase, Whose, Todo, change_entry, is_decide, IsPageOf, IsFlusherOn, Suits, Tidy, ScansInside, OwesNothing, debts_in, FollowsCpu, Follows, Moves, by, Ranges, IsTurnOf, IsInside}
 use Rattle.wbt_book.specs.declared.event.Event.TheVariants as event
-use Rattle.wbt_book.specs.Book.{Book, bits_after}
-use Rattle.wbt_book.specs.Ledger.{times_in}
-use Rattle.wbt_grant.specs.declared.record.CpuRecord.{CpuRecord}
 use Rattle.wbt_grant.specs.declared.who.StepKind.TheVariants as kind
 use Rattle.wbt_grant.specs.declared.who.Word.TheVariants as word
-use Rattle.wbt_grant.specs.Setting.{Setting}
 use Rattle.wbt_grant.specs.State as throttle
 use Rattle.wbt_grant.specs.Kinds as relation
-use Rattle.wbt_grant.specs.Kinds.{page_now}
 use Rattle.wbt_grant.specs.Record as made
 use Rattle.wbt_journal.specs.declared.entry.Entry.TheVariants as entry
-use Rattle.wbt_replay_moves.specs.Definition.Cpu.{do_next, logged, owed_to}
-use Rattle.wbt_replay_moves.specs.Definition.Flight.{complete_page, complete_first, complete_in, complete_by, complete}
-use Rattle.wbt_replay_moves.specs.Definition.State.{State, no_cpu, cpu_of, flusher_of, with_flusher}
-use Rattle.wbt_rules.specs.Things.{context_of, group_of}
-use Rattle.wbt_replay_moves.specs.declared.state.Cpu.{Cpu}
-use Rattle.wbt_replay_moves.specs.declared.state.Flusher.{Flusher}
-use Rattle.wbt_replay_moves.specs.declared.state.ReplayPhase.{ReplayPhase}
+use Rattle.wbt_replay_moves.specs.Definition.Flight.{complete}
 use Rattle.wbt_replay_moves.specs.declared.state.ReplayPhase.TheVariants as phase
-use Rattle.wbt_replay_moves.specs.declared.state.Whose.{Whose}
 use Rattle.wbt_replay_moves.specs.declared.state.Whose.TheVariants as whose
 use Rattle.wbt_replay_moves.specs.declared.todo.Silent.TheVariants as silent
 use Rattle.wbt_replay_moves.specs.declared.todo.Step.TheVariants as item
-use Rattle.wbt_replay_moves.specs.declared.todo.Todo.{Todo}
 use Rattle.wbt_replay_moves.specs.declared.todo.Todo.TheVariants as todo
-use Rattle.wbt_replay_order.specs.Claims.Path.{change_entry, is_decide}
-use Rattle.wbt_replay_order.specs.Kept.Facts.{IsPageOf, IsFlusherOn}
-use Rattle.wbt_replay_order.specs.Kept.Following.{Suits, Tidy, ScansInside, OwesNothing, debts_in, FollowsCpu, Follows, Moves, by}
-use Rattle.wbt_replay_order.specs.Kept.Ranges.{Ranges, IsTurnOf, IsInside}
 use Rattle.wbt_replay_path.proofs.Follow.Debts.{none_owed}
 use Rattle.wbt_replay_order.proofs.Frames.Others.{one_cpu, stepping}
 use Rattle.wbt_replay_path.proofs.Follow.Held.{let_go_one, is_one, batched_here, owing, owed_append, owed_looked, owed_decides, owed_debts, owed_tidy}

@@ -5,51 +5,26 @@ use Rattle.std.proofs.lemmas.Int.{ints}
 use Rattle.std.proofs.lemmas.Bool.{cond-true}
 use Rattle.std.proofs.lemmas.List.{get_or-set_same}
 use Rattle.std.specs.List.{list_any}
-use Rattle.wbt_trace.specs.declared.trace.Trace.{Trace}
-use Rattle.wbt_counter.specs.declared.counter.Count.{Count}
-use Rattle.wbt_counter.specs.declared.counter.Counter.{Counter}
+use Rattle.wbt_replay_order.proofs.Common.{Trace, Count, Counter, Debt, ClearDue, Fold, Owed, domain_batch, context_batch, is_same, without_debt, debt_to, sum_of, put_changes, is_same-itself, times_in, CpuRecord, Setting, Rule, add, fold, fold_of, counted, clear, do_next, own_of, with_own, added, State, no_cpu, no_task, no_flusher, cpu_of, count_of, HasOwn, HasCount, Cpu, Flusher, ReplayTask, ReplayTurn, Whose, Todo, events_told, folds_told, founds_told, readings_told, HasTriples, AreAmong, is_decide, plain_entry, Suits, InCheck, Tidy, Looked, resumes, is_closing, bared, debts_in, own_in, count_in, FollowsCpu, Follows, Moves, by, IsCounter, Ranges, Held, DomainLimits, CheckEntry}
 use Rattle.wbt_counter.specs.declared.counter.Counter.TheVariants.{Domain as ofDomain, Context as ofContext}
-use Rattle.wbt_counter.specs.declared.record.Debt.{Debt}
-use Rattle.wbt_counter.specs.declared.record.Debt.TheVariants.{Event as OwesEvent, FoldDue, ClearDue}
-use Rattle.wbt_counter.specs.declared.record.Fold.{Fold}
-use Rattle.wbt_counter.specs.declared.record.Owed.{Owed}
+use Rattle.wbt_counter.specs.declared.record.Debt.TheVariants.{Event as OwesEvent, FoldDue}
 use Rattle.wbt_counter.specs.Account.{amount}
-use Rattle.wbt_counter.specs.Batch.{domain_batch, context_batch}
-use Rattle.wbt_counter.specs.Counters.{is_same, without_debt, with_debt, debt_to}
-use Rattle.wbt_counter.specs.History.{sum_of}
-use Rattle.wbt_counter.proofs.Sums.{put_changes}
-use Rattle.wbt_counter.proofs.Debts.{is_same-itself}
-use Rattle.wbt_book.specs.Ledger.{times_in}
-use Rattle.wbt_grant.specs.declared.record.CpuRecord.{CpuRecord}
+use Rattle.wbt_counter.specs.Counters.{with_debt}
 use Rattle.wbt_grant.specs.declared.who.StepKind.TheVariants as kind
 use Rattle.wbt_grant.specs.declared.who.Word.TheVariants as word
-use Rattle.wbt_grant.specs.Setting.{Setting, batch_of}
+use Rattle.wbt_grant.specs.Setting.{batch_of}
 use Rattle.wbt_grant.specs.State as throttle
 use Rattle.wbt_grant.specs.State.{writer_in as record_of}
 use Rattle.wbt_grant.specs.Kinds as relation
 use Rattle.wbt_grant.specs.Kinds.{local_after, local_left, own_now, shared_now, MayClear}
 use Rattle.wbt_grant.specs.Record as made
-use Rattle.wbt_grant.specs.Rule.{Rule}
 use Rattle.wbt_grant.proofs.CounterSteps.{clear_leaves}
 use Rattle.wbt_journal.specs.declared.entry.Entry.TheVariants as entry
-use Rattle.wbt_replay_moves.specs.Definition.Counters.{add, fold, fold_of, counted, clear}
 use Rattle.wbt_journal.specs.Machine.{batch_of as batch_in}
-use Rattle.wbt_replay_moves.specs.Definition.Cpu.{do_next, own_of, with_own, added}
-use Rattle.wbt_replay_moves.specs.Definition.State.{State, no_cpu, no_task, no_flusher, cpu_of, count_of}
-use Rattle.wbt_replay_moves.specs.Kept.Fit.{HasOwn, HasCount}
-use Rattle.wbt_replay_moves.specs.declared.state.Cpu.{Cpu}
-use Rattle.wbt_replay_moves.specs.declared.state.Flusher.{Flusher}
-use Rattle.wbt_replay_moves.specs.declared.state.ReplayTask.{ReplayTask}
-use Rattle.wbt_replay_moves.specs.declared.state.ReplayTurn.{ReplayTurn}
-use Rattle.wbt_replay_moves.specs.declared.state.Whose.{Whose}
 use Rattle.wbt_replay_moves.specs.declared.state.Whose.TheVariants as whose
 use Rattle.wbt_replay_moves.specs.declared.todo.Step.TheVariants as item
-use Rattle.wbt_replay_moves.specs.declared.todo.Todo.{Todo}
 use Rattle.wbt_replay_moves.specs.declared.todo.Todo.TheVariants as todo
-use Rattle.wbt_replay_order.specs.Claims.Path.{events_told, folds_told, founds_told, readings_told, HasTriples, AreAmong, is_decide, plain_entry}
-use Rattle.wbt_replay_order.specs.Kept.Following.{Suits, InCheck, Tidy, Looked, resumes, is_closing, bared, debts_in, page_of, own_in, count_in, FollowsCpu, Follows, Moves, by}
-use Rattle.wbt_replay_order.specs.Kept.Turns.{IsCounter}
-use Rattle.wbt_replay_order.specs.Kept.Ranges.{Ranges}
+use Rattle.wbt_replay_order.specs.Kept.Following.{page_of}
 use Rattle.wbt_replay_order.proofs.Facts.Lists.{twice}
 use Rattle.wbt_replay_path.proofs.Follow.Debts.{bared_without, owes_event, owes_fold, owes_clear}
 use Rattle.wbt_replay_order.proofs.Frames.Others.{IsTurnOn, one_cpu, stepping}
@@ -57,9 +32,6 @@ use Rattle.wbt_replay_order.proofs.Lists.Places.{cond_ap}
 use Rattle.wbt_replay_path.proofs.Follow.Owned.{own_is, Owned, owned, own_at, own_elsewhere, count_is, shared, first_debt, first_gone, cleared_next}
 use Rattle.wbt_replay_order.proofs.Frames.Quiet.{same_shared, plainly, all_same, no_check, calm}
 use Rattle.wbt_replay_path.proofs.Follow.Tells.{events_more, folds_more, founds_more}
-use Rattle.wbt_replay_moves.specs.declared.state.Held.{Held}
-use Rattle.wbt_grant.specs.declared.record.DomainLimits.{DomainLimits}
-use Rattle.wbt_journal.specs.declared.entry.CheckEntry.{CheckEntry}
 
 -- what a step of a CPU that is about no page leaves of its record
 abbrev pub deeds : (r : CpuRecord) → List ℕ × ℕ × List ℕ

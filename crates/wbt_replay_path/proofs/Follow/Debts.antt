@@ -1,12 +1,9 @@
 -- What a list of debts says with the numbers that are to be cleared left out, which a CPU's list of what to do doesn't name.
 use Rattle.std.proofs.Common.{◌≡◌, cond, not, ℤ, pos, List, [], ◌∷◌, refl, sym, ◌∙◌, ap}
-use Rattle.wbt_counter.specs.declared.counter.Counter.{Counter}
-use Rattle.wbt_counter.specs.declared.record.Debt.{Debt}
-use Rattle.wbt_counter.specs.declared.record.Debt.TheVariants.{Free, Event, FoldDue, ClearDue}
-use Rattle.wbt_counter.specs.declared.record.Owed.{Owed}
+use Rattle.wbt_replay_order.proofs.Common.{Counter, Debt, ClearDue, Owed, is_same, without_debt, debt_to, bared}
+use Rattle.wbt_counter.specs.declared.record.Debt.TheVariants.{Free, Event, FoldDue}
 use Rattle.wbt_counter.specs.Account.{to_clear}
-use Rattle.wbt_counter.specs.Counters.{is_same, without_debt, debt_to}
-use Rattle.wbt_replay_order.specs.Kept.Following.{bare, bared}
+use Rattle.wbt_replay_order.specs.Kept.Following.{bare}
 use Rattle.wbt_replay_order.proofs.Lists.Places.{cond_ap}
 
 pub bared_without : (x : Counter) (debts : List Owed) → bared (without_debt x debts) ≡ without_debt x (bared debts)

@@ -6,65 +6,33 @@ use Rattle.std.proofs.lemmas.Bool.{cases_Bool, cond-true, cond-false, le-leb}
 use Rattle.std.proofs.lemmas.List.{get_or-set_same}
 use Rattle.std.specs.List.{list_any}
 use Rattle.wbt_num.specs.Limits.{IsLawful}
-use Rattle.wbt_num.specs.declared.limits.Limits.{Limits}
-use Rattle.wbt_trace.specs.declared.trace.Trace.{Trace}
+use Rattle.wbt_replay_order.proofs.Common.{Limits, Trace, at_least_zero, put, times_in, put_changes, Reading, CpuRecord, DomainLimits, WriterRecord, Setting, holding, CheckEntry, Entry, Decision, Reads, greatest_reading, decision_for, checked_writer, writer_in, global_line, cgroup_line, decision_at, check_of, told_task, decide_so, decide_for, decide_by, checked, State, no_cpu, cpu_of, task_of, writeback_of, is_strict, group_of, Cpu, ReplayTask, ReplayTurn, Whose, Todo, reads_of, cgroup_reads, limits_of, WereHeld, longer_none, reading_of, readings_with, readings_told, HasTriples, triples_told, AreAmong, is_decide, is_limits_of, KeepsLoads, writer_at, part_used, task_cpu, Facts, IsTaskOn, Suits, InCheck, HoldsLoads, turn_readings, bared, FollowsCpu, Follows, Moves, grants, Ranges, IsTurnOf, IsWorker}
 use Rattle.wbt_counter.specs.Batch.{stat_error}
-use Rattle.wbt_counter.specs.History.{at_least_zero}
 use Rattle.wbt_counter.specs.Sums as sums
-use Rattle.wbt_counter.specs.Sums.{put}
 use Rattle.wbt_counter.specs.Through.{fits, lets_through}
-use Rattle.wbt_book.specs.Ledger.{times_in}
-use Rattle.wbt_counter.proofs.Sums.{put_changes}
 use Rattle.wbt_counter.specs.declared.counter.Counter.TheVariants.{Context as ofContext}
-use Rattle.wbt_counter.specs.declared.record.Reading.{Reading}
 use Rattle.wbt_grant.specs.Bound.{hard_in, is_let_through}
-use Rattle.wbt_grant.specs.declared.record.CpuRecord.{CpuRecord}
-use Rattle.wbt_grant.specs.declared.record.DomainLimits.{DomainLimits}
-use Rattle.wbt_grant.specs.declared.record.WriterRecord.{WriterRecord}
-use Rattle.wbt_grant.specs.Setting.{Setting}
 use Rattle.wbt_grant.specs.State as throttle
-use Rattle.wbt_grant.specs.State.{holding, kept_of, writer_in as record_of}
+use Rattle.wbt_grant.specs.State.{kept_of, writer_in as record_of}
 use Rattle.wbt_grant.specs.Kinds as relation
 use Rattle.wbt_grant.specs.Kinds.{MayGrant}
 use Rattle.wbt_grant.specs.Record as made
 use Rattle.wbt_journal.specs.Checks.{cgroup_read}
-use Rattle.wbt_journal.specs.declared.entry.CheckEntry.{CheckEntry}
-use Rattle.wbt_journal.specs.declared.entry.Entry.{Entry}
 use Rattle.wbt_journal.specs.declared.entry.Entry.TheVariants as entry
 use Rattle.wbt_pause.specs.Claims.{MayBeGranted}
-use Rattle.wbt_pause.specs.declared.decision.Decision.{Decision}
-use Rattle.wbt_pause.specs.declared.reads.Reads.{Reads}
 use Rattle.wbt_pause.specs.declared.decision.Kind.{Kind}
 use Rattle.wbt_pause.specs.declared.decision.Kind.TheVariants as decided
 use Rattle.wbt_strict.proofs.Deciding.{granted_unless_waiting, grants_on_small}
-use Rattle.wbt_strict.specs.Bound.{greatest_reading}
-use Rattle.wbt_strict.specs.Decision.{decision_for, greatest_part}
-use Rattle.wbt_task.specs.History.{checked_writer, due_again}
+use Rattle.wbt_strict.specs.Decision.{greatest_part}
+use Rattle.wbt_task.specs.History.{due_again}
 use Rattle.wbt_task.specs.declared.allowance.Due.TheVariants as due
-use Rattle.wbt_replay_moves.specs.Definition.Check.{writer_in, global_line, cgroup_line, reads_of as reads_for, decision_at, check_of, told_task, decide_so, decide_for, decide_by, decide}
-use Rattle.wbt_replay_moves.specs.Definition.Cpu.{checked}
-use Rattle.wbt_replay_moves.specs.Definition.State.{State, no_cpu, cpu_of, task_of, writeback_of}
-use Rattle.wbt_rules.specs.Strict.{is_strict}
-use Rattle.wbt_rules.specs.Things.{group_of}
-use Rattle.wbt_replay_moves.specs.declared.state.Cpu.{Cpu}
-use Rattle.wbt_replay_moves.specs.declared.state.ReplayTask.{ReplayTask}
-use Rattle.wbt_replay_moves.specs.declared.state.ReplayTurn.{ReplayTurn}
-use Rattle.wbt_replay_moves.specs.declared.state.Whose.{Whose}
+use Rattle.wbt_replay_moves.specs.Definition.Check.{reads_of as reads_for, decide}
 use Rattle.wbt_replay_moves.specs.declared.state.Whose.TheVariants as whose
 use Rattle.wbt_replay_moves.specs.declared.todo.Silent.TheVariants as silent
-use Rattle.wbt_replay_moves.specs.declared.todo.Todo.{Todo}
 use Rattle.wbt_replay_moves.specs.declared.todo.Todo.TheVariants as todo
-use Rattle.wbt_journal.specs.Counts.{reads_of, cgroup_reads}
-use Rattle.wbt_run_laws.specs.Held.{limits_of, WereHeld}
 use Rattle.wbt_run_laws.proofs.Holding.{held_more}
-use Rattle.wbt_run_laws.proofs.Lists.{longer_none}
-use Rattle.wbt_replay_order.specs.Claims.Path.{reading_of, line_readings, readings_with, readings_told, HasTriples, triples_told, AreAmong, is_decide, is_limits_of, KeepsLoads}
-use Rattle.wbt_replay_order.specs.Claims.Setting.{writer_at}
-use Rattle.wbt_replay_order.specs.Definition.Strict.{part_used}
-use Rattle.wbt_replay_order.specs.Definition.Tasks.{task_cpu}
-use Rattle.wbt_replay_order.specs.Kept.Facts.{Facts, IsTaskOn}
-use Rattle.wbt_replay_order.specs.Kept.Following.{Suits, InCheck, HoldsLoads, turn_readings, bared, FollowsCpu, Follows, HasSmallReading, Moves, grants}
-use Rattle.wbt_replay_order.specs.Kept.Ranges.{Ranges, IsTurnOf, IsWorker}
+use Rattle.wbt_replay_order.specs.Claims.Path.{line_readings}
+use Rattle.wbt_replay_order.specs.Kept.Following.{HasSmallReading}
 use Rattle.wbt_replay_order.proofs.Facts.Lists.{twice}
 use Rattle.wbt_replay_order.proofs.Frames.Others.{IsTurnOn, popped}
 use Rattle.wbt_replay_order.proofs.Frames.Quiet.{same_shared, plainly, quietly, passes, calm}

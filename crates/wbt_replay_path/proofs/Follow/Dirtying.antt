@@ -4,50 +4,23 @@ use Rattle.std.proofs.Math.ListN.{set}
 use Rattle.std.proofs.lemmas.Bool.{cond-true, cond-false}
 use Rattle.std.proofs.lemmas.List.{get_or-set_same}
 use Rattle.std.specs.List.{list_any}
-use Rattle.wbt_trace.specs.WriterList.{is_writer}
-use Rattle.wbt_trace.specs.declared.trace.Trace.{Trace}
+use Rattle.wbt_replay_order.proofs.Common.{is_writer, Trace, put, put_changes, Event, Book, bits_after, CpuRecord, WriterRecord, Setting, holding, StepEntry, wrote_page, wrote_writer, CpuLocal, Writer, writer_in, writer_of, do_next, logged, log_at, owed_to, State, no_cpu, no_task, cpu_of, task_of, with_task, plain_step, context_of, group_of, without_page, counted_page, counted_local, dirty_fresh, dirty_page, dirty_next, dirty_by, dirty, Cpu, ReplayTask, Whose, ReplayWork, Todo, plain_entry, change_entry, is_decide, writers_in, writer_at, task_cpu, Facts, IsPageOf, IsTaskOn, Suits, Tidy, OwesNothing, is_closing, debts_in, FollowsCpu, Follows, Moves, by, Ranges, IsTurnOf, IsWorker}
 use Rattle.wbt_counter.specs.Sums as sums
-use Rattle.wbt_counter.specs.Sums.{put}
-use Rattle.wbt_counter.proofs.Sums.{put_changes}
-use Rattle.wbt_book.specs.declared.event.Event.{Event}
 use Rattle.wbt_book.specs.declared.event.Event.TheVariants as event
-use Rattle.wbt_book.specs.Book.{Book, bits_after}
-use Rattle.wbt_grant.specs.declared.record.CpuRecord.{CpuRecord}
-use Rattle.wbt_grant.specs.declared.record.WriterRecord.{WriterRecord}
 use Rattle.wbt_grant.specs.declared.who.StepKind.TheVariants as kind
-use Rattle.wbt_grant.specs.Setting.{Setting}
 use Rattle.wbt_grant.specs.State as throttle
-use Rattle.wbt_grant.specs.State.{holding, writer_in as record_of}
+use Rattle.wbt_grant.specs.State.{writer_in as record_of}
 use Rattle.wbt_grant.specs.Kinds as relation
 use Rattle.wbt_grant.specs.Kinds.{dirty_step, MayDirty}
 use Rattle.wbt_grant.specs.Record as made
 use Rattle.wbt_journal.specs.declared.entry.Entry.TheVariants as entry
-use Rattle.wbt_journal.specs.declared.step.StepEntry.{StepEntry}
-use Rattle.wbt_task.specs.History.{wrote_page, wrote_writer}
-use Rattle.wbt_task.specs.declared.allowance.CpuLocal.{CpuLocal}
 use Rattle.wbt_task.specs.declared.allowance.Due.TheVariants as due
-use Rattle.wbt_task.specs.declared.history.Writer.{Writer}
-use Rattle.wbt_replay_moves.specs.Definition.Check.{writer_in, writer_of}
-use Rattle.wbt_replay_moves.specs.Definition.Cpu.{do_next, logged, log_at, owed_to}
-use Rattle.wbt_replay_moves.specs.Definition.State.{State, no_cpu, no_task, cpu_of, task_of, with_task, plain_step}
 use Rattle.wbt_rules.specs.Pace.{since_after}
-use Rattle.wbt_rules.specs.Things.{context_of, group_of}
-use Rattle.wbt_replay_moves.specs.Definition.Writer.{without_page, counted_page, counted_local, dirty_fresh, dirty_page, dirty_next, dirty_by, dirty}
-use Rattle.wbt_replay_moves.specs.declared.state.Cpu.{Cpu}
-use Rattle.wbt_replay_moves.specs.declared.state.ReplayTask.{ReplayTask}
-use Rattle.wbt_replay_moves.specs.declared.state.Whose.{Whose}
 use Rattle.wbt_replay_moves.specs.declared.state.Whose.TheVariants as whose
-use Rattle.wbt_replay_moves.specs.declared.state.ReplayWork.{ReplayWork}
 use Rattle.wbt_replay_moves.specs.declared.state.ReplayWork.TheVariants as work
 use Rattle.wbt_replay_moves.specs.declared.todo.Step.TheVariants as item
-use Rattle.wbt_replay_moves.specs.declared.todo.Todo.{Todo}
 use Rattle.wbt_replay_moves.specs.declared.todo.Todo.TheVariants as todo
-use Rattle.wbt_replay_order.specs.Claims.Path.{plain_entry, change_entry, is_decide}
-use Rattle.wbt_replay_order.specs.Claims.Setting.{writers_in, writer_at}
-use Rattle.wbt_replay_order.specs.Definition.Tasks.{task_cpu}
-use Rattle.wbt_replay_order.specs.Kept.Facts.{Facts, IsPageOf, IsTaskOn}
-use Rattle.wbt_replay_order.specs.Kept.Following.{Suits, Tidy, OwesNothing, is_closing, debts_in, FollowsCpu, Follows, Moves, by}
-use Rattle.wbt_replay_order.specs.Kept.Ranges.{Ranges, IsTurnOf, IsWorker, WritesInside}
+use Rattle.wbt_replay_order.specs.Kept.Ranges.{WritesInside}
 use Rattle.wbt_replay_order.proofs.Facts.Lists.{either, twice}
 use Rattle.wbt_replay_path.proofs.Follow.Debts.{none_owed}
 use Rattle.wbt_replay_order.proofs.Frames.Others.{IsTurnOn, one_cpu, stepping}

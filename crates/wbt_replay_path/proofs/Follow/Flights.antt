@@ -2,35 +2,17 @@
 use Rattle.std.proofs.Common.{◌≡◌, ℕ, zero, suc, ◌+◌, ◌<◌, true, false, cond, eqb, List, ◌∷◌, length, refl, sym, ◌∙◌, ap, subst, arith}
 use Rattle.std.proofs.Math.ListN.{set}
 use Rattle.std.proofs.lemmas.List.{set-get_or}
-use Rattle.wbt_trace.specs.declared.trace.Trace.{Trace}
-use Rattle.wbt_flex.specs.Proportions.{added, aged, fraction_of, may_be_added}
-use Rattle.wbt_flex.specs.declared.half.Half.{Half}
-use Rattle.wbt_grant.specs.Setting.{Setting}
+use Rattle.wbt_replay_order.proofs.Common.{Trace, aged, fraction_of, may_be_added, Half, Setting, part_in, share, share_group, with_written, landed, land_in, land_by, FLUSHER_REST, fly, hand_over_in, hand_over_by, done_at, State, no_flusher, cpu_of, flusher_of, domain_of, with_domain, writeback_of, with_writeback, in_phase, flusher_device, context_of, group_of, max_share, Scan, Cpu, Domain, Flusher, ReplayPhase, ReplayTask, Writeback, Whose, Silent, Todo, IsFlusherOn, Suits, ScansInside, AreLoads, FollowsCpu, Follows, Moves, Ranges, IsTurnOf}
+use Rattle.wbt_flex.specs.Proportions.{added}
 use Rattle.wbt_grant.specs.State as throttle
 use Rattle.wbt_journal.specs.declared.entry.Entry.TheVariants as entry
-use Rattle.wbt_replay_moves.specs.Definition.Flight.{part_in, with_part, share, share_group, with_written, landed, land_in, land_by, land}
-use Rattle.wbt_rules.specs.declared.moments.TheConstants.{FLUSHER_REST}
-use Rattle.wbt_replay_moves.specs.Definition.Scan.{fly, hand_over_in, hand_over_by, hand_over}
-use Rattle.wbt_io.specs.Moments.{done_at}
-use Rattle.wbt_replay_moves.specs.Definition.State.{State, no_flusher, cpu_of, flusher_of, domain_of, with_domain, writeback_of, with_writeback, in_phase}
-use Rattle.wbt_rules.specs.Things.{flusher_device, context_of, group_of, max_share, rate_of}
-use Rattle.wbt_rules.specs.declared.scan.Scan.{Scan}
-use Rattle.wbt_replay_moves.specs.declared.state.Cpu.{Cpu}
-use Rattle.wbt_replay_moves.specs.declared.state.Domain.{Domain}
-use Rattle.wbt_replay_moves.specs.declared.state.Flusher.{Flusher}
-use Rattle.wbt_replay_moves.specs.declared.state.ReplayPhase.{ReplayPhase}
+use Rattle.wbt_replay_moves.specs.Definition.Flight.{with_part, land}
+use Rattle.wbt_replay_moves.specs.Definition.Scan.{hand_over}
+use Rattle.wbt_rules.specs.Things.{rate_of}
 use Rattle.wbt_replay_moves.specs.declared.state.ReplayPhase.TheVariants as phase
-use Rattle.wbt_replay_moves.specs.declared.state.ReplayTask.{ReplayTask}
-use Rattle.wbt_replay_moves.specs.declared.state.Writeback.{Writeback}
-use Rattle.wbt_replay_moves.specs.declared.state.Whose.{Whose}
 use Rattle.wbt_replay_moves.specs.declared.state.Whose.TheVariants as whose
-use Rattle.wbt_replay_moves.specs.declared.todo.Silent.{Silent}
 use Rattle.wbt_replay_moves.specs.declared.todo.Silent.TheVariants as silent
-use Rattle.wbt_replay_moves.specs.declared.todo.Todo.{Todo}
 use Rattle.wbt_replay_moves.specs.declared.todo.Todo.TheVariants as todo
-use Rattle.wbt_replay_order.specs.Kept.Facts.{IsFlusherOn}
-use Rattle.wbt_replay_order.specs.Kept.Following.{Suits, ScansInside, AreLoads, FollowsCpu, Follows, Moves}
-use Rattle.wbt_replay_order.specs.Kept.Ranges.{Ranges, IsTurnOf}
 use Rattle.wbt_replay_order.proofs.Facts.Lists.{either}
 use Rattle.wbt_replay_path.proofs.Follow.Alike.{Alike, alike_log, alike_context, alike_domain}
 use Rattle.wbt_replay_order.proofs.Frames.Others.{popped}

@@ -2,16 +2,11 @@
 use Rattle.std.proofs.Common.{◌≡◌, ℕ, zero, suc, ◌+◌, false, List, [], ◌∷◌, ◌++◌, length, refl, sym, subst, ◌∙◌}
 use Rattle.std.proofs.lemmas.List.{append_assoc}
 use Rattle.std.specs.List.{list_any}
-use Rattle.wbt_counter.specs.declared.counter.Counter.{Counter}
-use Rattle.wbt_counter.specs.declared.counter.Counter.TheVariants.{Domain, Context}
-use Rattle.wbt_replay_moves.specs.Definition.Idle.{domain_loads, measure, measures_of, weighs_of}
-use Rattle.wbt_replay_moves.specs.Definition.State.{State, flusher_of}
+use Rattle.wbt_replay_order.proofs.Common.{Counter, Context, domain_loads, measure, measures_of, weighs_of, State, flusher_of, Todo, is_decide, Tidy, OwesNothing, resumes, is_closing, debts_in}
+use Rattle.wbt_counter.specs.declared.counter.Counter.TheVariants.{Domain}
 use Rattle.wbt_replay_moves.specs.declared.todo.Silent.TheVariants as silent
 use Rattle.wbt_replay_moves.specs.declared.todo.Step.TheVariants as item
-use Rattle.wbt_replay_moves.specs.declared.todo.Todo.{Todo}
 use Rattle.wbt_replay_moves.specs.declared.todo.Todo.TheVariants as todo
-use Rattle.wbt_replay_order.specs.Claims.Path.{is_decide}
-use Rattle.wbt_replay_order.specs.Kept.Following.{Tidy, OwesNothing, resumes, is_closing, debts_in}
 use Rattle.wbt_replay_order.proofs.Facts.Lists.{either}
 
 pub record Harmless (items : List Todo) : Type 0 where

@@ -6,31 +6,16 @@ use Rattle.std.proofs.lemmas.List.{get_or-set_same, get_or-set_other}
 use Rattle.std.specs.List.{list_any}
 use mathlib.Core.Logic.{dite}
 use native.Mathlib.Decide.{ℕ_discrete}
-use Rattle.wbt_trace.specs.declared.trace.Trace.{Trace}
-use Rattle.wbt_counter.specs.declared.counter.Counter.{Counter}
+use Rattle.wbt_replay_order.proofs.Common.{Trace, Counter, Owed, without_debt, one_if, total_same, Bits, times_in, CpuRecord, Setting, times_in-append, owed_to, no_flusher, flusher_cpu, group_of, Flusher, Todo, is_decide, Suits, Tidy, Looked, OwesNothing, bared, debts_in, is_closing, batch_on, batched, Found}
 use Rattle.wbt_counter.specs.declared.counter.Counter.TheVariants.{Domain as ofDomain, Context as ofContext}
 use Rattle.wbt_counter.specs.declared.record.Debt.TheVariants.{Event as OwesEvent}
-use Rattle.wbt_counter.specs.declared.record.Owed.{Owed}
-use Rattle.wbt_counter.specs.Counters.{without_debt}
-use Rattle.wbt_counter.specs.Sums.{one_if}
-use Rattle.wbt_counter.proofs.Sums.{total_same, total_change}
-use Rattle.wbt_book.specs.Book.{Bits}
-use Rattle.wbt_book.specs.Ledger.{times_in, let_go}
-use Rattle.wbt_grant.specs.declared.record.CpuRecord.{CpuRecord}
-use Rattle.wbt_grant.specs.Setting.{Setting, counters_of}
+use Rattle.wbt_counter.proofs.Sums.{total_change}
+use Rattle.wbt_book.specs.Ledger.{let_go}
+use Rattle.wbt_grant.specs.Setting.{counters_of}
 use Rattle.wbt_grant.specs.Record as made
-use Rattle.wbt_grant.proofs.Entries.{times_in-append}
-use Rattle.wbt_replay_moves.specs.Definition.Cpu.{owed_to}
-use Rattle.wbt_replay_moves.specs.Definition.State.{no_flusher}
-use Rattle.wbt_rules.specs.Things.{flusher_cpu, group_of}
-use Rattle.wbt_replay_moves.specs.declared.state.Flusher.{Flusher}
 use Rattle.wbt_replay_moves.specs.declared.todo.Step.TheVariants as item
-use Rattle.wbt_replay_moves.specs.declared.todo.Todo.{Todo}
 use Rattle.wbt_replay_moves.specs.declared.todo.Todo.TheVariants as todo
-use Rattle.wbt_replay_order.specs.Claims.Path.{is_decide}
-use Rattle.wbt_replay_order.specs.Kept.Following.{Suits, Tidy, Looked, OwesNothing, bared, debts_in, is_closing, batch_on, batched}
 use Rattle.wbt_replay_order.proofs.Facts.Lists.{either}
-use Rattle.wbt_replay_moves.specs.declared.state.Found.{Found}
 
 -- ---- letting go
 

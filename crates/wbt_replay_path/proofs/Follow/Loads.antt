@@ -4,48 +4,23 @@ use Rattle.std.proofs.lemmas.List.Elements.{All-cons}
 use Rattle.std.proofs.Math.ListN.{set}
 use Rattle.std.proofs.lemmas.Bool.{cases_Bool, cond-true, cond_both}
 use Rattle.std.specs.List.{list_any}
-use Rattle.wbt_trace.specs.declared.trace.Trace.{Trace}
-use Rattle.wbt_num.specs.declared.limits.Limits.{Limits}
-use Rattle.wbt_counter.specs.declared.counter.Count.{Count}
-use Rattle.wbt_counter.specs.declared.counter.Counter.{Counter}
+use Rattle.wbt_replay_order.proofs.Common.{Trace, Limits, Count, Counter, sum_of, at_least_zero, put_changes, CpuRecord, DomainLimits, WriterRecord, Setting, Reading, Rule, held_of, domains, word_of, held_after, limits_kept, holds, load_first, load_middle, load_limits, count_kept, load_count, State, no_cpu, no_held, no_task, cpu_of, domain_of, count_of, group_of, Cpu, Found, Held, ReplayTurn, Whose, Todo, is_decide, plain_entry, readings_told, AreAmong, KeepsLoads, reading_of, FoldsBehind, writer_at, task_cpu, Suits, AreLoads, InCheck, turn_readings, count_in, FollowsCpu, Follows, Moves, by, Ranges, IsTurnOf, held_as}
 use Rattle.wbt_counter.specs.declared.counter.Counter.TheVariants.{Domain as ofDomain, Context as ofContext}
-use Rattle.wbt_counter.specs.History.{sum_of, at_least_zero}
-use Rattle.wbt_counter.proofs.Sums.{put_changes}
-use Rattle.wbt_grant.specs.declared.record.CpuRecord.{CpuRecord}
-use Rattle.wbt_grant.specs.declared.record.DomainLimits.{DomainLimits}
-use Rattle.wbt_grant.specs.declared.record.WriterRecord.{WriterRecord}
 use Rattle.wbt_grant.specs.declared.who.StepKind.TheVariants as kind
 use Rattle.wbt_grant.specs.declared.who.Who.{Who}
 use Rattle.wbt_grant.specs.declared.who.Who.TheVariants as who
 use Rattle.wbt_grant.specs.declared.who.Word.TheVariants as word
-use Rattle.wbt_grant.specs.Setting.{Setting}
-use Rattle.wbt_counter.specs.declared.record.Reading.{Reading}
-use Rattle.wbt_grant.specs.Rule.{Rule}
 use Rattle.wbt_grant.proofs.Whole.{load_is_fresh}
 use Rattle.wbt_grant.specs.State as throttle
-use Rattle.wbt_grant.specs.State.{writer_in as record_of, held_of, found_of}
+use Rattle.wbt_grant.specs.State.{writer_in as record_of, found_of}
 use Rattle.wbt_grant.specs.Kinds as relation
 use Rattle.wbt_grant.specs.Kinds.{sequence_now, thresh_now, has_sequence, has_both, limited_by, shared_now, counted_by}
 use Rattle.wbt_grant.specs.Record as made
 use Rattle.wbt_grant.proofs.Entries.{writer_number}
-use Rattle.wbt_journal.specs.Machine.{domains}
-use Rattle.wbt_replay_moves.specs.Definition.Counters.{word_of, held_after, limits_kept, holds, load_first, load_middle, load_limits, count_kept, load_count}
-use Rattle.wbt_replay_moves.specs.Definition.State.{State, no_cpu, no_held, no_task, cpu_of, domain_of, count_of}
-use Rattle.wbt_rules.specs.Things.{group_of}
-use Rattle.wbt_replay_moves.specs.declared.state.Cpu.{Cpu}
-use Rattle.wbt_replay_moves.specs.declared.state.Found.{Found}
-use Rattle.wbt_replay_moves.specs.declared.state.Held.{Held}
-use Rattle.wbt_replay_moves.specs.declared.state.ReplayTurn.{ReplayTurn}
-use Rattle.wbt_replay_moves.specs.declared.state.Whose.{Whose}
 use Rattle.wbt_replay_moves.specs.declared.state.Whose.TheVariants as whose
 use Rattle.wbt_replay_moves.specs.declared.todo.Step.TheVariants as item
-use Rattle.wbt_replay_moves.specs.declared.todo.Todo.{Todo}
 use Rattle.wbt_replay_moves.specs.declared.todo.Todo.TheVariants as todo
-use Rattle.wbt_replay_order.specs.Claims.Path.{is_decide, plain_entry, readings_told, AreAmong, KeepsLoads, reading_of, FoldsBehind}
-use Rattle.wbt_replay_order.specs.Claims.Setting.{writer_at}
-use Rattle.wbt_replay_order.specs.Definition.Tasks.{task_cpu}
-use Rattle.wbt_replay_order.specs.Kept.Following.{Suits, AreLoads, InCheck, HasMiddle, page_of, turn_readings, count_in, FollowsCpu, Follows, Moves, by}
-use Rattle.wbt_replay_order.specs.Kept.Ranges.{Ranges, IsTurnOf}
+use Rattle.wbt_replay_order.specs.Kept.Following.{HasMiddle, page_of}
 use Rattle.wbt_replay_order.proofs.Facts.Lists.{twice}
 use Rattle.wbt_replay_order.proofs.Lists.Places.{among_all, among_itself}
 use Rattle.wbt_replay_path.proofs.Follow.Checks.{among_more, first_readings, middle_readings, limits_readings, limits_holds, limits_keeps, count_holds, count_readings, count_keeps}
@@ -55,7 +30,6 @@ use Rattle.wbt_replay_path.proofs.Follow.Writers.{writer_with}
 use Rattle.wbt_replay_order.proofs.Frames.Others.{IsTurnOn, stepping}
 use Rattle.wbt_replay_path.proofs.Follow.Owned.{count_is}
 use Rattle.wbt_replay_order.proofs.Frames.Quiet.{same_shared, plainly, all_same}
-use Rattle.wbt_replay_order.specs.Claims.Path.{held_as}
 
 -- ---- the writer's record
 

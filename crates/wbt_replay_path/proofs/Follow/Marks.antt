@@ -3,33 +3,19 @@ use Rattle.std.proofs.Common.{◌≡◌, ℕ, ◌+◌, ◌<◌, true, false, con
 use Rattle.std.proofs.Math.ListN.{set}
 use Rattle.std.proofs.lemmas.Bool.{cases_Bool, cond-true, cond-false}
 use Rattle.std.proofs.lemmas.List.{get_or_default}
-use Rattle.wbt_trace.specs.declared.trace.Trace.{Trace}
-use Rattle.wbt_counter.proofs.Sums.{put_changes}
-use Rattle.wbt_grant.specs.declared.record.CpuRecord.{CpuRecord}
+use Rattle.wbt_replay_order.proofs.Common.{Trace, put_changes, CpuRecord, one_if, Setting, scan_of, unmark_of, unmark_in, unmark_by, State, cpu_of, flusher_of, plain_step, inode_of, device_of, device_at, flusher_device, mark, Cpu, Flusher, ReplayPhase, Whose, Todo, Facts, IsFlusherOn, Suits, ScansInside, FollowsCpu, Follows, Moves, by, Ranges, IsTurnOf, IsInside}
 use Rattle.wbt_grant.specs.declared.who.StepKind.TheVariants as kind
 use Rattle.wbt_grant.specs.declared.who.Word.TheVariants as word
-use Rattle.wbt_counter.specs.Sums.{one_if}
-use Rattle.wbt_grant.specs.Setting.{Setting}
 use Rattle.wbt_grant.specs.State as throttle
 use Rattle.wbt_grant.specs.Kinds as relation
 use Rattle.wbt_grant.specs.Record as made
-use Rattle.wbt_replay_moves.specs.Definition.Idle.{start_of, scan_of, unmark_of, unmark_in, unmark_by, unmark}
-use Rattle.wbt_replay_moves.specs.Definition.State.{State, cpu_of, flusher_of, plain_step, queued}
-use Rattle.wbt_rules.specs.Things.{inode_of, device_of, device_at, flusher_device}
+use Rattle.wbt_replay_moves.specs.Definition.Idle.{start_of, unmark}
+use Rattle.wbt_replay_moves.specs.Definition.State.{queued}
 use Rattle.wbt_rules.proofs.Places.{page_inside}
-use Rattle.wbt_replay_moves.specs.Definition.Writer.{mark}
-use Rattle.wbt_replay_moves.specs.declared.state.Cpu.{Cpu}
-use Rattle.wbt_replay_moves.specs.declared.state.Flusher.{Flusher}
-use Rattle.wbt_replay_moves.specs.declared.state.ReplayPhase.{ReplayPhase}
 use Rattle.wbt_replay_moves.specs.declared.state.ReplayPhase.TheVariants as phase
-use Rattle.wbt_replay_moves.specs.declared.state.Whose.{Whose}
 use Rattle.wbt_replay_moves.specs.declared.state.Whose.TheVariants as whose
 use Rattle.wbt_replay_moves.specs.declared.todo.Step.TheVariants as item
-use Rattle.wbt_replay_moves.specs.declared.todo.Todo.{Todo}
 use Rattle.wbt_replay_moves.specs.declared.todo.Todo.TheVariants as todo
-use Rattle.wbt_replay_order.specs.Kept.Facts.{Facts, IsFlusherOn}
-use Rattle.wbt_replay_order.specs.Kept.Following.{Suits, ScansInside, FollowsCpu, Follows, Moves, by}
-use Rattle.wbt_replay_order.specs.Kept.Ranges.{Ranges, IsTurnOf, IsInside}
 use Rattle.wbt_replay_order.proofs.Facts.Lists.{either}
 use Rattle.wbt_replay_order.proofs.Frames.Others.{stepping}
 use Rattle.wbt_replay_path.proofs.Follow.Held.{batched_same}

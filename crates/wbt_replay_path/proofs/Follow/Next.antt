@@ -2,14 +2,8 @@
 use Rattle.std.proofs.Common.{◌≡◌, ℕ, ◌+◌, ◌<◌, false, List, ◌∷◌, length, ap, subst, arith}
 use Rattle.std.proofs.lemmas.List.{get_or-set_same}
 use Rattle.std.specs.List.{list_any}
-use Rattle.wbt_trace.specs.declared.trace.Trace.{Trace}
-use Rattle.wbt_grant.specs.Setting.{Setting}
+use Rattle.wbt_replay_order.proofs.Common.{Trace, Setting, State, no_cpu, cpu_of, Cpu, Todo, Suits, Tidy, AreLoads, resumes, is_closing, debts_in, FollowsCpu, Follows, Moves, Ranges, IsTurnOf}
 use Rattle.wbt_grant.specs.State as throttle
-use Rattle.wbt_replay_moves.specs.Definition.State.{State, no_cpu, cpu_of}
-use Rattle.wbt_replay_moves.specs.declared.state.Cpu.{Cpu}
-use Rattle.wbt_replay_moves.specs.declared.todo.Todo.{Todo}
-use Rattle.wbt_replay_order.specs.Kept.Following.{Suits, Tidy, AreLoads, resumes, is_closing, debts_in, FollowsCpu, Follows, Moves}
-use Rattle.wbt_replay_order.specs.Kept.Ranges.{Ranges, IsTurnOf}
 use Rattle.wbt_replay_order.proofs.Frames.Others.{IsTurnOn, stepping}
 use Rattle.wbt_replay_order.proofs.Frames.Quiet.{skips}
 

@@ -2,36 +2,13 @@
 use Rattle.std.proofs.Common.{◌≡◌, ℕ, zero, suc, ◌<◌, min, Bool, false, eqb, pos, List, [], ◌∷◌, ◌++◌, length, get_or, replicate, refl, sym, ◌∙◌, ap, subst, arith, length-append, ⊎_elim}
 use Rattle.std.proofs.lemmas.Bool.{cases_lt}
 use Rattle.std.proofs.lemmas.List.{append-nil, get_or_append_left, get_or_past, get_or_push, get_or-replicate, length-replicate}
-use Rattle.wbt_trace.specs.declared.trace.Trace.{Trace}
-use Rattle.wbt_counter.specs.declared.counter.Count.{Count}
-use Rattle.wbt_counter.specs.declared.counter.Counter.{Counter}
+use Rattle.wbt_replay_order.proofs.Common.{Trace, Count, Counter, total_nothing, times_in, Limits, Setting, held_of, if_nothing, domains, first, new_writer, Writer, writer_in, writer_of, no_cpu, no_held, no_domain, no_context, no_flusher, no_task, flusher_cpu, Cpu, Domain, Flusher, ReplayTask, Writeback, longer_none, held_as, writers_in, writer_at, setting_of, pace_of, opening, first_limits, first_domain, first_domains, first_context, first_contexts, works_of, first_task, first_tasks, first_flusher, first_flushers, first_cpu, first_cpus, first_entries, Suits, heights_of, ScansInside, batch_on, batched, own_in, count_in, FollowsCpu, Follows}
 use Rattle.wbt_counter.specs.declared.counter.Counter.TheVariants.{Domain as ofDomain, Context as ofContext}
-use Rattle.wbt_counter.proofs.Sums.{total_nothing}
-use Rattle.wbt_book.specs.Ledger.{times_in}
-use Rattle.wbt_num.specs.declared.limits.Limits.{Limits}
-use Rattle.wbt_grant.specs.Setting.{Setting}
 use Rattle.wbt_grant.specs.State as throttle
-use Rattle.wbt_grant.specs.State.{no_record, held_of, writer_in as record_of}
-use Rattle.wbt_grant.proofs.Bounding.{if_nothing}
-use Rattle.wbt_journal.specs.Machine.{domains}
-use Rattle.wbt_task.specs.Allowance.{first}
-use Rattle.wbt_task.specs.History.{new_writer}
+use Rattle.wbt_grant.specs.State.{no_record, writer_in as record_of}
 use Rattle.wbt_task.specs.declared.allowance.Due.TheVariants as due
-use Rattle.wbt_task.specs.declared.history.Writer.{Writer}
-use Rattle.wbt_replay_moves.specs.Definition.Check.{writer_in, writer_of}
-use Rattle.wbt_replay_moves.specs.Definition.State.{no_count, no_cpu, no_held, no_domain, no_context, no_flusher, no_task}
-use Rattle.wbt_rules.specs.Things.{flusher_cpu}
-use Rattle.wbt_replay_moves.specs.declared.state.Cpu.{Cpu}
-use Rattle.wbt_replay_moves.specs.declared.state.Domain.{Domain}
-use Rattle.wbt_replay_moves.specs.declared.state.Flusher.{Flusher}
-use Rattle.wbt_replay_moves.specs.declared.state.ReplayTask.{ReplayTask}
-use Rattle.wbt_replay_moves.specs.declared.state.Writeback.{Writeback}
-use Rattle.wbt_run_laws.proofs.Lists.{longer_none}
-use Rattle.wbt_replay_order.specs.Claims.Path.{held_as}
-use Rattle.wbt_replay_order.specs.Claims.Setting.{writers_in, writer_at, setting_of}
-use Rattle.wbt_rules.specs.Pace.{pace_of}
-use Rattle.wbt_replay_order.specs.Definition.Opening.{opening, first_limits, first_domain, first_domains, first_context, first_contexts, works_of, first_task, first_tasks, first_flusher, first_flushers, first_cpu, first_cpus, first_held, first_entries}
-use Rattle.wbt_replay_order.specs.Kept.Following.{Suits, heights_of, ScansInside, batch_on, batched, own_in, count_in, FollowsCpu, Follows}
+use Rattle.wbt_replay_moves.specs.Definition.State.{no_count}
+use Rattle.wbt_replay_order.specs.Definition.Opening.{first_held}
 
 -- ---- things in order of their numbers
 

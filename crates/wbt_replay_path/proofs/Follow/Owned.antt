@@ -2,26 +2,12 @@
 use Rattle.std.proofs.Common.{◌≡◌, ◌≢◌, ℕ, Bool, false, cond, eqb, ℤ, pos, List, [], ◌∷◌, get_or, refl, sym, ◌∙◌, ap, subst, ⊎_elim, not}
 use Rattle.std.proofs.Math.ListN.{set}
 use Rattle.std.proofs.lemmas.Bool.{cases_Bool, cond-true, cond-false}
-use Rattle.wbt_counter.specs.declared.counter.Count.{Count}
-use Rattle.wbt_counter.specs.declared.counter.Counter.{Counter}
+use Rattle.wbt_replay_order.proofs.Common.{Count, Counter, Debt, ClearDue, Owed, is_same, without_debt, debt_to, put, put_same, put_other, is_same-true, is_same-itself, own_of, with_own, State, no_domain, no_context, count_of, with_count, domain_of, writeback_of, HasOwn, HasCount, Cpu, Domain, Writeback, Todo, heights_of, own_in, count_in, debts_in, resumes, Tidy}
 use Rattle.wbt_counter.specs.declared.counter.Counter.TheVariants.{Domain as ofDomain, Context as ofContext}
-use Rattle.wbt_counter.specs.declared.record.Debt.{Debt}
-use Rattle.wbt_counter.specs.declared.record.Debt.TheVariants.{ClearDue}
-use Rattle.wbt_counter.specs.declared.record.Owed.{Owed}
-use Rattle.wbt_counter.specs.Counters.{is_same, put_counter, without_debt, debt_to}
-use Rattle.wbt_counter.specs.Sums.{put}
-use Rattle.wbt_counter.proofs.Sums.{put_same, put_other}
-use Rattle.wbt_counter.proofs.Debts.{is_same-true, is_same-itself}
-use Rattle.wbt_replay_moves.specs.Definition.Cpu.{own_of, with_own}
-use Rattle.wbt_replay_moves.specs.Definition.State.{State, no_domain, no_context, count_of, with_count, domain_of, writeback_of}
-use Rattle.wbt_replay_moves.specs.Kept.Fit.{HasOwn, HasCount}
-use Rattle.wbt_replay_moves.specs.declared.state.Cpu.{Cpu}
-use Rattle.wbt_replay_moves.specs.declared.state.Domain.{Domain}
-use Rattle.wbt_replay_moves.specs.declared.state.Writeback.{Writeback}
+use Rattle.wbt_counter.specs.Counters.{put_counter}
 use Rattle.wbt_replay_moves.specs.declared.todo.Step.TheVariants as item
-use Rattle.wbt_replay_moves.specs.declared.todo.Todo.{Todo}
 use Rattle.wbt_replay_moves.specs.declared.todo.Todo.TheVariants as todo
-use Rattle.wbt_replay_order.specs.Kept.Following.{heights_of, own_in, count_in, debts_in, resumes, IsClearedNext, Tidy}
+use Rattle.wbt_replay_order.specs.Kept.Following.{IsClearedNext}
 use Rattle.wbt_replay_order.proofs.Lists.Places.{still, cond_ap, get_set}
 
 -- ---- own numbers

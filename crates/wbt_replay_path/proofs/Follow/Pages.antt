@@ -6,45 +6,24 @@ use Rattle.std.proofs.lemmas.List.{get_or-set_same, get_or-set_other}
 use Rattle.std.specs.List.{list_any}
 use mathlib.Core.Logic.{dite}
 use native.Mathlib.Decide.{ℕ_discrete}
-use Rattle.wbt_trace.specs.declared.trace.Trace.{Trace}
-use Rattle.wbt_counter.specs.Sums.{put}
-use Rattle.wbt_counter.proofs.Sums.{put_changes}
-use Rattle.wbt_book.specs.declared.event.Event.{Event}
+use Rattle.wbt_replay_order.proofs.Common.{Trace, put, put_changes, Event, Book, Bits, is_claimable, bits_after, times_in, shared_word, bits_at, word_holds_page, CpuRecord, Setting, page_now, last_found, do_next, logged, looked_at, look_in, look_by, claim_now, claim_in, claim_by, State, no_cpu, no_flusher, cpu_of, flusher_of, plain_step, flusher_cpu, Scan, Cpu, Flusher, ReplayPhase, Whose, Todo, readings_told, HasTriples, AreAmong, IsPageOf, IsFlusherOn, Suits, Tidy, ScansInside, is_closing, bared, FollowsCpu, Follows, Moves, by, Ranges, IsTurnOf}
 use Rattle.wbt_book.specs.declared.event.Event.TheVariants as event
-use Rattle.wbt_book.specs.Book.{Book, Bits, is_claimable, bits_after}
-use Rattle.wbt_book.specs.Ledger.{times_in}
-use Rattle.wbt_book.specs.PageWords.{shared_word, bits_at}
-use Rattle.wbt_book.proofs.PageWords.{word_holds_page}
-use Rattle.wbt_grant.specs.declared.record.CpuRecord.{CpuRecord}
 use Rattle.wbt_grant.specs.declared.who.StepKind.TheVariants as kind
 use Rattle.wbt_grant.specs.declared.who.Word.TheVariants as word
-use Rattle.wbt_grant.specs.Setting.{Setting}
 use Rattle.wbt_grant.specs.State as throttle
 use Rattle.wbt_grant.specs.State.{writer_in as record_of}
 use Rattle.wbt_grant.specs.Kinds as relation
-use Rattle.wbt_grant.specs.Kinds.{page_now, claim_step, last_found, MayClaim}
+use Rattle.wbt_grant.specs.Kinds.{claim_step, MayClaim}
 use Rattle.wbt_grant.specs.Record as made
 use Rattle.wbt_journal.specs.declared.entry.Entry.TheVariants as entry
-use Rattle.wbt_replay_moves.specs.Definition.Cpu.{do_next, logged}
-use Rattle.wbt_replay_moves.specs.Definition.Scan.{looked_at, look_in, look_by, look, claim_now, claim_in, claim_by, claim}
-use Rattle.wbt_replay_moves.specs.Definition.State.{State, no_cpu, no_flusher, cpu_of, flusher_of, plain_step}
+use Rattle.wbt_replay_moves.specs.Definition.Scan.{look, claim}
 use Rattle.wbt_rules.specs.Places.{page_of as next_page}
-use Rattle.wbt_rules.specs.Things.{flusher_cpu}
-use Rattle.wbt_rules.specs.declared.scan.Scan.{Scan}
-use Rattle.wbt_replay_moves.specs.declared.state.Cpu.{Cpu}
-use Rattle.wbt_replay_moves.specs.declared.state.Flusher.{Flusher}
-use Rattle.wbt_replay_moves.specs.declared.state.ReplayPhase.{ReplayPhase}
 use Rattle.wbt_replay_moves.specs.declared.state.ReplayPhase.TheVariants as phase
-use Rattle.wbt_replay_moves.specs.declared.state.Whose.{Whose}
 use Rattle.wbt_replay_moves.specs.declared.state.Whose.TheVariants as whose
 use Rattle.wbt_replay_moves.specs.declared.todo.Silent.TheVariants as silent
 use Rattle.wbt_replay_moves.specs.declared.todo.Step.TheVariants as item
-use Rattle.wbt_replay_moves.specs.declared.todo.Todo.{Todo}
 use Rattle.wbt_replay_moves.specs.declared.todo.Todo.TheVariants as todo
-use Rattle.wbt_replay_order.specs.Claims.Path.{readings_told, HasTriples, AreAmong}
-use Rattle.wbt_replay_order.specs.Kept.Facts.{IsPageOf, IsFlusherOn}
-use Rattle.wbt_replay_order.specs.Kept.Following.{Suits, Tidy, HasLooked, ScansInside, is_closing, bared, page_in, page_of, FollowsCpu, Follows, Moves, by}
-use Rattle.wbt_replay_order.specs.Kept.Ranges.{Ranges, IsTurnOf}
+use Rattle.wbt_replay_order.specs.Kept.Following.{HasLooked, page_in, page_of}
 use Rattle.wbt_replay_order.proofs.Facts.Lists.{either, twice}
 use Rattle.wbt_replay_order.proofs.Frames.Others.{one_cpu, stepping, same_flusher}
 use Rattle.wbt_replay_path.proofs.Follow.Held.{batched_here, batched_same, one_more_in, looked_kept}

@@ -3,38 +3,17 @@ use Rattle.std.proofs.Common.{◌≡◌, ℕ, zero, suc, ◌+◌, ◌-◌, ◌<�
 use Rattle.std.proofs.lemmas.Bool.{cases_lt, cases_Bool}
 use Rattle.std.proofs.lemmas.Bool.Decides.{nat_tests}
 use Rattle.std.proofs.lemmas.List.{take-append-le, take_all, append_assoc, append-nil}
-use Rattle.wbt_trace.specs.declared.trace.Trace.{Trace}
+use Rattle.wbt_replay_order.proofs.Common.{Trace, Count, Fold, Reading, Setting, IsSetting, grant, AreAllowed, Rule, always_holds, greatest_reading, StepEntry, State, cpu_of, task_of, Cpu, ReplayTurn, Todo, is_strict, group_of, entries_of, is_decide, readings_told, AreAmong, FoldsBehind, KeepsLoads, IsFollowed, setting_of, writer_at, opening, advance, is_ended, state_at, part_used, IsTaskOn, Suits, AreLoads, turn_readings, Follows, Moves, silently, by, grants, Ranges, IsTurnOf}
 use Rattle.std.specs.List.{list_any}
 use Rattle.wbt_counter.specs.Through.{fits}
-use Rattle.wbt_counter.specs.declared.counter.Count.{Count}
-use Rattle.wbt_counter.specs.declared.record.Fold.{Fold}
-use Rattle.wbt_counter.specs.declared.record.Reading.{Reading}
-use Rattle.wbt_grant.specs.Setting.{Setting, IsSetting}
 use Rattle.wbt_grant.specs.State as throttle
 use Rattle.wbt_grant.specs.State.{writer_in as record_of}
-use Rattle.wbt_grant.specs.Kinds.{Step, grant, after, run, AreAllowed}
-use Rattle.wbt_grant.specs.Rule.{Rule}
-use Rattle.wbt_grant.proofs.Whole.{always_holds}
-use Rattle.wbt_strict.specs.Bound.{greatest_reading}
+use Rattle.wbt_grant.specs.Kinds.{Step, after, run}
 use Rattle.wbt_strict.specs.Rule.{IsStrict, AreStrict}
-use Rattle.wbt_journal.specs.declared.step.StepEntry.{StepEntry}
-use Rattle.wbt_replay_moves.specs.Definition.State.{State, cpu_of, task_of}
-use Rattle.wbt_replay_moves.specs.declared.state.Cpu.{Cpu}
-use Rattle.wbt_replay_moves.specs.declared.state.ReplayTurn.{ReplayTurn}
 use Rattle.wbt_replay_moves.specs.declared.todo.Silent.TheVariants as silent
-use Rattle.wbt_replay_moves.specs.declared.todo.Todo.{Todo}
 use Rattle.wbt_replay_moves.specs.declared.todo.Todo.TheVariants as todo
-use Rattle.wbt_rules.specs.Strict.{is_strict}
-use Rattle.wbt_rules.specs.Things.{group_of}
-use Rattle.wbt_replay_order.specs.Claims.Path.{entries_of, tells, is_decide, turn_loads, readings_told, AreAmong, FoldsBehind, KeepsLoads, IsChecked, Shows, IsPath, IsFollowed}
-use Rattle.wbt_replay_order.specs.Claims.Setting.{setting_of, writer_at}
-use Rattle.wbt_replay_order.specs.Definition.Opening.{opening}
-use Rattle.wbt_replay_order.specs.Definition.Order.{advance, is_ended}
-use Rattle.wbt_replay_order.specs.Definition.Run.{state_at}
-use Rattle.wbt_replay_order.specs.Definition.Strict.{part_used}
-use Rattle.wbt_replay_order.specs.Kept.Facts.{IsTaskOn}
-use Rattle.wbt_replay_order.specs.Kept.Following.{Suits, AreLoads, turn_readings, Follows, is_grant, HasSmallReading, Moves, silently, by, grants, Leads}
-use Rattle.wbt_replay_order.specs.Kept.Ranges.{Ranges, IsTurnOf}
+use Rattle.wbt_replay_order.specs.Claims.Path.{tells, turn_loads, IsChecked, Shows, IsPath}
+use Rattle.wbt_replay_order.specs.Kept.Following.{is_grant, HasSmallReading, Leads}
 use Rattle.wbt_replay_order.proofs.Frames.Others.{some_item}
 use Rattle.wbt_replay_path.proofs.Follow.Owned.{own_is, count_is}
 use Rattle.wbt_replay_order.proofs.Growth.Runs.{run_none, run_last, run_stays}

@@ -1,25 +1,14 @@
 -- A sound state of a run for whose steps a setting has room has the ranges that following needs.
 use Rattle.std.proofs.Common.{◌≡◌, ℕ, ◌<◌, ◌≤◌, List, [], ◌∷◌, length, All, subst, arith}
 use Rattle.std.proofs.lemmas.List.Elements.{All-head}
-use Rattle.wbt_trace.specs.declared.trace.Trace.{Trace}
-use Rattle.wbt_grant.specs.Setting.{Setting}
-use Rattle.wbt_task.specs.History.{new_writer}
+use Rattle.wbt_replay_order.proofs.Common.{Trace, Setting, new_writer, writer_of, State, cpu_of, task_of, flusher_of, ReplayPhase, ReplayTask, Whose, ReplayWork, Todo, Ranges, IsTurnOf, IsWorker, IsInside, Sound, IsTask, WorkFits, IsAt, IsWhose, IsCpu, Agrees}
 use Rattle.wbt_task.specs.declared.allowance.Due.TheVariants as due
-use Rattle.wbt_replay_moves.specs.Definition.Check.{writer_of}
-use Rattle.wbt_replay_moves.specs.Definition.State.{State, cpu_of, task_of, flusher_of}
-use Rattle.wbt_replay_moves.specs.declared.state.ReplayPhase.{ReplayPhase}
 use Rattle.wbt_replay_moves.specs.declared.state.ReplayPhase.TheVariants as phase
-use Rattle.wbt_replay_moves.specs.declared.state.ReplayTask.{ReplayTask}
-use Rattle.wbt_replay_moves.specs.declared.state.Whose.{Whose}
 use Rattle.wbt_replay_moves.specs.declared.state.Whose.TheVariants as whose
-use Rattle.wbt_replay_moves.specs.declared.state.ReplayWork.{ReplayWork}
 use Rattle.wbt_replay_moves.specs.declared.state.ReplayWork.TheVariants as work
 use Rattle.wbt_replay_moves.specs.declared.todo.Step.TheVariants as item
-use Rattle.wbt_replay_moves.specs.declared.todo.Todo.{Todo}
 use Rattle.wbt_replay_moves.specs.declared.todo.Todo.TheVariants as todo
-use Rattle.wbt_replay_order.specs.Kept.Ranges.{Ranges, IsTurnOf, WritesInside, IsWorker, IsInside}
-use Rattle.wbt_replay_order.specs.Kept.Sound.{Sound, IsTask, WorkFits, IsAt, IsWhose, IsCpu}
-use Rattle.wbt_replay_order.specs.Kept.Turns.{Agrees}
+use Rattle.wbt_replay_order.specs.Kept.Ranges.{WritesInside}
 
 turn_of : (trace : Trace) (i : ℕ) (w : Whose) → IsWhose trace i w → IsTurnOf trace i w
 turn_of trace i (whose.Task task) on = on

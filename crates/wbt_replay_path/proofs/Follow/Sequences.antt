@@ -6,40 +6,23 @@ use Rattle.std.proofs.lemmas.Bool.{and_parts, cond-true, cond-false}
 use Rattle.std.proofs.lemmas.List.{append-nil, get_or-set_same, get_or-set_other}
 use mathlib.Core.Logic.{dite}
 use native.Mathlib.Decide.{ℕ_discrete}
-use Rattle.wbt_num.specs.declared.limits.Limits.{Limits}
-use Rattle.wbt_num.specs.declared.limits.TheConstants.{MAX_LIMIT}
-use Rattle.wbt_trace.specs.declared.trace.Trace.{Trace}
-use Rattle.wbt_grant.specs.declared.record.CpuRecord.{CpuRecord}
-use Rattle.wbt_grant.specs.declared.record.DomainLimits.{DomainLimits}
+use Rattle.wbt_replay_order.proofs.Common.{Limits, MAX_LIMIT, Trace, CpuRecord, DomainLimits, Rule, Setting, held_of, stage_of, version_of, sequence_of, domains, CheckEntry, WereHeld, longer_none, and_both, word_of, held_after, State, no_held, domain_of, Domain, Found, Held, Todo, HasTriples, held_as, triples_told, Suits, Looked, Follows, Ranges}
 use Rattle.wbt_grant.specs.declared.record.Finding.{Finding}
 use Rattle.wbt_grant.specs.declared.record.Finding.TheVariants as finding
 use Rattle.wbt_grant.specs.declared.record.Loading.{Loading}
 use Rattle.wbt_grant.specs.Kinds.{sequence_now, thresh_now}
 use Rattle.wbt_grant.specs.Record.{beside, is_whole as is_read, read_triple, triples_after, with_found}
-use Rattle.wbt_grant.specs.Rule.{Rule}
 use Rattle.wbt_grant.specs.SeatLaws.{AreReadWhole}
-use Rattle.wbt_grant.specs.Setting.{Setting}
 use Rattle.wbt_grant.specs.State as throttle
-use Rattle.wbt_grant.specs.State.{held_of, found_of, stage_of, version_of, sequence_of}
+use Rattle.wbt_grant.specs.State.{found_of}
 use Rattle.wbt_grant.proofs.Reading.{sequence_tells, limits_are_whole}
 use Rattle.wbt_grant.proofs.Sequences.{found_here, half_sequence}
-use Rattle.wbt_journal.specs.Machine.{domains}
-use Rattle.wbt_journal.specs.declared.entry.CheckEntry.{CheckEntry}
-use Rattle.wbt_run_laws.specs.Held.{WereHeld}
 use Rattle.wbt_run_laws.specs.Notes.{Longer}
 use Rattle.wbt_run_laws.proofs.Holding.{held_more}
-use Rattle.wbt_run_laws.proofs.Lists.{longer_none, and_both}
-use Rattle.wbt_replay_moves.specs.Definition.Counters.{word_of, is_whole, held_after}
-use Rattle.wbt_replay_moves.specs.Definition.State.{State, no_held, domain_of}
-use Rattle.wbt_replay_moves.specs.declared.state.Domain.{Domain}
-use Rattle.wbt_replay_moves.specs.declared.state.Found.{Found}
-use Rattle.wbt_replay_moves.specs.declared.state.Held.{Held}
+use Rattle.wbt_replay_moves.specs.Definition.Counters.{is_whole}
 use Rattle.wbt_replay_moves.specs.declared.todo.Step.TheVariants as item
-use Rattle.wbt_replay_moves.specs.declared.todo.Todo.{Todo}
 use Rattle.wbt_replay_moves.specs.declared.todo.Todo.TheVariants as todo
-use Rattle.wbt_replay_order.specs.Claims.Path.{HasTriples, held_as, triples_told}
-use Rattle.wbt_replay_order.specs.Kept.Following.{Suits, HasFirst, HasMiddle, IsMiddleNext, IsLastNext, Looked, Follows}
-use Rattle.wbt_replay_order.specs.Kept.Ranges.{Ranges}
+use Rattle.wbt_replay_order.specs.Kept.Following.{HasFirst, HasMiddle, IsMiddleNext, IsLastNext}
 use Rattle.wbt_replay_order.proofs.Facts.Lists.{either}
 
 -- ---- what comes next

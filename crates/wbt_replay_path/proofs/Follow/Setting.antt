@@ -2,21 +2,11 @@
 use Rattle.std.proofs.Common.{◌≡◌, ℕ, zero, suc, ◌+◌, ◌*◌, ◌%◌, ◌^◌, ◌<◌, ◌≤◌, Bool, true, false, ◌&&◌, ◌||◌, eqb, List, [], ◌∷◌, ◌++◌, length, get_or, refl, sym, ◌∙◌, ap, arith, eq-eqb, true≢false, ⊎_elim, length-append}
 use Rattle.std.proofs.lemmas.Bool.{cases_lt, or_right}
 use Rattle.std.proofs.lemmas.List.{get_or_append_left, get_or_push}
-use Rattle.wbt_trace.specs.Lawful.{writers_after}
+use Rattle.wbt_replay_order.proofs.Common.{writers_after, is_writer, Action, Write, Rest, Inode, Trace, MAX_LIMIT, IsSetting, context_of, writers_in, writer_at, setting_of, Facts, Suits}
 use Rattle.wbt_trace.specs.Sofar.{inode_at}
-use Rattle.wbt_trace.specs.WriterList.{is_writer, with_writer}
-use Rattle.wbt_trace.specs.declared.trace.Action.{Action}
-use Rattle.wbt_trace.specs.declared.trace.Action.TheVariants.{Write, Rest}
-use Rattle.wbt_trace.specs.declared.trace.Inode.{Inode}
-use Rattle.wbt_trace.specs.declared.trace.Trace.{Trace}
+use Rattle.wbt_trace.specs.WriterList.{with_writer}
 use Rattle.wbt_trace.specs.declared.writers.Writer.{Writer}
 use Rattle.wbt_limits.specs.Words.{sequence_word_of}
-use Rattle.wbt_num.specs.declared.limits.TheConstants.{MAX_LIMIT}
-use Rattle.wbt_grant.specs.Setting.{IsSetting}
-use Rattle.wbt_rules.specs.Things.{context_of}
-use Rattle.wbt_replay_order.specs.Claims.Setting.{writers_in, writer_at, setting_of}
-use Rattle.wbt_replay_order.specs.Kept.Facts.{Facts}
-use Rattle.wbt_replay_order.specs.Kept.Following.{Suits}
 use Rattle.wbt_replay_order.proofs.Facts.Lists.{either}
 
 -- ---- a pair is a writer once

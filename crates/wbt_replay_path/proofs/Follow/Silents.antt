@@ -3,42 +3,17 @@ use Rattle.std.proofs.Common.{◌≡◌, ℕ, ◌+◌, ◌<◌, true, false, ◌
 use Rattle.std.proofs.Math.ListN.{set}
 use Rattle.std.proofs.lemmas.List.{get_or-set_same, set-get_or}
 use Rattle.std.specs.List.{list_any}
-use Rattle.wbt_trace.specs.declared.trace.Trace.{Trace}
-use Rattle.wbt_estimate.specs.Estimate.{update_of}
-use Rattle.wbt_estimate.specs.declared.estimate.Estimate.{Estimate}
-use Rattle.wbt_grant.specs.Setting.{Setting}
+use Rattle.wbt_replay_order.proofs.Common.{Trace, update_of, Estimate, Setting, Fold, Entry, writer_of, do_next, then_do, estimated, log_at, sample_of, estimate_to, estimate, rest_until, take_or_rest, with_hard, test_by, take_now, with_pairs, told_by, waits, noticed, age, tested_by, FLUSHER_REST, is_scan_over, places_after, keep_place, close_in, close_by, State, no_cpu, no_task, no_flusher, cpu_of, task_of, flusher_of, writeback_of, queue_of, no_waiting, waiting_of, with_waiting, with_queue, in_phase, flusher_device, is_over_by_itself, over_noted, weigh, weighed_by, leaked, end_now, has_nothing, end_by, Scan, Cpu, Flusher, ReplayPhase, ReplayTask, ReplayTurn, Whose, Silent, Todo, folds_told, founds_told, is_decide, events_with, folds_with, founds_with, IsFlusherOn, IsTaskOn, Suits, Tidy, Looked, ScansInside, AreLoads, is_closing, debts_in, batched, FollowsCpu, Follows, Moves, Ranges, IsTurnOf, IsInside, Found, CpuRecord, Event}
 use Rattle.wbt_grant.specs.State as throttle
-use Rattle.wbt_counter.specs.declared.record.Fold.{Fold}
-use Rattle.wbt_journal.specs.declared.entry.Entry.{Entry}
 use Rattle.wbt_journal.specs.declared.entry.Entry.TheVariants as entry
-use Rattle.wbt_replay_moves.specs.Definition.Check.{writer_of}
-use Rattle.wbt_replay_moves.specs.Definition.Cpu.{do_next, then_do, estimated, log_at}
-use Rattle.wbt_replay_moves.specs.Definition.Estimates.{sample_of, estimate_to, estimate}
-use Rattle.wbt_replay_moves.specs.Definition.Idle.{rest_until, take, take_or_rest, with_hard, test_by, test, take_now, with_pairs, told_by, waits, noticed, age, tested_by}
-use Rattle.wbt_rules.specs.declared.moments.TheConstants.{FLUSHER_REST}
-use Rattle.wbt_replay_moves.specs.Definition.Scan.{is_scan_over, places_after, keep_place, close_in, close_by, close}
-use Rattle.wbt_replay_moves.specs.Definition.State.{State, no_cpu, no_task, no_flusher, cpu_of, task_of, flusher_of, writeback_of, queue_of, no_waiting, waiting_of, with_waiting, with_queue, in_phase}
-use Rattle.wbt_rules.specs.Things.{flusher_device}
-use Rattle.wbt_replay_moves.specs.Definition.Weigh.{is_over_by_itself, over_noted, weigh, weighed_by}
-use Rattle.wbt_replay_moves.specs.Definition.Writer.{leaked, end_now, has_nothing, end_by, end}
-use Rattle.wbt_rules.specs.declared.scan.Scan.{Scan}
-use Rattle.wbt_replay_moves.specs.declared.state.Cpu.{Cpu}
-use Rattle.wbt_replay_moves.specs.declared.state.Flusher.{Flusher}
-use Rattle.wbt_replay_moves.specs.declared.state.ReplayPhase.{ReplayPhase}
+use Rattle.wbt_replay_moves.specs.Definition.Idle.{take, test}
+use Rattle.wbt_replay_moves.specs.Definition.Scan.{close}
+use Rattle.wbt_replay_moves.specs.Definition.Writer.{end}
 use Rattle.wbt_replay_moves.specs.declared.state.ReplayPhase.TheVariants as phase
-use Rattle.wbt_replay_moves.specs.declared.state.ReplayTask.{ReplayTask}
-use Rattle.wbt_replay_moves.specs.declared.state.ReplayTurn.{ReplayTurn}
-use Rattle.wbt_replay_moves.specs.declared.state.Whose.{Whose}
 use Rattle.wbt_replay_moves.specs.declared.state.Whose.TheVariants as whose
-use Rattle.wbt_replay_moves.specs.declared.todo.Silent.{Silent}
 use Rattle.wbt_replay_moves.specs.declared.todo.Silent.TheVariants as silent
 use Rattle.wbt_replay_moves.specs.declared.todo.Step.TheVariants as item
-use Rattle.wbt_replay_moves.specs.declared.todo.Todo.{Todo}
 use Rattle.wbt_replay_moves.specs.declared.todo.Todo.TheVariants as todo
-use Rattle.wbt_replay_order.specs.Claims.Path.{folds_told, founds_told, is_decide, events_with, folds_with, founds_with}
-use Rattle.wbt_replay_order.specs.Kept.Facts.{IsFlusherOn, IsTaskOn}
-use Rattle.wbt_replay_order.specs.Kept.Following.{Suits, Tidy, Looked, ScansInside, AreLoads, is_closing, debts_in, batched, FollowsCpu, Follows, Moves}
-use Rattle.wbt_replay_order.specs.Kept.Ranges.{Ranges, IsTurnOf, IsInside}
 use Rattle.wbt_replay_order.proofs.Facts.Lists.{either, twice}
 use Rattle.wbt_replay_order.proofs.Facts.Scans.{scan_page}
 use Rattle.wbt_replay_path.proofs.Follow.Alike.{Alike, alike_context, alike_moves, TellsNothing, alike_log, alike_lists, alike_push}
@@ -48,12 +23,9 @@ use Rattle.wbt_replay_path.proofs.Follow.Pages.{flushers_elsewhere, scans_on}
 use Rattle.wbt_replay_order.proofs.Frames.Quiet.{both_of, passes, same_shared, all_same, no_check, one_task, calm}
 use Rattle.wbt_replay_path.proofs.Follow.Tells.{events_more, folds_more, founds_more}
 use Rattle.wbt_replay_path.proofs.Follow.Writers.{tasks_elsewhere}
-use Rattle.wbt_replay_moves.specs.declared.state.Found.{Found}
-use Rattle.wbt_grant.specs.declared.record.CpuRecord.{CpuRecord}
 use Rattle.wbt_expiry.specs.declared.due.Due.{Due}
 use Rattle.wbt_expiry.specs.Waiting.{Waiting as Wheel}
 use Rattle.wbt_replay_order.proofs.Facts.Ages.{noticed_kept, aged_kept}
-use Rattle.wbt_book.specs.declared.event.Event.{Event}
 
 module _ (trace : Trace) (setting : Setting) (suits : Suits trace setting) (i : ℕ) (less : i < trace.cpus) (s : State) (t : throttle.State)
     (ranges : Ranges trace setting s) (h : Follows trace setting s t) where

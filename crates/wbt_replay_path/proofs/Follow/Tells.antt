@@ -1,16 +1,7 @@
 -- What a CPU's part of the journal tells, with one more entry at its end.
 use Rattle.std.proofs.Common.{◌≡◌, ℕ, List, [], ◌∷◌, ◌++◌, map, refl, ap, ◌∙◌}
 use Rattle.std.proofs.lemmas.List.{append-nil}
-use Rattle.wbt_counter.specs.declared.record.Fold.{Fold}
-use Rattle.wbt_counter.specs.declared.record.Reading.{Reading}
-use Rattle.wbt_book.specs.declared.event.Event.{Event}
-use Rattle.wbt_grant.specs.declared.record.DomainLimits.{DomainLimits}
-use Rattle.wbt_journal.specs.Counts.{reads_of}
-use Rattle.wbt_journal.specs.declared.entry.CheckEntry.{CheckEntry}
-use Rattle.wbt_journal.specs.declared.entry.Entry.{Entry}
-use Rattle.wbt_run_laws.specs.Held.{limits_of}
-use Rattle.wbt_run_laws.proofs.Lists.{flat_append}
-use Rattle.wbt_replay_order.specs.Claims.Path.{events_with, events_told, folds_with, folds_told, founds_with, founds_told, readings_with, readings_told, triples_told}
+use Rattle.wbt_replay_order.proofs.Common.{Fold, Reading, Event, DomainLimits, reads_of, CheckEntry, Entry, limits_of, flat_append, events_with, events_told, folds_with, folds_told, founds_with, founds_told, readings_with, readings_told, triples_told}
 
 pub events_more : (older : List Event) (entries : List Entry) (e : Entry) → events_told older (entries ++ e ∷ []) ≡ events_with e (events_told older entries)
 events_more older [] e = refl

@@ -5,48 +5,29 @@ use Rattle.std.proofs.lemmas.Bool.{cond-true, cond-false}
 use Rattle.std.proofs.lemmas.List.{get_or-set_same, get_or-set_other}
 use mathlib.Core.Logic.{dite}
 use native.Mathlib.Decide.{ℕ_discrete}
-use Rattle.wbt_trace.specs.declared.trace.Trace.{Trace}
-use Rattle.wbt_num.specs.declared.limits.Limits.{Limits}
-use Rattle.wbt_counter.specs.declared.counter.Count.{Count}
-use Rattle.wbt_counter.specs.declared.counter.Counter.{Counter}
+use Rattle.wbt_replay_order.proofs.Common.{Trace, Limits, Count, Counter, put, after_period, Half, TimerRecord, Setting, stage_of, version_of, sequence_of, domains, StepEntry, State, no_domain, domain_of, with_timer, load, peak, unseal, thresh, publish, period, period_to, periods, is_time, rest, begin_timer, domain_turns, domain_periods, turn_items, Domain, Timer, Writeback, TimerTodo, TimerEntry, DomainLimits, plain_entry, Suits, heights_of, count_in, Follows, Moves, silently, by, first_entries, Ranges}
 use Rattle.wbt_counter.specs.declared.counter.Counter.TheVariants.{Domain as ofDomain, Context as ofContext}
-use Rattle.wbt_counter.specs.Sums.{put}
-use Rattle.wbt_flex.specs.Proportions.{after_period}
-use Rattle.wbt_flex.specs.declared.half.Half.{Half}
 use Rattle.wbt_grant.specs.declared.record.Draft.{Draft}
 use Rattle.wbt_grant.specs.declared.record.Raised.{Raised}
 use Rattle.wbt_grant.specs.declared.record.Stage.{Stage}
 use Rattle.wbt_grant.specs.declared.record.Stage.TheVariants as stage
-use Rattle.wbt_grant.specs.declared.record.TimerRecord.{TimerRecord}
 use Rattle.wbt_grant.specs.declared.who.StepKind.TheVariants as kind
 use Rattle.wbt_grant.specs.declared.who.Who.TheVariants as who
-use Rattle.wbt_grant.specs.Setting.{Setting}
 use Rattle.wbt_grant.specs.State as throttle
-use Rattle.wbt_grant.specs.State.{stage_of, is_sealed, version_of, sequence_of}
+use Rattle.wbt_grant.specs.State.{is_sealed}
 use Rattle.wbt_grant.specs.Record.{with_stage}
 use Rattle.wbt_grant.specs.Kinds as relation
 use Rattle.wbt_grant.specs.Kinds.{last_raised}
 use Rattle.wbt_grant.proofs.Sequences.{stage_here, stage_there, sequence_unsealed, sequence_drafted, sequence_published}
-use Rattle.wbt_journal.specs.Machine.{domains}
-use Rattle.wbt_journal.specs.declared.step.StepEntry.{StepEntry}
-use Rattle.wbt_replay_moves.specs.Definition.State.{State, no_domain, domain_of}
-use Rattle.wbt_replay_moves.specs.Definition.Timer.{timer_number, with_timer, load, peak, unseal, thresh, publish, period, period_to, periods, is_time, rest, begin_timer, domain_turns, domain_periods, turn_items}
-use Rattle.wbt_replay_moves.specs.declared.state.Domain.{Domain}
-use Rattle.wbt_replay_moves.specs.declared.state.Timer.{Timer}
-use Rattle.wbt_replay_moves.specs.declared.state.Writeback.{Writeback}
+use Rattle.wbt_replay_moves.specs.Definition.Timer.{timer_number}
 use Rattle.wbt_replay_moves.specs.declared.todo.TimerSilent.TheVariants as silent
 use Rattle.wbt_replay_moves.specs.declared.todo.TimerStep.TheVariants as item
-use Rattle.wbt_replay_moves.specs.declared.todo.TimerTodo.{TimerTodo}
 use Rattle.wbt_replay_moves.specs.declared.todo.TimerTodo.TheVariants as todo
-use Rattle.wbt_journal.specs.declared.timer.TimerEntry.{TimerEntry}
 use Rattle.wbt_journal.specs.declared.timer.TimerEntry.TheVariants as entry
-use Rattle.wbt_grant.specs.declared.record.DomainLimits.{DomainLimits}
 use Rattle.wbt_run_laws.specs.Ticks.{published_after}
 use Rattle.wbt_run_laws.proofs.Walking.{after_append}
-use Rattle.wbt_replay_order.specs.Claims.Path.{LinesArePublished, plain_entry}
-use Rattle.wbt_replay_order.specs.Kept.Following.{Suits, heights_of, stage_in, count_in, MayUnsealNext, IsThreshNext, IsPublishedNext, PublishesLater, RaisesFirst, HasRaised, Follows, Moves, silently, by}
-use Rattle.wbt_replay_order.specs.Definition.Opening.{first_entries}
-use Rattle.wbt_replay_order.specs.Kept.Ranges.{Ranges}
+use Rattle.wbt_replay_order.specs.Claims.Path.{LinesArePublished}
+use Rattle.wbt_replay_order.specs.Kept.Following.{stage_in, MayUnsealNext, IsThreshNext, IsPublishedNext, PublishesLater, RaisesFirst, HasRaised}
 use Rattle.wbt_replay_order.proofs.Facts.Lists.{either}
 use Rattle.wbt_replay_order.proofs.Lists.Places.{cond_ap, get_set}
 use Rattle.wbt_replay_order.proofs.Lists.Places.{still}

@@ -1,15 +1,6 @@
 -- The run of a trace is followed, where its states are sound and it ends.
 use Rattle.std.proofs.Common.{◌≡◌, ℕ, ◌<◌, ◌≤◌, true, false, length, sym, subst, arith}
-use Rattle.wbt_trace.specs.declared.trace.Trace.{Trace}
-use Rattle.wbt_grant.specs.Setting.{Setting, IsSetting}
-use Rattle.wbt_replay_moves.specs.Definition.State.{State}
-use Rattle.wbt_replay_order.specs.Claims.Path.{IsFollowed}
-use Rattle.wbt_replay_order.specs.Claims.Setting.{setting_of, writers_in, writer_at}
-use Rattle.wbt_replay_order.specs.Definition.Opening.{opening}
-use Rattle.wbt_replay_order.specs.Definition.Order.{advance, is_ended}
-use Rattle.wbt_replay_order.specs.Definition.Run.{last_state, most_moves}
-use Rattle.wbt_replay_order.specs.Kept.Facts.{Facts}
-use Rattle.wbt_replay_order.specs.Kept.Sound.{Sound}
+use Rattle.wbt_replay_order.proofs.Common.{Trace, Setting, IsSetting, State, IsFollowed, setting_of, writers_in, writer_at, opening, advance, is_ended, last_state, most_moves, Facts, Sound}
 use Rattle.wbt_replay_order.proofs.Growth.Most.{most_kept}
 use Rattle.wbt_replay_path.proofs.Follow.Moving.{Fits, advance_moves}
 use Rattle.wbt_replay_path.proofs.Follow.Opening.{opening_follows, setting_firsts}

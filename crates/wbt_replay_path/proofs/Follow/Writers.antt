@@ -4,28 +4,11 @@ use Rattle.std.proofs.Math.ListN.{set}
 use Rattle.std.proofs.lemmas.List.{get_or-set_same, get_or-set_other}
 use mathlib.Core.Logic.{dite}
 use native.Mathlib.Decide.{ℕ_discrete}
-use Rattle.wbt_trace.specs.WriterList.{is_writer}
-use Rattle.wbt_trace.specs.declared.trace.Trace.{Trace}
-use Rattle.wbt_counter.specs.declared.counter.Counter.{Counter}
-use Rattle.wbt_grant.specs.declared.record.CpuRecord.{CpuRecord}
-use Rattle.wbt_grant.specs.declared.record.WriterRecord.{WriterRecord}
+use Rattle.wbt_replay_order.proofs.Common.{is_writer, Trace, Counter, CpuRecord, WriterRecord, Setting, holding, new_writer, Due, Writer, writer_in, writer_of, no_task, Cpu, Flusher, ReplayTask, writers_in, writer_at, task_cpu, IsTaskOn, Suits, FollowsCpu}
 use Rattle.wbt_grant.specs.Record as made
-use Rattle.wbt_grant.specs.Setting.{Setting}
-use Rattle.wbt_grant.specs.State.{holding, writer_in as record_of}
+use Rattle.wbt_grant.specs.State.{writer_in as record_of}
 use Rattle.wbt_grant.proofs.Entries.{entry_of-with}
-use Rattle.wbt_task.specs.History.{new_writer}
-use Rattle.wbt_task.specs.declared.allowance.Due.{Due}
 use Rattle.wbt_task.specs.declared.allowance.Due.TheVariants as due
-use Rattle.wbt_task.specs.declared.history.Writer.{Writer}
-use Rattle.wbt_replay_moves.specs.Definition.Check.{writer_in, writer_of}
-use Rattle.wbt_replay_moves.specs.Definition.State.{no_task}
-use Rattle.wbt_replay_moves.specs.declared.state.Cpu.{Cpu}
-use Rattle.wbt_replay_moves.specs.declared.state.Flusher.{Flusher}
-use Rattle.wbt_replay_moves.specs.declared.state.ReplayTask.{ReplayTask}
-use Rattle.wbt_replay_order.specs.Claims.Setting.{writers_in, writer_at}
-use Rattle.wbt_replay_order.specs.Definition.Tasks.{task_cpu}
-use Rattle.wbt_replay_order.specs.Kept.Facts.{IsTaskOn}
-use Rattle.wbt_replay_order.specs.Kept.Following.{Suits, FollowsCpu}
 
 pub due_cases : (d : Due) → (d ≡ due.No) ⊎ (d ≡ due.Check)
 due_cases due.No = inl refl

@@ -4,14 +4,11 @@ use Rattle.std.proofs.lemmas.Bool.{cond-true, cond-false}
 use Rattle.std.proofs.lemmas.List.Elements.{Contains-push, Contains-append_left}
 use mathlib.Core.Logic.{dite}
 use native.Mathlib.Decide.{ℕ_discrete}
-use Rattle.wbt_expiry.specs.Waiting.{with_pair, Each as EachPair}
+use Rattle.wbt_replay_order.proofs.Common.{with_pair, each_put, due_after, Trace, Told, Along}
+use Rattle.wbt_expiry.specs.Waiting.{Each as EachPair}
 use Rattle.wbt_expiry.specs.declared.due.Due.{Due}
-use Rattle.wbt_expiry.proofs.Sorting.{each_put}
-use Rattle.wbt_rules.specs.Age.{due_after}
-use Rattle.wbt_trace.specs.declared.trace.Trace.{Trace}
-use Rattle.wbt_journal.specs.Told.{Told, wrote, folded, checked, claimed, batch, done, share, estimated, fault, gave_back, noticed, aged, took}
+use Rattle.wbt_journal.specs.Told.{wrote, folded, checked, claimed, batch, done, share, estimated, fault, gave_back, noticed, aged, took}
 use Rattle.wbt_journal.specs.Waits.{noticed_pair, without_first, MayAge}
-use Rattle.wbt_journal.specs.Walk.{Along}
 use Rattle.wbt_run_laws.specs.Waits.{list_after, WaitsInTurn}
 use Rattle.wbt_replay_order.specs.Claims.Ages.{WasDue, AgedWasDue, and_then}
 

@@ -2,19 +2,10 @@
 use Rattle.std.proofs.Common.{◌≡◌, ℕ, zero, suc, ◌<◌, ◌≤◌, List, length, All, sym, ◌∙◌, ap, subst, arith}
 use Rattle.std.proofs.lemmas.List.{get_or_past}
 use Rattle.std.proofs.lemmas.List.Elements.{All-head}
-use Rattle.wbt_task.specs.History.{new_writer}
+use Rattle.wbt_replay_order.proofs.Common.{new_writer, Writer, Trace, writer_of, State, cpu_of, task_of, ReplayTask, Whose, Todo, Sound, IsWhose, Agrees}
 use Rattle.wbt_task.specs.declared.allowance.Due.TheVariants as due
-use Rattle.wbt_task.specs.declared.history.Writer.{Writer}
-use Rattle.wbt_trace.specs.declared.trace.Trace.{Trace}
-use Rattle.wbt_replay_moves.specs.Definition.Check.{writer_of}
-use Rattle.wbt_replay_moves.specs.Definition.State.{State, cpu_of, task_of}
-use Rattle.wbt_replay_moves.specs.declared.state.ReplayTask.{ReplayTask}
-use Rattle.wbt_replay_moves.specs.declared.state.Whose.{Whose}
 use Rattle.wbt_replay_moves.specs.declared.todo.Silent.TheVariants as move
-use Rattle.wbt_replay_moves.specs.declared.todo.Todo.{Todo}
 use Rattle.wbt_replay_moves.specs.declared.todo.Todo.TheVariants as todo
-use Rattle.wbt_replay_order.specs.Kept.Sound.{Sound, IsWhose}
-use Rattle.wbt_replay_order.specs.Kept.Turns.{Agrees}
 use Rattle.wbt_replay_points.proofs.Claims.Decided.{ChecksFit}
 
 no_writer_due : (new_writer 0).due ≡ due.Check → ⊥

@@ -1,20 +1,8 @@
 -- Each page's ledger by what the lines of the journal tell, at each moment of a run that is followed.
 use Rattle.std.proofs.Common.{◌≡◌, ℕ, Bool, [], refl, ◌∙◌, ap, arith}
-use Rattle.wbt_trace.specs.declared.trace.Trace.{Trace}
-use Rattle.wbt_counter.proofs.Sums.{total_same}
-use Rattle.wbt_counter.specs.Sums.{one_if}
-use Rattle.wbt_book.specs.Book.{Book}
-use Rattle.wbt_book.specs.Ledger.{all_times, times, dirties, claims, completes, redirties, absorbs}
-use Rattle.wbt_book.specs.declared.event.Event.{Event}
-use Rattle.wbt_grant.specs.Setting.{IsSetting}
+use Rattle.wbt_replay_order.proofs.Common.{Trace, total_same, one_if, Book, all_times, times, dirties, Event, IsSetting, deeds_of, State, cpu_of, deeds_told, AreCleaned, events_told, IsFollowed, setting_of, NeverFails, state_at}
+use Rattle.wbt_book.specs.Ledger.{claims, completes, redirties, absorbs}
 use Rattle.wbt_grant.specs.State as throttle
-use Rattle.wbt_grant.specs.State.{deeds_of}
-use Rattle.wbt_replay_moves.specs.Definition.State.{State, cpu_of}
-use Rattle.wbt_replay_order.specs.Claims.Cleaned.{deeds_told, AreCleaned}
-use Rattle.wbt_replay_order.specs.Claims.Path.{events_told, IsFollowed}
-use Rattle.wbt_replay_order.specs.Claims.Setting.{setting_of}
-use Rattle.wbt_replay_order.specs.Claims.Unfailing.{NeverFails}
-use Rattle.wbt_replay_order.specs.Definition.Run.{state_at}
 use Rattle.wbt_replay_points.proofs.Claims.Counted.{state_of, rule_at}
 use Rattle.wbt_replay_points.proofs.Claims.Unfailing.{none_given_back}
 

@@ -5,30 +5,22 @@ use Rattle.std.proofs.lemmas.Bool.{cond-true, cond-false}
 use Rattle.std.specs.List.{slice_get}
 use mathlib.Core.Logic.{dite}
 use native.Mathlib.Decide.{ℕ_discrete}
-use Rattle.wbt_counter.specs.Sums.{put, one_if}
-use Rattle.wbt_counter.specs.declared.counter.Counter.TheVariants.{Domain, Context}
+use Rattle.wbt_replay_order.proofs.Common.{put, one_if, Context, Book, Bits, is_claimable, bits_after, places, grant, page_now, last_found, AreAllowed, Rule, Setting, IsSetting, is_inside, context_count, domain_count, deeds_of, StepKind, is_in, change_in, StepEntry, pages_after, entries_of, plain_entry, change_entry}
+use Rattle.wbt_counter.specs.declared.counter.Counter.TheVariants.{Domain}
 use Rattle.wbt_book.specs.declared.event.Event.TheVariants as event
-use Rattle.wbt_book.specs.Book.{Book, Bits, is_claimable, bits_after}
-use Rattle.wbt_book.specs.Counts.{places}
 use Rattle.wbt_book.proofs.Ledgers as ledgers
-use Rattle.wbt_grant.specs.Kinds.{Step, add, fold, clear, count, dirty, look, claim, complete, back, peak, unseal, thresh, publish, first, middle, limits, mark, unmark, grant, page_now, last_found, with_record, with_event, dirty_step, after, run, Allowed, AreAllowed, event_back, back_step, MayDirty, MayClaim, MayComplete, MayGiveBack}
+use Rattle.wbt_grant.specs.Kinds.{Step, add, fold, clear, count, dirty, look, claim, complete, back, peak, unseal, thresh, publish, first, middle, limits, mark, unmark, with_record, with_event, dirty_step, after, run, Allowed, event_back, back_step, MayDirty, MayClaim, MayComplete, MayGiveBack}
 use Rattle.wbt_grant.specs.Record
-use Rattle.wbt_grant.specs.Rule.{Rule}
-use Rattle.wbt_grant.specs.Setting.{Setting, IsSetting, is_inside}
 use Rattle.wbt_grant.specs.State as throttle
-use Rattle.wbt_grant.specs.State.{context_count, domain_count, deeds_of}
 use Rattle.wbt_grant.proofs.Frames.{exact_shift}
 use Rattle.wbt_grant.proofs.Whole.{step_keeps}
-use Rattle.wbt_grant.specs.declared.who.StepKind.{StepKind}
 use Rattle.wbt_grant.specs.declared.who.StepKind.TheVariants as kind
 use Rattle.wbt_grant.specs.declared.who.Who.TheVariants.{Writer, Cpu, Timer}
-use Rattle.wbt_journal.specs.Steps.{is_in, change_in, raised, columns_after, step_line, step_lines}
+use Rattle.wbt_journal.specs.Steps.{raised, columns_after, step_line, step_lines}
 use Rattle.wbt_journal.specs.declared.columns.Column.{Column}
-use Rattle.wbt_journal.specs.declared.step.StepEntry.{StepEntry}
 use Rattle.wbt_replay_order.specs.Claims.Bound.{columns_at}
-use Rattle.wbt_replay_order.specs.Definition.Strict.{pages_after}
 use Rattle.wbt_replay_order.proofs.Facts.Lists.{either}
-use Rattle.wbt_replay_order.specs.Claims.Path.{entries_of, tells, plain_entry, change_entry}
+use Rattle.wbt_replay_order.specs.Claims.Path.{tells}
 
 -- the column of a domain in a state of the relation, and those of so many domains from one on
 abbrev pub column_in : (set : Setting) (base : ℕ → ℕ) (t : throttle.State) (d : ℕ) → Column

@@ -7,35 +7,20 @@ use Rattle.std.specs.List.{slice_get}
 use mathlib.Core.Logic.{dite}
 use native.Mathlib.Decide.{ℕ_discrete}
 use Rattle.wbt_trace.specs.declared.trace.Context.{Context}
-use Rattle.wbt_trace.specs.declared.trace.Trace.{Trace}
+use Rattle.wbt_replay_order.proofs.Common.{Trace, total, one_if, total_nothing, Book, clean, Rule, Setting, IsSetting, is_inside, domain_count, context_count, if_nothing, opening_keeps, always_holds, domains, is_some_of, StepEntry, TimerEntry, State, domain_of, context_of, group_of, IsBounded, IsCounted, PrintsBound, IsBoundedCloser, IsFollowed, setting_of, inode_with, writers_in, writer_at, first_limits, first_entries, opening_moment, most_moves, state_at, last_state, base_of, bases_of, writer_homes, journal_of}
 use Rattle.wbt_trace.specs.declared.writers.Writer.{Writer}
-use Rattle.wbt_counter.specs.Sums.{total, one_if}
-use Rattle.wbt_counter.proofs.Sums.{total_nothing}
-use Rattle.wbt_book.specs.Book.{Book, clean}
 use Rattle.wbt_grant.specs.Bound.{bound}
 use Rattle.wbt_grant.specs.Formula.{fixed_bound}
 use Rattle.wbt_grant.specs.Kinds as relation
 use Rattle.wbt_grant.specs.Kinds.{Step}
-use Rattle.wbt_grant.specs.Rule.{Rule}
-use Rattle.wbt_grant.specs.Setting.{Setting, IsSetting, is_inside}
 use Rattle.wbt_grant.specs.State as throttle
-use Rattle.wbt_grant.specs.State.{domain_count, context_count}
-use Rattle.wbt_grant.proofs.Bounding.{if_nothing, peak_bounds}
-use Rattle.wbt_grant.proofs.Whole.{opening_keeps, always_holds}
-use Rattle.wbt_journal.specs.Machine.{domains}
-use Rattle.wbt_journal.specs.Steps.{first_hard, first_columns, columns_after, is_some_of}
+use Rattle.wbt_grant.proofs.Bounding.{peak_bounds}
+use Rattle.wbt_journal.specs.Steps.{first_hard, first_columns, columns_after}
 use Rattle.wbt_journal.specs.declared.columns.Column.{Column}
-use Rattle.wbt_journal.specs.declared.step.StepEntry.{StepEntry}
-use Rattle.wbt_journal.specs.declared.timer.TimerEntry.{TimerEntry}
 use Rattle.wbt_journal.specs.declared.timer.TimerEntry.TheVariants as entry
-use Rattle.wbt_replay_moves.specs.Definition.State.{State, domain_of}
-use Rattle.wbt_rules.specs.Things.{context_of, group_of}
-use Rattle.wbt_replay_order.specs.Claims.Bound.{columns_at, printed_after, bound_in, ArePrinted, AreWithin, AreWithinAfter, IsBounded, exact_counts, IsCounted, bounds_at, PrintsBound, IsBoundedCloser}
-use Rattle.wbt_replay_order.specs.Claims.Path.{tells, IsFollowed}
-use Rattle.wbt_replay_order.specs.Claims.Setting.{setting_of, inode_with, writers_in, writer_at}
-use Rattle.wbt_replay_order.specs.Definition.Opening.{first_limits, first_entries, opening_moment}
+use Rattle.wbt_replay_order.specs.Claims.Bound.{columns_at, printed_after, bound_in, ArePrinted, AreWithin, AreWithinAfter, exact_counts, bounds_at}
+use Rattle.wbt_replay_order.specs.Claims.Path.{tells}
 use Rattle.wbt_replay_order.specs.Definition.Run as replay
-use Rattle.wbt_replay_order.specs.Definition.Run.{most_moves, state_at, last_state, base_of, bases_of, writer_homes, journal_of}
 use Rattle.wbt_replay_points.proofs.Claims.Columns.{column_in, columns_in, AreHomes, columns_follow, line_at}
 use Rattle.wbt_replay_order.proofs.Growth.Grown.{was_past}
 use Rattle.wbt_replay_points.proofs.Claims.Peaks.{peaks_at}

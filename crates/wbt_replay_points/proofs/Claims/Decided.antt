@@ -6,49 +6,19 @@ use Rattle.std.proofs.lemmas.List.{get_or_past, get_or_append_left, get_or_push,
 use Rattle.std.proofs.lemmas.List.Elements.{Contains-push, Contains-append_left}
 use mathlib.Core.Logic.{dite}
 use native.Mathlib.Decide.{ℕ_discrete}
-use Rattle.wbt_trace.specs.declared.trace.Trace.{Trace}
-use Rattle.wbt_estimate.specs.Estimate.{update_of}
-use Rattle.wbt_estimate.specs.declared.estimate.Estimate.{Estimate}
-use Rattle.wbt_flex.specs.Proportions.{after_period}
-use Rattle.wbt_flex.specs.declared.half.Half.{Half}
-use Rattle.wbt_journal.specs.declared.entry.CheckEntry.{CheckEntry}
-use Rattle.wbt_journal.specs.declared.entry.DomainLine.{DomainLine}
-use Rattle.wbt_journal.specs.declared.entry.EstEntry.{EstEntry}
+use Rattle.wbt_replay_order.proofs.Common.{Trace, update_of, Estimate, after_period, Half, CheckEntry, DomainLine, EstEntry, first_estimate, is_strict, decision_for, Decision, Reads, writer_of, writer_in, decision_at, check_of, cgroup_line, decide_for, checked, estimated, estimate, estimate_to, sample_of, make_timer_step, make_timer_move, State, no_cpu, no_task, no_context, cpu_of, with_cpu, task_of, domain_of, writeback_of, group_of, begin_timer, with_timer, load, peak, unseal, thresh, publish, period, period_to, is_time, periods, Cpu, Domain, ReplayTask, ReplayTurn, Writeback, TimerSilent, TimerStep, TimerTodo, Todo, IsDecided, EachFrom, AreDecided, opening, opening_moment, first_cpu, first_cpus, first_context, first_contexts, is_ended, most_moves, state_at}
 use Rattle.wbt_pause.proofs.Deciding.{longest_within_200}
-use Rattle.wbt_rules.specs.First.{first_estimate}
-use Rattle.wbt_rules.specs.Strict.{is_strict}
 use Rattle.wbt_strict.proofs.Deciding.{pauses_within_longest}
-use Rattle.wbt_strict.specs.Decision.{decision_for}
-use Rattle.wbt_pause.specs.declared.decision.Decision.{Decision}
 use Rattle.wbt_pause.specs.declared.reads.Task.{Task as Numbers}
-use Rattle.wbt_pause.specs.declared.reads.Reads.{Reads}
-use Rattle.wbt_replay_moves.specs.Definition.Check.{writer_of, writer_in, reads_of, decision_at, check_of, cgroup_line, decide_for}
-use Rattle.wbt_replay_moves.specs.Definition.Cpu.{checked, estimated}
-use Rattle.wbt_replay_moves.specs.Definition.Estimates.{estimate, estimate_to, sample_of}
-use Rattle.wbt_replay_moves.specs.Definition.Perform.{make_timer_step, make_timer_move}
-use Rattle.wbt_replay_moves.specs.Definition.State.{State, no_cpu, no_task, no_context, cpu_of, with_cpu, task_of, domain_of, writeback_of}
-use Rattle.wbt_rules.specs.Things.{group_of}
-use Rattle.wbt_replay_moves.specs.Definition.Timer.{begin_timer, with_timer, load, peak, unseal, thresh, publish, period, period_to, is_time, periods}
+use Rattle.wbt_replay_moves.specs.Definition.Check.{reads_of}
 use Rattle.wbt_task.specs.declared.allowance.Due.TheVariants as due
-use Rattle.wbt_replay_moves.specs.declared.state.Cpu.{Cpu}
-use Rattle.wbt_replay_moves.specs.declared.state.Domain.{Domain}
-use Rattle.wbt_replay_moves.specs.declared.state.ReplayTask.{ReplayTask}
-use Rattle.wbt_replay_moves.specs.declared.state.ReplayTurn.{ReplayTurn}
 use Rattle.wbt_replay_moves.specs.declared.state.Whose.TheVariants as whose
-use Rattle.wbt_replay_moves.specs.declared.state.Writeback.{Writeback}
 use Rattle.wbt_replay_moves.specs.declared.todo.Silent.TheVariants as move
-use Rattle.wbt_replay_moves.specs.declared.todo.TimerSilent.{TimerSilent}
 use Rattle.wbt_replay_moves.specs.declared.todo.TimerSilent.TheVariants as silent
-use Rattle.wbt_replay_moves.specs.declared.todo.TimerStep.{TimerStep}
 use Rattle.wbt_replay_moves.specs.declared.todo.TimerStep.TheVariants as step
-use Rattle.wbt_replay_moves.specs.declared.todo.TimerTodo.{TimerTodo}
 use Rattle.wbt_replay_moves.specs.declared.todo.TimerTodo.TheVariants as timer_todo
-use Rattle.wbt_replay_moves.specs.declared.todo.Todo.{Todo}
 use Rattle.wbt_replay_moves.specs.declared.todo.Todo.TheVariants as todo
-use Rattle.wbt_replay_order.specs.Claims.Decided.{IsPublished, WasAsked, IsDecided, EachFrom, AreDecided}
-use Rattle.wbt_replay_order.specs.Definition.Opening.{opening, opening_moment, first_cpu, first_cpus, first_context, first_contexts}
-use Rattle.wbt_replay_order.specs.Definition.Order.{is_ended}
-use Rattle.wbt_replay_order.specs.Definition.Run.{most_moves, state_at}
+use Rattle.wbt_replay_order.specs.Claims.Decided.{IsPublished, WasAsked}
 use Rattle.wbt_replay_order.proofs.Facts.Lists.{either}
 use Rattle.wbt_replay_order.proofs.Growth.Advancing.{advance_keeps}
 use Rattle.wbt_replay_order.proofs.Growth.Runs.{run_none, run_last, run_stays}

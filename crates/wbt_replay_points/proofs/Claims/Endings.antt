@@ -3,15 +3,9 @@ use Rattle.std.proofs.Common.{◌≡◌, ◌≢◌, ◌⊎◌, inl, inr, ℕ, su
 use Rattle.std.specs.List.{count_by}
 use Rattle.std.proofs.lemmas.Bool.Decides.{nat_tests}
 use Rattle.std.proofs.lemmas.List.Sums.{sum_by-cons, get_or-le-sum_by}
-use Rattle.wbt_trace.specs.declared.trace.Trace.{Trace}
+use Rattle.wbt_replay_order.proofs.Common.{Trace, State, no_cpu, cpu_of, HasEnded, is_over, is_halted, most_moves, last_state, ending_of, journal_of, IsWithinHalt, Ending, is_stopped, Sound}
 use Rattle.wbt_journal.specs.declared.journal.Ending.TheVariants as ending
-use Rattle.wbt_replay_moves.specs.Definition.State.{State, no_cpu, cpu_of}
-use Rattle.wbt_replay_order.specs.Claims.Bound.{HasEnded}
-use Rattle.wbt_replay_order.specs.Claims.Ending.{is_over, IsSpentAt, IsStoppedAt, EndsSo}
-use Rattle.wbt_replay_order.specs.Definition.Order.{is_halted}
-use Rattle.wbt_replay_order.specs.Definition.Run.{most_moves, last_state, ending_of, journal_of}
-use Rattle.wbt_replay_order.specs.Kept.Ending.{IsWithinHalt, Ending}
-use Rattle.wbt_replay_order.specs.Kept.Sound.{is_stopped, Sound}
+use Rattle.wbt_replay_order.specs.Claims.Ending.{IsSpentAt, IsStoppedAt, EndsSo}
 use Rattle.wbt_replay_order.proofs.Growth.Most.{most_at}
 
 -- ---- counts

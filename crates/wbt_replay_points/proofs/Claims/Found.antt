@@ -4,38 +4,19 @@ use Rattle.std.specs.List.{slice_get}
 use Rattle.std.proofs.lemmas.List.{length-map}
 use Rattle.std.proofs.lemmas.List.Elements.{All-weaker}
 use Rattle.std.proofs.lemmas.List.Sums.{sum_by-cons, sum_by-append}
-use Rattle.wbt_trace.specs.declared.trace.Trace.{Trace}
-use Rattle.wbt_counter.specs.Sums.{one_if}
-use Rattle.wbt_counter.proofs.Sums.{total_same}
-use Rattle.wbt_book.specs.Ledger.{dirties, times, all_times}
-use Rattle.wbt_book.specs.declared.event.Event.{Event}
-use Rattle.wbt_book.specs.declared.event.Event.TheVariants.{Dirty, Claim, Complete, Redirty, Absorb}
+use Rattle.wbt_replay_order.proofs.Common.{Trace, one_if, total_same, dirties, times, all_times, Event, Dirty, Claim, Complete, IsSetting, deeds_of, always_holds, Each, event_of, of_part, FoundWereDirtied, Told, one_checked, one_estimated, told_entry, told, CheckEntry, Entry, EstEntry, event_in, onto, eqb_turned, all_rest, each_of_all, each_weaker, each_joined, joined, told_is, State, cpu_of, Cpu, events_told, founds_told, IsFollowed, setting_of, most_moves, part_of, last_state, journal_of}
+use Rattle.wbt_book.specs.declared.event.Event.TheVariants.{Redirty, Absorb}
 use Rattle.wbt_grant.specs.Laws.{Holds}
 use Rattle.wbt_grant.specs.Rule as was
-use Rattle.wbt_grant.specs.Setting.{IsSetting}
 use Rattle.wbt_grant.specs.State as throttle
-use Rattle.wbt_grant.specs.State.{deeds_of}
-use Rattle.wbt_grant.proofs.Whole.{always_holds}
-use Rattle.wbt_journal.specs.Each.{Each}
-use Rattle.wbt_journal.specs.Effects.{event_of, found_of, listed, of_part}
-use Rattle.wbt_journal.specs.Lawful.{FoundWereDirtied}
+use Rattle.wbt_journal.specs.Effects.{found_of, listed}
 use Rattle.wbt_journal.specs.Leaves as leaves
 use Rattle.wbt_journal.specs.Leaves.{WasDirtied}
-use Rattle.wbt_journal.specs.Told.{Told, one_checked, one_estimated, told_entry, told}
-use Rattle.wbt_journal.specs.declared.entry.CheckEntry.{CheckEntry}
-use Rattle.wbt_journal.specs.declared.entry.Entry.{Entry}
 use Rattle.wbt_journal.specs.declared.entry.Entry.TheVariants as entry
-use Rattle.wbt_journal.specs.declared.entry.EstEntry.{EstEntry}
-use Rattle.wbt_run_laws.specs.Grew.{event_in, found_in, onto}
+use Rattle.wbt_run_laws.specs.Grew.{found_in}
 use Rattle.wbt_run_laws.proofs.Effects.{if_listed}
-use Rattle.wbt_run_laws.proofs.Lefts.{eqb_turned}
-use Rattle.wbt_run_laws.proofs.Lists.{all_front, all_rest, each_of_all, each_weaker}
-use Rattle.wbt_run_laws.proofs.Parts.{each_joined, joined, records_sum, told_is}
-use Rattle.wbt_replay_moves.specs.Definition.State.{State, cpu_of}
-use Rattle.wbt_replay_moves.specs.declared.state.Cpu.{Cpu}
-use Rattle.wbt_replay_order.specs.Claims.Path.{events_told, founds_told, IsFollowed}
-use Rattle.wbt_replay_order.specs.Claims.Setting.{setting_of}
-use Rattle.wbt_replay_order.specs.Definition.Run.{most_moves, part_of, last_state, journal_of}
+use Rattle.wbt_run_laws.proofs.Lists.{all_front}
+use Rattle.wbt_run_laws.proofs.Parts.{records_sum}
 use Rattle.wbt_replay_points.proofs.Claims.Counted.{state_of}
 use Rattle.wbt_replay_points.proofs.Claims.Sums.{part_at, cpus_are}
 

@@ -1,32 +1,12 @@
 -- No count that a check prints is older than what its CPU had printed or folded before.
 use Rattle.std.proofs.Common.{inl, inr, ◌≡◌, ℕ, zero, suc, ◌+◌, ◌<◌, ◌≤◌, true, List, [], ◌∷◌, ◌++◌, map, All, refl, sym, subst, arith}
-use Rattle.wbt_trace.specs.declared.trace.Trace.{Trace}
-use Rattle.wbt_counter.specs.Counters.{is_same}
-use Rattle.wbt_counter.specs.declared.counter.Counter.{Counter}
+use Rattle.wbt_replay_order.proofs.Common.{Trace, is_same, Counter, Fold, Reading, is_same-true, is_same-itself, IsSetting, Load, Version, fold_in, loads_in, is_fresh_count, CountsAreFresh, versions_after, Each, tells, OfPart, EachPart, Told, told, Along, parts_back, group_of, onto, all_rest, each_of_all, each_weaker, State, cpu_of, task_of, Cpu, ReplayTurn, AreAmong, readings_told, folds_told, FoldsBehind, IsFollowed, setting_of, most_moves, state_at, last_state, part_of, journal_of, Sound}
 use Rattle.wbt_counter.specs.declared.counter.Counter.TheVariants as counter
-use Rattle.wbt_counter.specs.declared.record.Fold.{Fold}
-use Rattle.wbt_counter.specs.declared.record.Reading.{Reading}
-use Rattle.wbt_counter.proofs.Debts.{is_same-true, is_same-itself}
 use Rattle.wbt_grant.specs.Rule.{NewestFirst}
-use Rattle.wbt_grant.specs.Setting.{IsSetting}
-use Rattle.wbt_journal.specs.Counts.{Load, Version, fold_in, loads_in, is_fresh_count, CountsAreFresh, versions_after}
-use Rattle.wbt_journal.specs.Each.{Each}
-use Rattle.wbt_journal.specs.Items.{tells}
-use Rattle.wbt_journal.specs.Laws.{OfPart}
-use Rattle.wbt_journal.specs.Lawful.{CountsStayFresh, EachPart}
-use Rattle.wbt_journal.specs.Told.{Told, told}
-use Rattle.wbt_journal.specs.Walk.{Along}
-use Rattle.wbt_journal.proofs.Parting.{parts_back}
-use Rattle.wbt_rules.specs.Things.{group_of}
-use Rattle.wbt_run_laws.specs.Grew.{onto, reading_of}
-use Rattle.wbt_run_laws.proofs.Lists.{all_front, all_rest, each_of_all, each_weaker}
-use Rattle.wbt_replay_moves.specs.Definition.State.{State, cpu_of, task_of}
-use Rattle.wbt_replay_moves.specs.declared.state.Cpu.{Cpu}
-use Rattle.wbt_replay_moves.specs.declared.state.ReplayTurn.{ReplayTurn}
-use Rattle.wbt_replay_order.specs.Claims.Path.{AreAmong, readings_told, folds_told, turn_loads, FoldsBehind, IsFollowed}
-use Rattle.wbt_replay_order.specs.Claims.Setting.{setting_of}
-use Rattle.wbt_replay_order.specs.Definition.Run.{most_moves, state_at, last_state, part_of, journal_of}
-use Rattle.wbt_replay_order.specs.Kept.Sound.{Sound}
+use Rattle.wbt_journal.specs.Lawful.{CountsStayFresh}
+use Rattle.wbt_run_laws.specs.Grew.{reading_of}
+use Rattle.wbt_run_laws.proofs.Lists.{all_front}
+use Rattle.wbt_replay_order.specs.Claims.Path.{turn_loads}
 use Rattle.wbt_replay_order.proofs.Growth.Afresh.{told_in, seen_in, FoldBehind, LoadBehind, all_behind}
 use Rattle.wbt_replay_points.proofs.Claims.Counted.{rule_at}
 use Rattle.wbt_replay_points.proofs.Claims.Named.{AllNamed, MayDecide, check_loads, named_at}

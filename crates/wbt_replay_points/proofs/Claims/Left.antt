@@ -4,14 +4,8 @@ use Rattle.std.specs.List.{count_by}
 use Rattle.std.proofs.lemmas.Bool.{cases_eq}
 use Rattle.std.proofs.lemmas.Bool.Decides.{nat_tests}
 use Rattle.std.proofs.lemmas.List.Sums.{sum_by-cons}
-use Rattle.wbt_trace.specs.declared.trace.Trace.{Trace}
-use Rattle.wbt_book.specs.Book.{Bits, Book, page_word}
-use Rattle.wbt_counter.specs.Sums.{one_if}
+use Rattle.wbt_replay_order.proofs.Common.{Trace, Bits, Book, page_word, one_if, Left, TellsLeft, left_from, last_state, journal_of, Sound}
 use Rattle.wbt_journal.specs.Text.{is_left_dirty, is_left_writeback}
-use Rattle.wbt_journal.specs.declared.journal.Left.{Left}
-use Rattle.wbt_replay_order.specs.Claims.Left.{TellsLeft}
-use Rattle.wbt_replay_order.specs.Definition.Run.{left_from, last_state, journal_of}
-use Rattle.wbt_replay_order.specs.Kept.Sound.{Sound}
 
 -- a bit of a page, and what a line of the list says of it
 pub record Bit : Type 0 where

@@ -3,42 +3,16 @@ use Rattle.std.proofs.Common.{◌≡◌, ℕ, zero, suc, ◌+◌, ◌<◌, true,
 use Rattle.std.proofs.Math.ListN.{set}
 use Rattle.std.proofs.lemmas.Bool.{cases_Bool}
 use Rattle.std.proofs.lemmas.List.{get_or-set_same}
-use Rattle.wbt_trace.specs.declared.trace.Trace.{Trace}
-use Rattle.wbt_estimate.specs.Estimate.{update_of}
-use Rattle.wbt_estimate.specs.declared.estimate.Estimate.{Estimate}
-use Rattle.wbt_flex.specs.Proportions.{after_period}
-use Rattle.wbt_flex.specs.declared.half.Half.{Half}
+use Rattle.wbt_replay_order.proofs.Common.{Trace, update_of, Estimate, after_period, Half, Load, cgroup_reads, read_loads, loads_of, is_fresh_count, Each, InOrder, CheckEntry, Entry, EstEntry, global_line, cgroup_line, decision_at, check_of, decide_for, checked, estimated, estimate, estimate_to, sample_of, make_timer_step, make_timer_move, State, no_cpu, no_task, cpu_of, with_cpu, task_of, domain_of, writeback_of, with_timer, period_to, period, is_time, periods, Cpu, ReplayTask, ReplayTurn, TimerSilent, TimerStep, TimerTodo, Todo, opening, first_cpu, first_cpus, is_ended, state_at, part_of, group_of}
 use Rattle.wbt_counter.specs.declared.counter.Counter.TheVariants as counter
-use Rattle.wbt_journal.specs.Counts.{Load, cgroup_reads, read_loads, loads_of, is_fresh_count}
-use Rattle.wbt_journal.specs.Each.{Each}
-use Rattle.wbt_journal.specs.Told.{InOrder, NamesInOrder}
-use Rattle.wbt_journal.specs.declared.entry.CheckEntry.{CheckEntry}
-use Rattle.wbt_journal.specs.declared.entry.Entry.{Entry}
+use Rattle.wbt_journal.specs.Told.{NamesInOrder}
 use Rattle.wbt_journal.specs.declared.entry.Entry.TheVariants as entry
-use Rattle.wbt_journal.specs.declared.entry.EstEntry.{EstEntry}
-use Rattle.wbt_replay_moves.specs.Definition.Check.{global_line, cgroup_line, decision_at, check_of, decide_for}
-use Rattle.wbt_replay_moves.specs.Definition.Cpu.{checked, estimated}
-use Rattle.wbt_replay_moves.specs.Definition.Estimates.{estimate, estimate_to, sample_of}
-use Rattle.wbt_replay_moves.specs.Definition.Perform.{make_timer_step, make_timer_move}
-use Rattle.wbt_replay_moves.specs.Definition.State.{State, no_cpu, no_task, cpu_of, with_cpu, task_of, domain_of, writeback_of}
-use Rattle.wbt_replay_moves.specs.Definition.Timer.{with_timer, period_to, period, is_time, periods}
-use Rattle.wbt_replay_moves.specs.declared.state.Cpu.{Cpu}
-use Rattle.wbt_replay_moves.specs.declared.state.ReplayTask.{ReplayTask}
-use Rattle.wbt_replay_moves.specs.declared.state.ReplayTurn.{ReplayTurn}
 use Rattle.wbt_replay_moves.specs.declared.state.Whose.TheVariants as whose
 use Rattle.wbt_replay_moves.specs.declared.todo.Silent.TheVariants as move
-use Rattle.wbt_replay_moves.specs.declared.todo.TimerSilent.{TimerSilent}
 use Rattle.wbt_replay_moves.specs.declared.todo.TimerSilent.TheVariants as silent
-use Rattle.wbt_replay_moves.specs.declared.todo.TimerStep.{TimerStep}
 use Rattle.wbt_replay_moves.specs.declared.todo.TimerStep.TheVariants as step
-use Rattle.wbt_replay_moves.specs.declared.todo.TimerTodo.{TimerTodo}
 use Rattle.wbt_replay_moves.specs.declared.todo.TimerTodo.TheVariants as timer_todo
-use Rattle.wbt_replay_moves.specs.declared.todo.Todo.{Todo}
 use Rattle.wbt_replay_moves.specs.declared.todo.Todo.TheVariants as todo
-use Rattle.wbt_replay_order.specs.Definition.Opening.{opening, first_cpu, first_cpus}
-use Rattle.wbt_replay_order.specs.Definition.Order.{is_ended}
-use Rattle.wbt_replay_order.specs.Definition.Run.{state_at, part_of}
-use Rattle.wbt_rules.specs.Things.{group_of}
 use Rattle.wbt_replay_order.proofs.Facts.Lists.{either}
 use Rattle.wbt_replay_order.proofs.Outset.Numbered.{numbered_all}
 use Rattle.wbt_replay_order.proofs.Growth.Advancing.{advance_keeps}

@@ -4,34 +4,15 @@ use Rattle.std.proofs.lemmas.Bool.{cases_lt, cond-true, cond-false}
 use Rattle.std.proofs.lemmas.List.{get_or-set_same, get_or-set_other, get_or_append_left, get_or_push, length-set, append-nil}
 use mathlib.Core.Logic.{dite}
 use native.Mathlib.Decide.{ℕ_discrete}
-use Rattle.wbt_trace.specs.declared.trace.Trace.{Trace}
-use Rattle.wbt_estimate.specs.declared.estimate.Estimate.{Estimate}
-use Rattle.wbt_estimate.specs.Estimate.{update_of}
-use Rattle.wbt_flex.specs.Proportions.{after_period}
-use Rattle.wbt_flex.specs.declared.half.Half.{Half}
-use Rattle.wbt_journal.specs.Machine.{domains}
-use Rattle.wbt_journal.specs.declared.timer.TimerEntry.{TimerEntry}
+use Rattle.wbt_replay_order.proofs.Common.{Trace, Estimate, update_of, after_period, Half, domains, TimerEntry, decide_for, estimate, estimate_to, sample_of, make_timer_step, make_timer_move, State, no_domain, with_cpu, task_of, cpu_of, domain_of, writeback_of, begin_timer, with_timer, period_to, is_time, periods, turn_items, load, peak, unseal, thresh, publish, period, rest, Domain, Timer, Todo, TimerSilent, TimerStep, TimerTodo, PeaksArePrinted, opening, first_limits, first_entries, first_domain, first_domains, opening_moment, state_at}
 use Rattle.wbt_journal.specs.declared.timer.TimerEntry.TheVariants as entry
-use Rattle.wbt_replay_moves.specs.Definition.Check.{decide_for}
-use Rattle.wbt_replay_moves.specs.Definition.Estimates.{estimate, estimate_to, sample_of}
-use Rattle.wbt_replay_moves.specs.Definition.Perform.{make_timer_step, make_timer_move}
-use Rattle.wbt_replay_moves.specs.Definition.State.{State, no_domain, with_cpu, task_of, cpu_of, domain_of, writeback_of}
-use Rattle.wbt_replay_moves.specs.Definition.Timer.{begin_timer, with_timer, period_to, is_time, periods, turn_items, load, peak, unseal, thresh, publish, period, rest}
-use Rattle.wbt_replay_moves.specs.declared.state.Domain.{Domain}
-use Rattle.wbt_replay_moves.specs.declared.state.Timer.{Timer}
 use Rattle.wbt_replay_moves.specs.declared.state.Whose.TheVariants as whose
 use Rattle.wbt_replay_moves.specs.declared.todo.Silent.TheVariants as move
-use Rattle.wbt_replay_moves.specs.declared.todo.Todo.{Todo}
 use Rattle.wbt_replay_moves.specs.declared.todo.Todo.TheVariants as any
-use Rattle.wbt_replay_moves.specs.declared.todo.TimerSilent.{TimerSilent}
 use Rattle.wbt_replay_moves.specs.declared.todo.TimerSilent.TheVariants as silent
-use Rattle.wbt_replay_moves.specs.declared.todo.TimerStep.{TimerStep}
 use Rattle.wbt_replay_moves.specs.declared.todo.TimerStep.TheVariants as step
-use Rattle.wbt_replay_moves.specs.declared.todo.TimerTodo.{TimerTodo}
 use Rattle.wbt_replay_moves.specs.declared.todo.TimerTodo.TheVariants as todo
-use Rattle.wbt_replay_order.specs.Claims.Bound.{greatest_printed, greatest_ahead, PeaksArePrinted}
-use Rattle.wbt_replay_order.specs.Definition.Opening.{opening, first_limits, first_entries, first_domain, first_domains, opening_moment}
-use Rattle.wbt_replay_order.specs.Definition.Run.{state_at}
+use Rattle.wbt_replay_order.specs.Claims.Bound.{greatest_printed, greatest_ahead}
 use Rattle.wbt_replay_order.proofs.Facts.Lists.{either}
 use Rattle.wbt_replay_points.proofs.Claims.TimerItems.{PublishesNow, PublishesNone, AreRaised, none_ahead, this_ahead, raised_behind, ahead_behind, items_raised, printed_more, printed_period}
 use Rattle.wbt_replay_order.proofs.Growth.Advancing.{advance_keeps}

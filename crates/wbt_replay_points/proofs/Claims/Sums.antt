@@ -3,42 +3,19 @@ use Rattle.std.proofs.Common.{◌≡◌, ℕ, zero, suc, ◌+◌, ◌<◌, true,
 use Rattle.std.proofs.lemmas.Bool.{lt-ltb}
 use Rattle.std.specs.List.{slice_get}
 use Rattle.std.proofs.lemmas.List.{length-map}
-use Rattle.wbt_trace.specs.declared.trace.Trace.{Trace}
-use Rattle.wbt_counter.specs.declared.counter.Count.{Count}
+use Rattle.wbt_replay_order.proofs.Common.{Trace, Count, Fold, Reading, IsSetting, always_holds, Load, fold_in, loads_in, loads_of, read_loads, cgroup_reads, Each, tells, items_from, Told, one_checked, one_estimated, told_entry, told, CheckEntry, DomainLine, Entry, EstEntry, group_of, onto, each_append, each_weaker, each_both, each_of_all, joined, told_is, each_cpu, each_item, global_line, cgroup_line, State, no_cpu, cpu_of, Cpu, ReplayTurn, IsDecided, EachFrom, AreDecided, folds_told, readings_with, readings_told, IsFollowed, setting_of, most_moves, part_of, last_state, journal_of, Facts}
 use Rattle.wbt_counter.specs.declared.counter.Counter.TheVariants as counter
-use Rattle.wbt_counter.specs.declared.record.Fold.{Fold}
-use Rattle.wbt_counter.specs.declared.record.Reading.{Reading}
 use Rattle.wbt_grant.specs.Laws.{RecordsTell}
 use Rattle.wbt_grant.specs.SeatLaws.{IsRecordedSum}
-use Rattle.wbt_grant.specs.Setting.{IsSetting}
 use Rattle.wbt_grant.specs.State as throttle
 use Rattle.wbt_grant.proofs.Seats.{readings_are_sums}
-use Rattle.wbt_grant.proofs.Whole.{always_holds}
-use Rattle.wbt_journal.specs.Counts.{Load, fold_in, folds_in, loads_in, loads_of, read_loads, cgroup_reads, IsSum, CountsAreSums}
-use Rattle.wbt_journal.specs.Each.{Each}
-use Rattle.wbt_journal.specs.Items.{tells, items_from}
+use Rattle.wbt_journal.specs.Counts.{folds_in, IsSum, CountsAreSums}
 use Rattle.wbt_journal.specs.Lawful.{CountsSumFolds}
 use Rattle.wbt_journal.specs.Machine as machine
-use Rattle.wbt_journal.specs.Told.{Told, one_checked, one_estimated, told_entry, told}
-use Rattle.wbt_journal.specs.declared.entry.CheckEntry.{CheckEntry}
-use Rattle.wbt_journal.specs.declared.entry.DomainLine.{DomainLine}
-use Rattle.wbt_journal.specs.declared.entry.Entry.{Entry}
 use Rattle.wbt_journal.specs.declared.entry.Entry.TheVariants as entry
-use Rattle.wbt_journal.specs.declared.entry.EstEntry.{EstEntry}
-use Rattle.wbt_rules.specs.Things.{group_of}
-use Rattle.wbt_run_laws.specs.Grew.{onto, reading_of}
+use Rattle.wbt_run_laws.specs.Grew.{reading_of}
 use Rattle.wbt_run_laws.proofs.Folding.{many_folds, sums_are}
-use Rattle.wbt_run_laws.proofs.Lists.{each_append, each_weaker, each_both, each_of_all}
-use Rattle.wbt_run_laws.proofs.Parts.{joined, told_is, each_cpu, each_item}
-use Rattle.wbt_replay_moves.specs.Definition.Check.{global_line, cgroup_line}
-use Rattle.wbt_replay_moves.specs.Definition.State.{State, no_cpu, cpu_of}
-use Rattle.wbt_replay_moves.specs.declared.state.Cpu.{Cpu}
-use Rattle.wbt_replay_moves.specs.declared.state.ReplayTurn.{ReplayTurn}
-use Rattle.wbt_replay_order.specs.Claims.Decided.{IsDecided, EachFrom, AreDecided}
-use Rattle.wbt_replay_order.specs.Claims.Path.{folds_told, line_readings, readings_with, readings_told, IsFollowed}
-use Rattle.wbt_replay_order.specs.Claims.Setting.{setting_of}
-use Rattle.wbt_replay_order.specs.Definition.Run.{most_moves, part_of, last_state, journal_of}
-use Rattle.wbt_replay_order.specs.Kept.Facts.{Facts}
+use Rattle.wbt_replay_order.specs.Claims.Path.{line_readings}
 use Rattle.wbt_replay_points.proofs.Claims.Counted.{state_of, rule_at}
 use Rattle.wbt_replay_order.proofs.Lists.Places.{among_all}
 

@@ -1,12 +1,9 @@
 -- The items of the timer's turns: the steps that publish limits come just after their peak, and nowhere else.
 use Rattle.std.proofs.Common.{◌≡◌, ℕ, zero, suc, ◌+◌, max, Bool, true, false, cond, eqb, List, [], ◌∷◌, ◌++◌, refl, sym, ap, subst, arith, append_assoc}
-use Rattle.wbt_num.specs.declared.limits.Limits.{Limits}
-use Rattle.wbt_journal.specs.declared.timer.TimerEntry.{TimerEntry}
+use Rattle.wbt_replay_order.proofs.Common.{Limits, TimerEntry, domain_turns, domain_periods, turn_items, TimerTodo}
 use Rattle.wbt_journal.specs.declared.timer.TimerEntry.TheVariants as entry
-use Rattle.wbt_replay_moves.specs.Definition.Timer.{domain_turns, domain_periods, turn_items}
 use Rattle.wbt_replay_moves.specs.declared.todo.TimerSilent.TheVariants as silent
 use Rattle.wbt_replay_moves.specs.declared.todo.TimerStep.TheVariants as step
-use Rattle.wbt_replay_moves.specs.declared.todo.TimerTodo.{TimerTodo}
 use Rattle.wbt_replay_moves.specs.declared.todo.TimerTodo.TheVariants as todo
 use Rattle.wbt_replay_order.specs.Claims.Bound.{greatest_printed, greatest_ahead}
 

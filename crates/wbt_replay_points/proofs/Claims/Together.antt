@@ -1,20 +1,9 @@
 -- The claims of a lawful trace's run, where it is sound at each moment and followed by the step relation.
 use Rattle.std.proofs.Common.{◌≡◌, ℕ, ◌<◌, length}
-use Rattle.wbt_trace.specs.Lawful.{IsLawful}
-use Rattle.wbt_trace.specs.declared.trace.Trace.{Trace}
-use Rattle.wbt_replay_order.specs.Claims.Bound.{HasEnded, IsBounded, IsBoundedCloser, IsCounted, PeaksArePrinted, PrintsBound}
-use Rattle.wbt_replay_order.specs.Claims.Cleaned.{AreCleaned}
-use Rattle.wbt_journal.specs.Lawful.{CountsStayFresh, CountsSumFolds, FoundWereDirtied}
-use Rattle.wbt_journal.specs.Machine.{pages_of_task}
+use Rattle.wbt_replay_order.proofs.Common.{IsLawful, Trace, HasEnded, IsBounded, IsBoundedCloser, IsCounted, PeaksArePrinted, PrintsBound, AreCleaned, FoundWereDirtied, pages_of_task, AreDecided, TellsLeft, IsFollowed, NeverFails, IsWhole, most_moves, state_at, last_state, journal_of, Sound}
+use Rattle.wbt_journal.specs.Lawful.{CountsStayFresh, CountsSumFolds}
 use Rattle.wbt_journal.specs.declared.journal.Ending.TheVariants as ending
 use Rattle.wbt_replay_order.specs.Claims.Complete.{written_by}
-use Rattle.wbt_replay_order.specs.Claims.Decided.{AreDecided}
-use Rattle.wbt_replay_order.specs.Claims.Left.{TellsLeft}
-use Rattle.wbt_replay_order.specs.Claims.Path.{IsFollowed}
-use Rattle.wbt_replay_order.specs.Claims.Unfailing.{NeverFails}
-use Rattle.wbt_replay_order.specs.Claims.Whole.{IsWhole}
-use Rattle.wbt_replay_order.specs.Definition.Run.{most_moves, state_at, last_state, journal_of}
-use Rattle.wbt_replay_order.specs.Kept.Sound.{Sound}
 use Rattle.wbt_replay_points.proofs.Claims.Checks.{checks_fit}
 use Rattle.wbt_replay_points.proofs.Claims.Cleaned as ledger
 use Rattle.wbt_replay_points.proofs.Claims.Counted as columns

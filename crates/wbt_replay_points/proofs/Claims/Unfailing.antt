@@ -1,21 +1,8 @@
 -- No event of a replay gives a page back.
 use Rattle.std.proofs.Common.{◌≡◌, ℕ, Bool, true, false, cond, Option, Some, None, List, [], ◌∷◌, ◌++◌, refl, ◌∙◌, ap, arith, true≢false}
-use Rattle.wbt_trace.specs.declared.trace.Trace.{Trace}
-use Rattle.wbt_counter.proofs.Sums.{total_nothing}
-use Rattle.wbt_counter.specs.Sums.{one_if}
-use Rattle.wbt_book.specs.Ledger.{all_times, times}
-use Rattle.wbt_book.specs.declared.event.Event.{Event}
-use Rattle.wbt_book.specs.declared.event.Event.TheVariants.{Dirty, Claim, Complete}
-use Rattle.wbt_journal.specs.Each.{Each}
-use Rattle.wbt_journal.specs.Effects.{Flight, Move, Write, takes, flies, lands, fails, gives_back, effect, event_of, event_by, event_of_move, listed, of_part}
-use Rattle.wbt_journal.specs.Told.{Told, told}
-use Rattle.wbt_run_laws.specs.Grew.{event_in, onto}
-use Rattle.wbt_replay_moves.specs.Definition.State.{cpu_of}
-use Rattle.wbt_replay_moves.specs.declared.state.Cpu.{Cpu}
-use Rattle.wbt_replay_order.specs.Claims.Cleaned.{deeds_told}
-use Rattle.wbt_replay_order.specs.Claims.Path.{events_told}
-use Rattle.wbt_replay_order.specs.Claims.Unfailing.{is_return, TellsNoFailure, NeverFails}
-use Rattle.wbt_replay_order.specs.Definition.Run.{part_of, state_at}
+use Rattle.wbt_replay_order.proofs.Common.{Trace, total_nothing, one_if, all_times, times, Event, Dirty, Claim, Complete, Each, Flight, Move, effect, event_of, of_part, Told, told, event_in, onto, cpu_of, Cpu, deeds_told, events_told, TellsNoFailure, NeverFails, part_of, state_at}
+use Rattle.wbt_journal.specs.Effects.{Write, takes, flies, lands, fails, gives_back, event_by, event_of_move, listed}
+use Rattle.wbt_replay_order.specs.Claims.Unfailing.{is_return}
 use Rattle.wbt_replay_points.proofs.Claims.Found.{told_events}
 
 -- of an event that is no dirtying, claim or completion

@@ -5,28 +5,14 @@ use Rattle.std.proofs.lemmas.Bool.Decides.{nat_tests}
 use Rattle.std.proofs.lemmas.List.{length-map}
 use Rattle.std.proofs.lemmas.List.Elements.{All-head}
 use Rattle.wbt_trace.specs.declared.trace.Context.{Context}
-use Rattle.wbt_trace.specs.declared.trace.Trace.{Trace}
-use Rattle.wbt_book.specs.Book.{Book, page_word}
+use Rattle.wbt_replay_order.proofs.Common.{Trace, Book, page_word, grant, page_now, last_found, AreAllowed, Setting, IsSetting, Each, domains, StepEntry, State, TimerTodo, entries_of, IsFollowed, setting_of, IsAtHome, IsWhole, opening, advance, is_ended, bases_of, most_moves, state_at, last_state, left_from, journal_of, Facts, Sound, TimerItemFits}
 use Rattle.wbt_book.proofs.Ledgers.{at_most_one}
-use Rattle.wbt_grant.specs.Kinds.{Step, add, fold, clear, count, dirty, look, claim, complete, back, peak, unseal, thresh, publish, first, middle, limits, mark, unmark, grant, page_now, last_found, after, Allowed, AreAllowed}
-use Rattle.wbt_grant.specs.Setting.{Setting, IsSetting}
+use Rattle.wbt_grant.specs.Kinds.{Step, add, fold, clear, count, dirty, look, claim, complete, back, peak, unseal, thresh, publish, first, middle, limits, mark, unmark, after, Allowed}
 use Rattle.wbt_grant.specs.State as throttle
-use Rattle.wbt_journal.specs.Each.{Each}
 use Rattle.wbt_journal.specs.Leaves.{LeftFrom}
-use Rattle.wbt_journal.specs.Machine.{domains}
-use Rattle.wbt_journal.specs.declared.step.StepEntry.{StepEntry}
-use Rattle.wbt_replay_moves.specs.Definition.State.{State}
 use Rattle.wbt_replay_moves.specs.declared.todo.TimerStep.TheVariants as timer_step
-use Rattle.wbt_replay_moves.specs.declared.todo.TimerTodo.{TimerTodo}
 use Rattle.wbt_replay_moves.specs.declared.todo.TimerTodo.TheVariants as timer_todo
-use Rattle.wbt_replay_order.specs.Claims.Path.{entries_of, tells, IsFollowed}
-use Rattle.wbt_replay_order.specs.Claims.Setting.{setting_of}
-use Rattle.wbt_replay_order.specs.Claims.Whole.{IsAtHome, IsWhole}
-use Rattle.wbt_replay_order.specs.Definition.Opening.{opening}
-use Rattle.wbt_replay_order.specs.Definition.Order.{advance, is_ended}
-use Rattle.wbt_replay_order.specs.Definition.Run.{bases_of, most_moves, state_at, last_state, left_from, journal_of}
-use Rattle.wbt_replay_order.specs.Kept.Facts.{Facts}
-use Rattle.wbt_replay_order.specs.Kept.Sound.{Sound, TimerItemFits}
+use Rattle.wbt_replay_order.specs.Claims.Path.{tells}
 use Rattle.wbt_replay_order.proofs.Facts.Lists.{either}
 use Rattle.wbt_replay_points.proofs.Claims.Counted.{many_bases}
 use Rattle.wbt_replay_order.proofs.Growth.Growing.{RaisesNext, Grew}

@@ -4,45 +4,24 @@ use Rattle.std.proofs.Math.Path.{fun_ext}
 use Rattle.std.proofs.lemmas.Bool.{cond-true, cond-false, cases_eq}
 use Rattle.std.proofs.lemmas.List.Elements.{All-nil, All-cons}
 use Rattle.std.proofs.lemmas.List.Sums.{sum_by-cons}
-use Rattle.wbt_num.specs.declared.limits.Limits.{Limits}
-use Rattle.wbt_trace.specs.Lawful.{IsLawful, writers_of}
+use Rattle.wbt_replay_order.proofs.Common.{Limits, IsLawful, writers_of, Trace, Bits, Book, page_word, places, total, one_if, total_same, total_nothing, Setting, IsSetting, domain_count, version_of, DomainLimits, if_nothing, always_holds, LeftIsBounded, domains, page_context, pages, Left, TimerEntry, context_of, group_of, eqb_turned, all_rest, each_of_all, State, IsFollowed, setting_of, inode_with, first_limits, first_entries, opening_moment, most_moves, last_state, left_from, base_of, writer_homes, journal_of, Sound}
 use Rattle.wbt_trace.specs.declared.trace.Context.{Context}
-use Rattle.wbt_trace.specs.declared.trace.Trace.{Trace}
 use Rattle.wbt_trace.specs.declared.writers.Writer.{Writer}
 use Rattle.wbt_trace.proofs.InOrder.{counts_stay}
-use Rattle.wbt_book.specs.Book.{Bits, Book, page_word, bits_in}
-use Rattle.wbt_book.specs.Counts.{places}
+use Rattle.wbt_book.specs.Book.{bits_in}
 use Rattle.wbt_book.proofs.Words.{words_follow}
-use Rattle.wbt_counter.specs.Sums.{total, one_if}
-use Rattle.wbt_counter.proofs.Sums.{total_same, total_change, total_nothing}
+use Rattle.wbt_counter.proofs.Sums.{total_change}
 use Rattle.wbt_grant.specs.Bound.{greatest_hard}
 use Rattle.wbt_grant.specs.Formula.{fixed_bound}
 use Rattle.wbt_grant.specs.Laws.{Holds}
 use Rattle.wbt_grant.specs.Setting as setting
-use Rattle.wbt_grant.specs.Setting.{Setting, IsSetting}
 use Rattle.wbt_grant.specs.State as throttle
-use Rattle.wbt_grant.specs.State.{domain_count, version_of}
-use Rattle.wbt_grant.specs.declared.record.DomainLimits.{DomainLimits}
-use Rattle.wbt_grant.proofs.Bounding.{if_nothing}
-use Rattle.wbt_grant.proofs.Whole.{always_holds}
-use Rattle.wbt_journal.specs.Lawful.{LeftIsBounded}
 use Rattle.wbt_journal.specs.Leaves.{is_inside, page_inside, pages_of_left, count_of, peak_of, writers_in, contexts_in}
-use Rattle.wbt_journal.specs.Machine.{domains, context_domain, page_context, pages}
+use Rattle.wbt_journal.specs.Machine.{context_domain}
 use Rattle.wbt_journal.specs.Walk.{after}
-use Rattle.wbt_journal.specs.declared.journal.Left.{Left}
-use Rattle.wbt_journal.specs.declared.timer.TimerEntry.{TimerEntry}
 use Rattle.wbt_journal.specs.declared.timer.TimerEntry.TheVariants as timer
-use Rattle.wbt_rules.specs.Things.{context_of, group_of}
 use Rattle.wbt_run_laws.specs.Ticks.{published_after}
-use Rattle.wbt_run_laws.proofs.Lefts.{eqb_turned}
-use Rattle.wbt_run_laws.proofs.Lists.{all_rest, each_of_all}
-use Rattle.wbt_replay_moves.specs.Definition.State.{State}
-use Rattle.wbt_replay_order.specs.Claims.Path.{IsFollowed}
-use Rattle.wbt_replay_order.specs.Claims.Setting.{setting_of, inode_with}
-use Rattle.wbt_replay_order.specs.Definition.Opening.{first_limits, first_entries, opening_moment}
 use Rattle.wbt_replay_order.specs.Definition.Run as replay
-use Rattle.wbt_replay_order.specs.Definition.Run.{most_moves, last_state, left_from, base_of, writer_homes, journal_of}
-use Rattle.wbt_replay_order.specs.Kept.Sound.{Sound}
 use Rattle.wbt_replay_points.proofs.Claims.Counted.{state_of, same_bound}
 use Rattle.wbt_replay_order.proofs.Facts.Lists.{either}
 use Rattle.wbt_replay_points.proofs.Lawful.Ledger.{page_context_is}

@@ -2,42 +2,16 @@
 use Rattle.std.proofs.Common.{inl, inr, ◌≡◌, ℕ, zero, suc, ◌+◌, ◌<◌, Bool, true, false, ◌||◌, ◌&&◌, not, eqb, List, [], ◌∷◌, length, map, flat_map, get_or, All, Option, Some, None, IfSome, refl, sym, ◌∙◌, ap, subst, arith, eq-eqb, eqb-true, true≢false, ⊎_elim}
 use Rattle.std.proofs.lemmas.Bool.{cases_Bool, cond-true}
 use Rattle.std.proofs.lemmas.List.{get_or-replicate, length-replicate, nil_from_length}
-use Rattle.wbt_estimate.specs.declared.estimate.Estimate.{Estimate}
-use Rattle.wbt_rules.specs.Pace.{pace_of}
-use Rattle.wbt_rules.specs.First.{first_estimate}
-use Rattle.wbt_rules.specs.Things.{context_of}
-use Rattle.wbt_task.specs.Allowance.{first}
-use Rattle.wbt_task.specs.History.{new_cpu, new_writer}
-use Rattle.wbt_task.specs.declared.allowance.CpuLocal.{CpuLocal}
-use Rattle.wbt_task.specs.declared.allowance.Due.{Due}
+use Rattle.wbt_replay_order.proofs.Common.{Estimate, pace_of, first_estimate, context_of, first, new_writer, CpuLocal, Due, Writer, TaskLine, Trace, nth_estimate, DecidesBy, Each, effect, tells, EachPart, page_context, pages_of_task, rests_last, item, ends, Side, TaskState, all_writers, is_empty, is_not_due, is_own_task, Told, told, CheckEntry, joined, told_is, writer_of, State, no_cpu, no_task, cpu_of, task_of, has_nothing, Cpu, ReplayTask, ReplayWork, opening, opening_moment, works_of, first_cpu, first_cpus, first_task, first_tasks, is_ended, part_of, state_at, last_state, ending_of, journal_of, Facts, IsPageOf, Sound, WorkFits, rests_at_end}
+use Rattle.wbt_task.specs.History.{new_cpu}
 use Rattle.wbt_task.specs.declared.allowance.Due.TheVariants as due
-use Rattle.wbt_task.specs.declared.history.Writer.{Writer}
-use Rattle.wbt_trace.specs.declared.trace.TaskLine.{TaskLine}
-use Rattle.wbt_trace.specs.declared.trace.Trace.{Trace}
-use Rattle.wbt_journal.specs.Checks.{nth_estimate, named_estimate, DecidesBy, NoneDue}
-use Rattle.wbt_journal.specs.Each.{Each}
-use Rattle.wbt_journal.specs.Effects.{effect}
-use Rattle.wbt_journal.specs.Items.{begins, tells}
-use Rattle.wbt_journal.specs.Lawful.{EachPart, ChecksAreRight, DecidesEvent, HasChecks}
-use Rattle.wbt_journal.specs.Machine.{page_context, pages_of_task, rests_last}
-use Rattle.wbt_journal.specs.Side.{Event, item, ends, Side, TaskState, all_writers, first_side, first_state, first_states, is_empty, is_not_due, is_own_task}
-use Rattle.wbt_journal.specs.Told.{Told, told}
-use Rattle.wbt_journal.specs.declared.entry.CheckEntry.{CheckEntry}
+use Rattle.wbt_journal.specs.Checks.{named_estimate, NoneDue}
+use Rattle.wbt_journal.specs.Items.{begins}
+use Rattle.wbt_journal.specs.Lawful.{ChecksAreRight, DecidesEvent, HasChecks}
+use Rattle.wbt_journal.specs.Side.{Event, first_side, first_state, first_states}
 use Rattle.wbt_journal.specs.declared.journal.Ending.{Ending}
 use Rattle.wbt_journal.specs.declared.journal.Ending.TheVariants as ending
-use Rattle.wbt_run_laws.proofs.Parts.{joined, told_is}
 use Rattle.wbt_run_laws.proofs.Walking.{along_weaker}
-use Rattle.wbt_replay_moves.specs.Definition.Check.{writer_of}
-use Rattle.wbt_replay_moves.specs.Definition.State.{State, no_cpu, no_task, cpu_of, task_of}
-use Rattle.wbt_replay_moves.specs.Definition.Writer.{has_nothing}
-use Rattle.wbt_replay_moves.specs.declared.state.Cpu.{Cpu}
-use Rattle.wbt_replay_moves.specs.declared.state.ReplayTask.{ReplayTask}
-use Rattle.wbt_replay_moves.specs.declared.state.ReplayWork.{ReplayWork}
-use Rattle.wbt_replay_order.specs.Definition.Opening.{opening, opening_moment, works_of, first_cpu, first_cpus, first_task, first_tasks}
-use Rattle.wbt_replay_order.specs.Definition.Order.{is_ended}
-use Rattle.wbt_replay_order.specs.Definition.Run.{part_of, state_at, last_state, ending_of, journal_of}
-use Rattle.wbt_replay_order.specs.Kept.Facts.{Facts, IsPageOf}
-use Rattle.wbt_replay_order.specs.Kept.Sound.{Sound, WorkFits, rests_at_end}
 use Rattle.wbt_replay_order.proofs.Growth.Runs.{run_none, run_last, run_stays}
 use Rattle.wbt_replay_order.proofs.Facts.Lists.{either}
 use Rattle.wbt_replay_points.proofs.Lawful.Estimated as estimated

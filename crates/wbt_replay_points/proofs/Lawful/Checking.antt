@@ -6,60 +6,21 @@ use Rattle.std.proofs.lemmas.Bool.{cases_Bool, cond-true, cond-false}
 use Rattle.std.proofs.lemmas.List.{append-nil, get_or-set_same, get_or-set_other, length-set, set-set}
 use mathlib.Core.Logic.{dite}
 use native.Mathlib.Decide.{ℕ_discrete}
-use Rattle.wbt_estimate.specs.declared.estimate.Estimate.{Estimate}
-use Rattle.wbt_flex.specs.Proportions.{after_period}
-use Rattle.wbt_flex.specs.declared.half.Half.{Half}
+use Rattle.wbt_replay_order.proofs.Common.{Estimate, after_period, Half, Decision, first_estimate, context_of, group_of, new_writer, wrote_page, wrote_writer, checked_writer, CpuLocal, Writer, Trace, nth_estimate, DecidesBy, estimates_of, tells, page_context, ratelimit_pages, rests_last, item, ends, Side, check_by, end_task, is_own_task, settle, with_page, write_fresh, Told, InOrder, told, Along, CheckEntry, Entry, EstEntry, Walked, writer_of, cgroup_line, decision_at, check_of, told_task, decide_for, do_next, at_turn, logged, log_at, checked, owed_to, make_timer_step, make_timer_move, State, no_cpu, no_task, cpu_of, with_cpu, task_of, with_task, domain_of, writeback_of, plain_step, with_timer, is_time, periods, period_to, passed_page, counted_page, counted_local, dirty_fresh, leaked, end_now, Actor, Cpu, ReplayTask, ReplayTurn, ReplayWork, Stretch, Whose, TimerSilent, TimerStep, TimerTodo, Todo, opening_moment, advance, Facts, IsPageOf, Sound, is_end}
 use Rattle.wbt_grant.specs.declared.who.StepKind.TheVariants as kind
-use Rattle.wbt_pause.specs.declared.decision.Decision.{Decision}
-use Rattle.wbt_rules.specs.First.{first_estimate}
-use Rattle.wbt_rules.specs.Things.{context_of, group_of}
-use Rattle.wbt_task.specs.History.{new_writer, wrote_page, wrote_writer, checked_writer}
-use Rattle.wbt_task.specs.declared.allowance.CpuLocal.{CpuLocal}
 use Rattle.wbt_task.specs.declared.allowance.Due.TheVariants as due
-use Rattle.wbt_task.specs.declared.history.Writer.{Writer}
-use Rattle.wbt_trace.specs.declared.trace.Trace.{Trace}
-use Rattle.wbt_journal.specs.Checks.{nth_estimate, DecidesAs, DecidesBy, Stands, domains_read, task_numbers}
-use Rattle.wbt_journal.specs.Estimates.{estimates_of}
-use Rattle.wbt_journal.specs.Items.{tells}
+use Rattle.wbt_journal.specs.Checks.{DecidesAs, Stands, domains_read, task_numbers}
 use Rattle.wbt_journal.specs.Lawful.{items_among}
-use Rattle.wbt_journal.specs.Machine.{page_context, ratelimit_pages, rests_last}
-use Rattle.wbt_journal.specs.Side.{Event, item, ends, Side, check_by, end_task, is_own_task, settle, with_page, write_fresh, write_page}
-use Rattle.wbt_journal.specs.Told.{Told, InOrder, told, wrote as wrote_told, checked as check_told}
-use Rattle.wbt_journal.specs.Walk.{Along}
-use Rattle.wbt_journal.specs.declared.entry.CheckEntry.{CheckEntry}
-use Rattle.wbt_journal.specs.declared.entry.Entry.{Entry}
+use Rattle.wbt_journal.specs.Side.{Event, write_page}
+use Rattle.wbt_journal.specs.Told.{wrote as wrote_told, checked as check_told}
 use Rattle.wbt_journal.specs.declared.entry.Entry.TheVariants as entry
-use Rattle.wbt_journal.specs.declared.entry.EstEntry.{EstEntry}
-use Rattle.wbt_run_laws.specs.Walks.{Walked}
-use Rattle.wbt_replay_moves.specs.Definition.Check.{writer_of, cgroup_line, decision_at, check_of, told_task, decide_for}
-use Rattle.wbt_replay_moves.specs.Definition.Cpu.{do_next, at_turn, logged, log_at, checked, owed_to}
-use Rattle.wbt_replay_moves.specs.Definition.Perform.{make_timer_step, make_timer_move}
-use Rattle.wbt_replay_moves.specs.Definition.State.{State, no_cpu, no_task, cpu_of, with_cpu, task_of, with_task, domain_of, writeback_of, plain_step}
-use Rattle.wbt_replay_moves.specs.Definition.Timer.{with_timer, is_time, periods, period_to}
-use Rattle.wbt_replay_moves.specs.Definition.Writer.{passed_page, counted_page, counted_local, dirty_fresh, leaked, end_now}
-use Rattle.wbt_replay_moves.specs.declared.state.Actor.{Actor}
-use Rattle.wbt_replay_moves.specs.declared.state.Cpu.{Cpu}
-use Rattle.wbt_replay_moves.specs.declared.state.ReplayTask.{ReplayTask}
-use Rattle.wbt_replay_moves.specs.declared.state.ReplayTurn.{ReplayTurn}
-use Rattle.wbt_replay_moves.specs.declared.state.ReplayWork.{ReplayWork}
 use Rattle.wbt_replay_moves.specs.declared.state.ReplayWork.TheVariants as work
-use Rattle.wbt_replay_moves.specs.declared.state.Stretch.{Stretch}
-use Rattle.wbt_replay_moves.specs.declared.state.Whose.{Whose}
 use Rattle.wbt_replay_moves.specs.declared.state.Whose.TheVariants as whose
 use Rattle.wbt_replay_moves.specs.declared.todo.Silent.TheVariants as silent
 use Rattle.wbt_replay_moves.specs.declared.todo.Step.TheVariants as step
-use Rattle.wbt_replay_moves.specs.declared.todo.TimerSilent.{TimerSilent}
 use Rattle.wbt_replay_moves.specs.declared.todo.TimerSilent.TheVariants as timer_silent
-use Rattle.wbt_replay_moves.specs.declared.todo.TimerStep.{TimerStep}
 use Rattle.wbt_replay_moves.specs.declared.todo.TimerStep.TheVariants as timer_step
-use Rattle.wbt_replay_moves.specs.declared.todo.TimerTodo.{TimerTodo}
-use Rattle.wbt_replay_moves.specs.declared.todo.Todo.{Todo}
 use Rattle.wbt_replay_moves.specs.declared.todo.Todo.TheVariants as todo
-use Rattle.wbt_replay_order.specs.Definition.Opening.{opening_moment}
-use Rattle.wbt_replay_order.specs.Definition.Order.{advance}
-use Rattle.wbt_replay_order.specs.Kept.Facts.{Facts, IsPageOf}
-use Rattle.wbt_replay_order.specs.Kept.Sound.{Sound}
-use Rattle.wbt_replay_order.specs.Kept.Waiting.{is_end}
 use Rattle.wbt_replay_order.proofs.Growth.Quiet.{same_at}
 use Rattle.wbt_replay_order.proofs.Facts.Lists.{either, twice}
 use Rattle.wbt_replay_order.proofs.Lists.Places.{thrice}

@@ -3,33 +3,15 @@ use Rattle.std.proofs.Common.{◌≡◌, ◌≢◌, ℕ, zero, suc, ◌+◌, ◌
 use Rattle.std.proofs.Math.ListN.{set}
 use Rattle.std.proofs.lemmas.List.{get_or-set_same, get_or-set_other}
 use Rattle.wbt_book.specs.declared.event.Event.TheVariants as event
-use Rattle.wbt_counter.specs.declared.counter.Counter.{Counter}
+use Rattle.wbt_replay_order.proofs.Common.{Counter, update_of, Estimate, context_of, group_of, page_of, Scan, Trace, effect, WaitMove, notices, ages, takes_first, Told, told, told_entry, Entry, EstEntry, then_do, logged, log_at, own_of, owed_to, estimate_to, sample_of, complete_page, share_now, claim_now, fly, State, no_cpu, no_task, cpu_of, flusher_of, with_flusher, writeback_of, count_of, with_event, with_waiting, Cpu, Flusher, ReplayTask, Todo, Facts, IsPageOf}
 use Rattle.wbt_counter.specs.declared.counter.Counter.TheVariants.{Domain as ofDomain, Context as ofContext}
-use Rattle.wbt_estimate.specs.Estimate.{update_of}
-use Rattle.wbt_estimate.specs.declared.estimate.Estimate.{Estimate}
-use Rattle.wbt_rules.specs.Things.{context_of, group_of}
-use Rattle.wbt_rules.specs.Places.{page_of}
-use Rattle.wbt_rules.specs.declared.scan.Scan.{Scan}
-use Rattle.wbt_trace.specs.declared.trace.Trace.{Trace}
-use Rattle.wbt_journal.specs.Effects.{effect, WaitMove, notices, ages, takes_first}
-use Rattle.wbt_journal.specs.Told.{Told, told, told_entry, folded as folded_told, claimed as claimed_told, batch as batch_told, done as done_told, share as share_told, estimated as est_told, noticed as noticed_told, aged as aged_told, took as took_told}
-use Rattle.wbt_journal.specs.declared.entry.Entry.{Entry}
+use Rattle.wbt_journal.specs.Told.{folded as folded_told, claimed as claimed_told, batch as batch_told, done as done_told, share as share_told, estimated as est_told, noticed as noticed_told, aged as aged_told, took as took_told}
 use Rattle.wbt_journal.specs.declared.entry.Entry.TheVariants as entry
-use Rattle.wbt_journal.specs.declared.entry.EstEntry.{EstEntry}
 use Rattle.wbt_replay_moves.specs.Definition.Counters.{fold as fold_at}
-use Rattle.wbt_replay_moves.specs.Definition.Cpu.{then_do, logged, log_at, estimated as estimated_in, own_of, owed_to}
-use Rattle.wbt_replay_moves.specs.Definition.Estimates.{estimate_to, sample_of}
-use Rattle.wbt_replay_moves.specs.Definition.Flight.{complete_page, share_now}
-use Rattle.wbt_replay_moves.specs.Definition.Scan.{claim_now, fly}
-use Rattle.wbt_replay_moves.specs.Definition.State.{State, no_cpu, no_task, cpu_of, flusher_of, with_flusher, writeback_of, count_of, with_event, with_waiting}
-use Rattle.wbt_replay_moves.specs.declared.state.Cpu.{Cpu}
-use Rattle.wbt_replay_moves.specs.declared.state.Flusher.{Flusher}
+use Rattle.wbt_replay_moves.specs.Definition.Cpu.{estimated as estimated_in}
 use Rattle.wbt_replay_moves.specs.declared.state.ReplayPhase.TheVariants as phase
-use Rattle.wbt_replay_moves.specs.declared.state.ReplayTask.{ReplayTask}
 use Rattle.wbt_replay_moves.specs.declared.todo.Silent.TheVariants as silent
-use Rattle.wbt_replay_moves.specs.declared.todo.Todo.{Todo}
 use Rattle.wbt_replay_moves.specs.declared.todo.Todo.TheVariants as todo
-use Rattle.wbt_replay_order.specs.Kept.Facts.{Facts, IsPageOf}
 use Rattle.wbt_replay_order.proofs.Facts.Lists.{either}
 use Rattle.wbt_replay_points.proofs.Lawful.Estimated as estimated
 use Rattle.wbt_replay_points.proofs.Lawful.Estimated.{HasEstimates}

@@ -3,44 +3,16 @@ use Rattle.std.proofs.Common.{◌≡◌, ◌≢◌, ℕ, zero, suc, ◌+◌, ◌
 use Rattle.std.proofs.Math.ListN.{set}
 use Rattle.std.proofs.lemmas.Bool.{cases_Bool, cases_lt, lt-ltb, cond-false, ltb-true}
 use Rattle.std.proofs.lemmas.List.{length-set, length-map}
-use Rattle.wbt_counter.specs.declared.counter.Count.{Count}
-use Rattle.wbt_counter.specs.declared.counter.Counter.{Counter}
+use Rattle.wbt_replay_order.proofs.Common.{Count, Counter, update_of, Estimate, aged, Half, context_of, context_at, first_estimate, page_of, Scan, Trace, Each, effect, WaitMove, notices, ages, takes_first, Told, told_entry, InOrder, told, CheckEntry, Entry, EstEntry, decision_at, check_of, decide_for, fold, counted, logged, log_at, own_of, checked, estimated, estimate_to, sample_of, complete_page, share_now, claim_now, fly, State, no_cpu, no_flusher, cpu_of, with_cpu, task_of, flusher_of, with_flusher, domain_of, writeback_of, with_writeback, count_of, no_context, with_waiting, end_now, Cpu, Flusher, opening, first_cpu, first_cpus, first_flusher, first_flushers, first_context, first_contexts, opening_moment, advance, is_ended, state_at, last_state, part_of, journal_of, most_moves, IsTaskOn, Facts, IsPageOf, Sound, is_measured, tells, items_from, OfPart, estimate_in, estimates_of, opened_at, parts_back, is_check, newer, items_told, Walks, Walked, each_append, each_weaker, joined, told_is, each_item, each_joined, walks_silent, Writeback, FlusherLine, Along}
 use Rattle.wbt_counter.specs.declared.counter.Counter.TheVariants.{Domain as ofDomain, Context as ofContext}
-use Rattle.wbt_estimate.specs.Estimate.{update_of}
-use Rattle.wbt_estimate.specs.declared.estimate.Estimate.{Estimate}
-use Rattle.wbt_flex.specs.Proportions.{aged, added}
-use Rattle.wbt_flex.specs.declared.half.Half.{Half}
-use Rattle.wbt_rules.specs.Things.{context_of, context_at, first_flusher as leader}
-use Rattle.wbt_rules.specs.First.{first_estimate}
-use Rattle.wbt_rules.specs.Places.{page_of}
-use Rattle.wbt_rules.specs.declared.scan.Scan.{Scan}
+use Rattle.wbt_flex.specs.Proportions.{added}
+use Rattle.wbt_rules.specs.Things.{first_flusher as leader}
 use Rattle.wbt_rules.proofs.Openings.{first_version}
-use Rattle.wbt_trace.specs.declared.trace.Trace.{Trace}
-use Rattle.wbt_journal.specs.Each.{Each}
-use Rattle.wbt_journal.specs.Effects.{effect, WaitMove, notices, ages, takes_first}
 use Rattle.wbt_journal.specs.Machine.{contexts}
-use Rattle.wbt_journal.specs.Told.{Told, told_entry, checked as check_told, estimated as est_told, claimed as claimed_told, batch as batch_told, done as done_told, InOrder, told, wrote as wrote_told, folded as folded_told, share as share_told, noticed as noticed_told, aged as aged_told, took as took_told}
-use Rattle.wbt_journal.specs.declared.entry.CheckEntry.{CheckEntry}
-use Rattle.wbt_journal.specs.declared.entry.Entry.{Entry}
+use Rattle.wbt_journal.specs.Told.{checked as check_told, estimated as est_told, claimed as claimed_told, batch as batch_told, done as done_told, wrote as wrote_told, folded as folded_told, share as share_told, noticed as noticed_told, aged as aged_told, took as took_told}
 use Rattle.wbt_journal.specs.declared.entry.Entry.TheVariants as entry
-use Rattle.wbt_journal.specs.declared.entry.EstEntry.{EstEntry}
-use Rattle.wbt_replay_moves.specs.Definition.Check.{decision_at, check_of, decide_for}
-use Rattle.wbt_replay_moves.specs.Definition.Counters.{fold, counted}
-use Rattle.wbt_replay_moves.specs.Definition.Cpu.{logged, log_at, own_of, checked, estimated}
-use Rattle.wbt_replay_moves.specs.Definition.Estimates.{estimate_to, sample_of}
-use Rattle.wbt_replay_moves.specs.Definition.Flight.{complete_page, share_now}
-use Rattle.wbt_replay_moves.specs.Definition.Scan.{claim_now, fly}
-use Rattle.wbt_replay_moves.specs.Definition.State.{State, no_cpu, no_flusher, cpu_of, with_cpu, task_of, flusher_of, with_flusher, domain_of, writeback_of, with_writeback, count_of, no_context, with_waiting}
-use Rattle.wbt_replay_moves.specs.Definition.Writer.{end_now}
-use Rattle.wbt_replay_moves.specs.declared.state.Cpu.{Cpu}
-use Rattle.wbt_replay_moves.specs.declared.state.Flusher.{Flusher}
 use Rattle.wbt_replay_moves.specs.declared.state.ReplayPhase.TheVariants as phase
-use Rattle.wbt_replay_order.specs.Definition.Opening.{opening, first_cpu, first_cpus, first_flusher, first_flushers, first_context, first_contexts, opening_moment, measures_of}
-use Rattle.wbt_replay_order.specs.Definition.Order.{advance, is_ended}
-use Rattle.wbt_replay_order.specs.Definition.Run.{state_at, last_state, part_of, journal_of, most_moves}
-use Rattle.wbt_replay_order.specs.Kept.Facts.{IsTaskOn, Facts, IsPageOf}
-use Rattle.wbt_replay_order.specs.Kept.Sound.{Sound}
-use Rattle.wbt_replay_order.specs.Kept.Turns.{is_measured}
+use Rattle.wbt_replay_order.specs.Definition.Opening.{measures_of}
 use Rattle.wbt_replay_order.proofs.Growth.Quiet.{same_at, is_name}
 use Rattle.wbt_replay_order.proofs.Growth.Runs.{run_none, run_last, run_stays}
 use Rattle.wbt_replay_order.proofs.Facts.Lists.{either}
@@ -51,19 +23,10 @@ use Rattle.wbt_replay_points.proofs.Lawful.Leaving.{KnownWrites, FreshWrites, al
 use Rattle.wbt_replay_points.proofs.Lawful.Logs.{IsInOrder, told_logged, order_logged, told_checked, order_checked, told_estimated, order_estimated, IsTold}
 use Rattle.wbt_replay_points.proofs.Lawful.Same.{log_of, told_of, Hidden}
 use Rattle.wbt_replay_points.proofs.Lawful.Walk.{advance_seen, starts_of}
-use Rattle.wbt_journal.specs.Items.{tells, items_from}
-use Rattle.wbt_journal.specs.Laws.{OfPart}
 use Rattle.wbt_journal.specs.Lawful.{EstimatesAreUp, NamesAreOfEstimates, NamesStayNew}
-use Rattle.wbt_journal.specs.Estimates.{estimate_in, estimates_of, opened_at, EstimatesFollow, estimates_after, NamesEstimate, ChecksNameEstimates, NamesGoOn, names_after, Follows}
-use Rattle.wbt_journal.proofs.Parting.{parts_back}
-use Rattle.wbt_run_laws.specs.Entries.{is_check}
-use Rattle.wbt_run_laws.specs.Notes.{HasNamed, newer}
-use Rattle.wbt_run_laws.specs.Walks.{items_told, Walks, Walked}
+use Rattle.wbt_journal.specs.Estimates.{EstimatesFollow, estimates_after, NamesEstimate, ChecksNameEstimates, NamesGoOn, names_after, Follows}
+use Rattle.wbt_run_laws.specs.Notes.{HasNamed}
 use Rattle.wbt_run_laws.proofs.Entering.{check_names_seen, others_name_none}
-use Rattle.wbt_run_laws.proofs.Lists.{each_append, each_weaker}
-use Rattle.wbt_run_laws.proofs.Parts.{joined, told_is, each_item, each_joined}
-use Rattle.wbt_run_laws.proofs.Walking.{walks_silent}
-use Rattle.wbt_replay_moves.specs.declared.state.Writeback.{Writeback}
 use Rattle.wbt_replay_order.proofs.Growth.Afresh.{told_in}
 use Rattle.wbt_replay_points.proofs.Claims.Peaks.{peaks_at}
 use Rattle.wbt_replay_points.proofs.Lawful.Timing.{opened_first}
@@ -71,8 +34,6 @@ use Rattle.wbt_replay_points.proofs.Lawful.Logged.{HasLogs}
 use Rattle.wbt_replay_points.proofs.Lawful.Points.{each_told}
 use Rattle.wbt_replay_points.proofs.Lawful.Estimating.{publisher, publishes, follows_update, estimates_on, IsNamedIn, known_of, known_none, HasNames, AreEstimated, names_on, estimated_other, estimated_next, follow_parts, only_part}
 use Rattle.wbt_replay_points.proofs.Lawful.Told.{OfCheck, told_checks}
-use Rattle.wbt_trace.specs.declared.trace.FlusherLine.{FlusherLine}
-use Rattle.wbt_journal.specs.Walk.{Along}
 use Rattle.wbt_replay_points.proofs.Claims.Sums.{part_at}
 use Rattle.wbt_expiry.specs.Waiting.{Waiting as Wheel}
 

@@ -6,35 +6,20 @@ use Rattle.std.proofs.lemmas.Bool.Decides.{nat_tests}
 use Rattle.std.proofs.lemmas.List.{get_or-set_same, get_or-set_other, length-set, map-append}
 use mathlib.Core.Logic.{dite}
 use native.Mathlib.Decide.{ℕ_discrete}
-use Rattle.wbt_estimate.specs.Estimate.{updated, update_of, elapsed_since}
-use Rattle.wbt_estimate.specs.declared.estimate.Estimate.{Estimate}
+use Rattle.wbt_replay_order.proofs.Common.{updated, update_of, Estimate, first_estimate, context_at, flusher_cpu, flusher_device, Trace, Each, effect, estimate_in, estimates_of, tells, items_from, Told, Along, CheckEntry, EstEntry, newer, items_told, Walked, Walks, each_weaker, flat_append, joined, walked_more, walks_silent, no_cpu, no_flusher, no_context, Cpu, Flusher, Writeback, opening_moment, is_measured}
+use Rattle.wbt_estimate.specs.Estimate.{elapsed_since}
 use Rattle.wbt_estimate.specs.declared.estimate.Sample.{Sample}
 use Rattle.wbt_published.specs.declared.known.Known.{Known}
-use Rattle.wbt_rules.specs.First.{first_estimate}
-use Rattle.wbt_rules.specs.Things.{context_at, flusher_cpu, flusher_device, first_flusher, leads}
+use Rattle.wbt_rules.specs.Things.{first_flusher, leads}
 use Rattle.wbt_trace.specs.declared.trace.Context.{Context}
-use Rattle.wbt_trace.specs.declared.trace.Trace.{Trace}
-use Rattle.wbt_journal.specs.Each.{Each}
-use Rattle.wbt_journal.specs.Effects.{effect}
-use Rattle.wbt_journal.specs.Estimates.{estimate_in, estimates_of, Follows, newest_of, EstimatesFollow, estimates_after, NamesGoOn, names_after}
-use Rattle.wbt_journal.specs.Items.{Item, tells, items_from}
+use Rattle.wbt_journal.specs.Estimates.{Follows, newest_of, EstimatesFollow, estimates_after, NamesGoOn, names_after}
+use Rattle.wbt_journal.specs.Items.{Item}
 use Rattle.wbt_journal.specs.Machine.{contexts}
-use Rattle.wbt_journal.specs.Told.{Told, estimated as est_told}
-use Rattle.wbt_journal.specs.Walk.{Along}
-use Rattle.wbt_journal.specs.declared.entry.CheckEntry.{CheckEntry}
-use Rattle.wbt_journal.specs.declared.entry.EstEntry.{EstEntry}
-use Rattle.wbt_run_laws.specs.Notes.{newer, HasNamed}
-use Rattle.wbt_run_laws.specs.Walks.{items_told, Walked, Walks}
+use Rattle.wbt_journal.specs.Told.{estimated as est_told}
+use Rattle.wbt_run_laws.specs.Notes.{HasNamed}
 use Rattle.wbt_run_laws.proofs.Entering.{others_name_none}
-use Rattle.wbt_run_laws.proofs.Lists.{each_weaker, flat_append}
-use Rattle.wbt_run_laws.proofs.Parts.{joined}
-use Rattle.wbt_run_laws.proofs.Walking.{walked_more, walks_more, walks_silent}
-use Rattle.wbt_replay_moves.specs.Definition.State.{no_cpu, no_flusher, no_context}
-use Rattle.wbt_replay_moves.specs.declared.state.Cpu.{Cpu}
-use Rattle.wbt_replay_moves.specs.declared.state.Flusher.{Flusher}
-use Rattle.wbt_replay_moves.specs.declared.state.Writeback.{Writeback}
-use Rattle.wbt_replay_order.specs.Definition.Opening.{contexts_from, measures_of, opening_moment}
-use Rattle.wbt_replay_order.specs.Kept.Turns.{is_measured}
+use Rattle.wbt_run_laws.proofs.Walking.{walks_more}
+use Rattle.wbt_replay_order.specs.Definition.Opening.{contexts_from, measures_of}
 use Rattle.wbt_replay_points.proofs.Lawful.Logs.{IsInOrder}
 use Rattle.wbt_replay_points.proofs.Lawful.Same.{told_of}
 

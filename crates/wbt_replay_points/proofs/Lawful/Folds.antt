@@ -3,35 +3,17 @@ use Rattle.std.proofs.Common.{◌≡◌, ℕ, ◌<◌, ◌≤◌, true, cond, Li
 use Rattle.std.proofs.lemmas.Bool.{cases_lt, cond-true, lt-ltb}
 use Rattle.std.proofs.lemmas.List.{get_or_past}
 use Rattle.std.proofs.lemmas.List.Sums.{sum_by-cons, sum_by-append, length-filter}
-use Rattle.wbt_trace.specs.declared.trace.Trace.{Trace}
-use Rattle.wbt_counter.specs.Counters.{is_same}
-use Rattle.wbt_counter.specs.declared.counter.Counter.{Counter}
+use Rattle.wbt_replay_order.proofs.Common.{Trace, is_same, Counter, Fold, is_same-itself, IsSetting, fold_in, Each, Told, onto, each_append, each_weaker, each_both, joined, told_is, each_joined, State, no_domain, no_context, count_of, Domain, Writeback, AreDecided, IsFollowed, setting_of, most_moves, part_of, last_state, journal_of, Facts, Sound}
 use Rattle.wbt_counter.specs.declared.counter.Counter.TheVariants as counter
-use Rattle.wbt_counter.specs.declared.record.Fold.{Fold}
-use Rattle.wbt_counter.proofs.Debts.{is_same-itself}
 use Rattle.wbt_grant.specs.Setting as setting
-use Rattle.wbt_grant.specs.Setting.{IsSetting}
 use Rattle.wbt_grant.proofs.Seats.{folds_are_recorded}
-use Rattle.wbt_journal.specs.Counts.{fold_in, folds_in}
-use Rattle.wbt_journal.specs.Each.{Each}
+use Rattle.wbt_journal.specs.Counts.{folds_in}
 use Rattle.wbt_journal.specs.Laws.{IsFullFold, VersionsAreOnce}
 use Rattle.wbt_journal.specs.Lawful.{FoldsAreUp}
 use Rattle.wbt_journal.specs.Machine as machine
-use Rattle.wbt_journal.specs.Told.{Told}
 use Rattle.wbt_journal.proofs.Folding.{once_is_up}
-use Rattle.wbt_run_laws.specs.Grew.{onto}
 use Rattle.wbt_run_laws.proofs.Folding.{record_full, many_folds, versions_once}
-use Rattle.wbt_run_laws.proofs.Lists.{each_append, each_front, each_rest, each_weaker, each_both, each_flat, each_into}
-use Rattle.wbt_run_laws.proofs.Parts.{joined, told_is, each_joined}
-use Rattle.wbt_replay_moves.specs.Definition.State.{State, no_domain, no_context, count_of}
-use Rattle.wbt_replay_moves.specs.declared.state.Domain.{Domain}
-use Rattle.wbt_replay_moves.specs.declared.state.Writeback.{Writeback}
-use Rattle.wbt_replay_order.specs.Claims.Decided.{AreDecided}
-use Rattle.wbt_replay_order.specs.Claims.Path.{IsFollowed}
-use Rattle.wbt_replay_order.specs.Claims.Setting.{setting_of}
-use Rattle.wbt_replay_order.specs.Definition.Run.{most_moves, part_of, last_state, journal_of}
-use Rattle.wbt_replay_order.specs.Kept.Facts.{Facts}
-use Rattle.wbt_replay_order.specs.Kept.Sound.{Sound}
+use Rattle.wbt_run_laws.proofs.Lists.{each_front, each_rest, each_flat, each_into}
 use Rattle.wbt_replay_points.proofs.Claims.Counted.{state_of, rule_at}
 use Rattle.wbt_replay_points.proofs.Claims.Sums as sums
 

@@ -4,61 +4,23 @@ use Rattle.std.proofs.Math.ListN.{set}
 use Rattle.std.proofs.lemmas.List.{length-set, get_or-set_same}
 use Rattle.std.proofs.lemmas.List.Elements.{All-head, All-tail}
 use Rattle.std.proofs.lemmas.Bool.{eqb-false}
-use Rattle.wbt_trace.specs.declared.trace.Trace.{Trace}
-use Rattle.wbt_book.specs.Book.{Bits, is_claimable}
-use Rattle.wbt_book.specs.PageWords.{shared_word}
-use Rattle.wbt_replay_moves.specs.declared.state.Held.{Held}
-use Rattle.wbt_counter.specs.declared.counter.Count.{Count}
-use Rattle.wbt_counter.specs.declared.counter.Counter.{Counter}
+use Rattle.wbt_replay_order.proofs.Common.{Trace, Bits, is_claimable, shared_word, Held, Count, Counter, update_of, Estimate, fraction_of, may_be_added, StepKind, scanning, emptied, batch_of, domains, context_of, device_of, group_of, flusher_device, max_share, page_of, Scan, Due, writer_of, decide_by, decide_for, add, fold, clear, word_of, holds, load_first, load_limits, limits_kept, count_kept, added, own_of, with_own, log_at, then_do, at_turn, logged, estimate, estimate_to, sample_of, complete_by, complete_in, complete_first, complete_page, part_in, share_now, share, share_group, with_written, landed, land_by, land_in, finish, begin_idle, begin_test, domain_loads, measure, measures_of, weighs_of, rest_until, take_or_finish, take_or_rest, test_by, with_hard, scan_of, unmark_by, unmark_in, take_now, with_pairs, take_last, told_by, tell, waits, note, noticed, age, tested_by, make_step, make_move, begin_phase, begin_for, begin_turn, look_by, look_in, looked_at, claim_by, claim_in, claim_now, close_by, close_in, close_items, is_scan_over, places_after, keep_place, fly, land_empty, hand_over_by, hand_over_in, State, no_cpu, no_flusher, cpu_of, with_cpu, task_of, with_task, flusher_of, with_flusher, domain_of, writeback_of, queue_of, with_queue, count_of, plain_step, in_phase, is_drained, no_waiting, waiting_of, with_waiting, is_over_by_itself, over_noted, weigh, weighed_by, pause_in, begin_page, begin_work, begin_due, check_items, passed_page, dirty_by, dirty_next, dirty_fresh, mark, end_by, end_now, has_nothing, Cpu, Flusher, ReplayPhase, ReplayTask, ReplayTurn, ReplayWork, Stretch, Actor, Whose, Silent, Step, Todo, Facts, IsPageOf, IsFlusherOn, IsTaskOn, Sound, IsAt, IsTurn, IsWhose, WorkFits, AreQueued, AreQueues, Agrees, IsCounter, IsIdle, ItemFits, WritesNext, is_end, has_inode, WaitMove, notices, ages, takes_first}
 use Rattle.wbt_counter.specs.declared.counter.Counter.TheVariants.{Domain as ofDomain, Context as ofContext}
-use Rattle.wbt_estimate.specs.Estimate.{update_of}
-use Rattle.wbt_estimate.specs.declared.estimate.Estimate.{Estimate}
-use Rattle.wbt_flex.specs.Proportions.{fraction_of, may_be_added}
-use Rattle.wbt_grant.specs.declared.who.StepKind.{StepKind}
 use Rattle.wbt_grant.specs.declared.who.StepKind.TheVariants as kind
-use Rattle.wbt_journal.specs.Flights.{scanning, emptied}
-use Rattle.wbt_journal.specs.Machine.{batch_of, domains}
 use Rattle.wbt_journal.specs.declared.entry.Entry.TheVariants as entry
 use Rattle.wbt_rules.specs.Flusher.{IsWithinChunk, chunk_at}
-use Rattle.wbt_rules.specs.Things.{context_of, device_of, group_of, flusher_device, max_share}
-use Rattle.wbt_rules.specs.Places.{page_of}
-use Rattle.wbt_rules.specs.declared.scan.Scan.{Scan}
 use Rattle.wbt_rules.proofs.Quotas.{within_less}
-use Rattle.wbt_task.specs.declared.allowance.Due.{Due}
 use Rattle.wbt_task.specs.declared.allowance.Due.TheVariants as due
-use Rattle.wbt_replay_moves.specs.Definition.Check.{writer_of, decide_by, decide_for}
-use Rattle.wbt_replay_moves.specs.Definition.Counters.{add, fold, clear, word_of, holds, load_first, load_limits, limits_kept, count_kept}
-use Rattle.wbt_replay_moves.specs.Definition.Cpu.{added, own_of, with_own, log_at, then_do, at_turn, logged}
-use Rattle.wbt_replay_moves.specs.Definition.Estimates.{estimate, estimate_to, sample_of}
-use Rattle.wbt_replay_moves.specs.Definition.Flight.{complete_by, complete_in, complete_first, complete_page, part_in, share_now, share, share_group, with_written, landed, land_by, land_in}
-use Rattle.wbt_replay_moves.specs.Definition.Idle.{finish, begin_idle, begin_test, domain_loads, measure, measures_of, weighs_of, rest_until, take, take_or_finish, take_or_rest, tested, test_by, with_hard, scan_of, unmark_by, unmark_in, take_now, with_pairs, take_last, told_by, tell, waits, note, noticed, age, tested_by}
-use Rattle.wbt_replay_moves.specs.Definition.Perform.{make_step, make_move, begin_phase, begin_for, begin_turn}
-use Rattle.wbt_replay_moves.specs.Definition.Scan.{look_by, look_in, looked_at, claim_by, claim_in, claim_now, close_by, close_in, close_items, is_scan_over, places_after, keep_place, fly, land_empty, hand_over_by, hand_over_in}
-use Rattle.wbt_replay_moves.specs.Definition.State.{State, no_cpu, no_flusher, cpu_of, with_cpu, task_of, with_task, flusher_of, with_flusher, domain_of, writeback_of, queue_of, with_queue, queued, count_of, plain_step, in_phase, is_drained, no_waiting, waiting_of, with_waiting}
-use Rattle.wbt_replay_moves.specs.Definition.Weigh.{is_over_by_itself, over_noted, weigh, weighed_by}
-use Rattle.wbt_replay_moves.specs.Definition.Writer.{pause_in, begin_page, begin_work, begin_due, check_items, marked, passed_page, dirty_by, dirty_next, dirty_fresh, mark, end_by, end_now, has_nothing}
-use Rattle.wbt_replay_moves.specs.declared.state.Cpu.{Cpu}
-use Rattle.wbt_replay_moves.specs.declared.state.Flusher.{Flusher}
-use Rattle.wbt_replay_moves.specs.declared.state.ReplayPhase.{ReplayPhase}
+use Rattle.wbt_replay_moves.specs.Definition.Idle.{take, tested}
+use Rattle.wbt_replay_moves.specs.Definition.State.{queued}
+use Rattle.wbt_replay_moves.specs.Definition.Writer.{marked}
 use Rattle.wbt_replay_moves.specs.declared.state.ReplayPhase.TheVariants as phase
-use Rattle.wbt_replay_moves.specs.declared.state.ReplayTask.{ReplayTask}
-use Rattle.wbt_replay_moves.specs.declared.state.ReplayTurn.{ReplayTurn}
-use Rattle.wbt_replay_moves.specs.declared.state.ReplayWork.{ReplayWork}
 use Rattle.wbt_replay_moves.specs.declared.state.ReplayWork.TheVariants as work
-use Rattle.wbt_replay_moves.specs.declared.state.Stretch.{Stretch}
-use Rattle.wbt_replay_moves.specs.declared.state.Actor.{Actor}
-use Rattle.wbt_replay_moves.specs.declared.state.Whose.{Whose}
 use Rattle.wbt_replay_moves.specs.declared.state.Whose.TheVariants as whose
-use Rattle.wbt_replay_moves.specs.declared.todo.Silent.{Silent}
 use Rattle.wbt_replay_moves.specs.declared.todo.Silent.TheVariants as silent
-use Rattle.wbt_replay_moves.specs.declared.todo.Step.{Step}
 use Rattle.wbt_replay_moves.specs.declared.todo.Step.TheVariants as step
-use Rattle.wbt_replay_moves.specs.declared.todo.Todo.{Todo}
 use Rattle.wbt_replay_moves.specs.declared.todo.Todo.TheVariants as todo
-use Rattle.wbt_replay_order.specs.Kept.Facts.{Facts, IsPageOf, IsFlusherOn, IsTaskOn}
-use Rattle.wbt_replay_order.specs.Kept.Sound.{Sound, IsAt, IsScanAt, IsQuotaOf, IsTurn, IsWhose, WorkFits, AreQueued, AreQueues}
-use Rattle.wbt_replay_order.specs.Kept.Turns.{Agrees, IsCounter, IsIdle, ItemFits, WritesNext}
-use Rattle.wbt_replay_order.specs.Kept.Waiting.{is_end}
+use Rattle.wbt_replay_order.specs.Kept.Sound.{IsScanAt, IsQuotaOf}
 use Rattle.wbt_replay_points.proofs.Claims.Checks.{some_context}
 use Rattle.wbt_replay_order.proofs.Growth.Quiet.{same_at}
 use Rattle.wbt_replay_order.proofs.Facts.Lists.{either}
@@ -67,9 +29,8 @@ use Rattle.wbt_replay_order.proofs.Written.Same.{pages_of}
 use Rattle.wbt_replay_points.proofs.Lawful.Now.{Takes, HasMore, WritesNow, DecidesNow, EndsNow, ScansNow, CompletesNow, EstimatesNow, entry_of, ListsNow, Starts}
 use Rattle.wbt_replay_points.proofs.Lawful.Ranges.{check_in_range, early}
 use Rattle.wbt_replay_points.proofs.Lawful.Same.{log_of, phase_at, told_phase, Hidden, still, hide_cpu, hide_flusher, hide_context, hide_task, EndsLater, GoesOn, AreUntold, same_turn, push_turn, untold_turn, last_turn, pop_turn}
-use Rattle.wbt_expiry.specs.Waiting.{Waiting as Wheel, has_inode}
+use Rattle.wbt_expiry.specs.Waiting.{Waiting as Wheel}
 use Rattle.wbt_expiry.specs.declared.due.Due.{Due as Pair}
-use Rattle.wbt_journal.specs.Effects.{WaitMove, notices, ages, takes_first}
 use Rattle.wbt_replay_order.proofs.Facts.Ages.{noticed_kept, aged_kept}
 
 -- ---- the walk over a move

@@ -1,25 +1,9 @@
 -- The points of a lawful journal that hold of the journal of each lawful trace's run.
 use Rattle.std.proofs.Common.{◌≡◌, ℕ, ◌<◌, true, length, Some, ◌∙◌, ap, arith}
 use Rattle.std.proofs.lemmas.List.{length-map}
-use Rattle.wbt_trace.specs.Lawful.{IsLawful}
-use Rattle.wbt_trace.specs.declared.trace.Trace.{Trace}
-use Rattle.wbt_journal.specs.Checks.{has_page}
-use Rattle.wbt_journal.specs.Lawful.{ChecksAreRight, FoldsAreUp, TriplesAreOfTimer, TriplesStayNew, FractionsAreOfShares, PeriodsStayNew, EstimatesAreUp, NamesAreOfEstimates, NamesStayNew, TimerFollows, TimerHasOpened, WritesAreInOrder, LeftPagesAreThere, LedgerIsEven, FlushersAreInTurn, LeftIsBounded, EndingIsRight, WaitsAreInOrder, WaitsAreOwn}
-use Rattle.wbt_journal.specs.Machine.{page_context, pages}
+use Rattle.wbt_replay_order.proofs.Common.{IsLawful, Trace, has_page, WritesAreInOrder, LeftPagesAreThere, LedgerIsEven, FlushersAreInTurn, LeftIsBounded, WaitsAreOwn, page_context, pages, each_weaker, context_of, cpu_of, HasEnded, AreCleaned, CompletesAll, AreDecided, TellsLeft, IsFollowed, TellsNoFailure, NeverFails, most_moves, part_of, state_at, last_state, journal_of, Facts, IsPageOf, Sound, AgedWereDue}
+use Rattle.wbt_journal.specs.Lawful.{ChecksAreRight, FoldsAreUp, TriplesAreOfTimer, TriplesStayNew, FractionsAreOfShares, PeriodsStayNew, EstimatesAreUp, NamesAreOfEstimates, NamesStayNew, TimerFollows, TimerHasOpened, EndingIsRight, WaitsAreInOrder}
 use Rattle.wbt_journal.specs.declared.journal.Ending.TheVariants as ending
-use Rattle.wbt_run_laws.proofs.Lists.{each_weaker}
-use Rattle.wbt_rules.specs.Things.{context_of}
-use Rattle.wbt_replay_moves.specs.Definition.State.{cpu_of}
-use Rattle.wbt_replay_order.specs.Claims.Bound.{HasEnded}
-use Rattle.wbt_replay_order.specs.Claims.Cleaned.{AreCleaned}
-use Rattle.wbt_replay_order.specs.Claims.Complete.{CompletesAll}
-use Rattle.wbt_replay_order.specs.Claims.Decided.{AreDecided}
-use Rattle.wbt_replay_order.specs.Claims.Left.{TellsLeft}
-use Rattle.wbt_replay_order.specs.Claims.Path.{IsFollowed}
-use Rattle.wbt_replay_order.specs.Claims.Unfailing.{TellsNoFailure, NeverFails}
-use Rattle.wbt_replay_order.specs.Definition.Run.{most_moves, part_of, state_at, last_state, journal_of}
-use Rattle.wbt_replay_order.specs.Kept.Facts.{Facts, IsPageOf}
-use Rattle.wbt_replay_order.specs.Kept.Sound.{Sound}
 use Rattle.wbt_replay_order.proofs.Facts.Facts as facts
 use Rattle.wbt_replay_order.proofs.Facts.Settings.{setting_is}
 use Rattle.wbt_replay_points.proofs.Lawful.Bounded as bounded
@@ -38,7 +22,6 @@ use Rattle.wbt_replay_order.proofs.Outset.Tasks.{works_fit}
 use Rattle.wbt_replay_order.proofs.Written.End.{all_ended, ending_is, writes_fit}
 use Rattle.wbt_replay_order.proofs.Written.Whole.{all_there}
 use Rattle.wbt_replay_points.proofs.Lawful.Lists as listed
-use Rattle.wbt_replay_order.specs.Claims.Ages.{AgedWereDue}
 
 module _ (trace : Trace) (lawful : IsLawful trace) (sound : (moves : ℕ) → Sound trace (state_at trace moves)) (followed : IsFollowed trace) (decided : AreDecided trace) where
   its : Facts trace

@@ -3,34 +3,13 @@
 use Rattle.std.proofs.Common.{◌≡◌, ℕ, zero, suc, ◌<◌, false, true, pos, Bool, List, length, Option, Some, None, refl, arith}
 use Rattle.std.proofs.lemmas.List.{length-set}
 use Rattle.wbt_book.specs.declared.event.Event.TheVariants as event
-use Rattle.wbt_flex.specs.Proportions.{after_period}
-use Rattle.wbt_flex.specs.declared.half.Half.{Half}
+use Rattle.wbt_replay_order.proofs.Common.{after_period, Half, context_of, group_of, Trace, TimerEntry, do_next, log_at, owed_to, make_timer_step, make_timer_move, State, cpu_of, with_cpu, task_of, with_task, domain_of, plain_step, with_event, with_timer, load, period_to, periods, is_time, passed_page, count_page, dirty_fresh, Actor, Cpu, Domain, Flusher, ReplayWork, Stretch, Writeback, TimerSilent, TimerStep, TimerTodo, Todo, IsTaskOn}
 use Rattle.wbt_grant.specs.declared.who.StepKind.TheVariants as kind
-use Rattle.wbt_rules.specs.Things.{context_of, group_of}
-use Rattle.wbt_trace.specs.declared.trace.Trace.{Trace}
 use Rattle.wbt_journal.specs.declared.entry.Entry.TheVariants as entry
-use Rattle.wbt_journal.specs.declared.timer.TimerEntry.{TimerEntry}
-use Rattle.wbt_replay_moves.specs.Definition.Cpu.{do_next, log_at, owed_to}
-use Rattle.wbt_replay_moves.specs.Definition.Perform.{make_timer_step, make_timer_move}
-use Rattle.wbt_replay_moves.specs.Definition.State.{State, cpu_of, with_cpu, task_of, with_task, domain_of, plain_step, with_event}
-use Rattle.wbt_replay_moves.specs.Definition.Timer.{with_timer, load, period_to, periods, is_time}
-use Rattle.wbt_replay_moves.specs.Definition.Writer.{passed_page, count_page, dirty_fresh}
-use Rattle.wbt_replay_moves.specs.declared.state.Actor.{Actor}
-use Rattle.wbt_replay_moves.specs.declared.state.Cpu.{Cpu}
-use Rattle.wbt_replay_moves.specs.declared.state.Domain.{Domain}
-use Rattle.wbt_replay_moves.specs.declared.state.Flusher.{Flusher}
-use Rattle.wbt_replay_moves.specs.declared.state.ReplayWork.{ReplayWork}
-use Rattle.wbt_replay_moves.specs.declared.state.Stretch.{Stretch}
-use Rattle.wbt_replay_moves.specs.declared.state.Writeback.{Writeback}
 use Rattle.wbt_replay_moves.specs.declared.todo.Step.TheVariants as step
-use Rattle.wbt_replay_moves.specs.declared.todo.TimerSilent.{TimerSilent}
 use Rattle.wbt_replay_moves.specs.declared.todo.TimerSilent.TheVariants as timer_silent
-use Rattle.wbt_replay_moves.specs.declared.todo.TimerStep.{TimerStep}
 use Rattle.wbt_replay_moves.specs.declared.todo.TimerStep.TheVariants as timer_step
-use Rattle.wbt_replay_moves.specs.declared.todo.TimerTodo.{TimerTodo}
-use Rattle.wbt_replay_moves.specs.declared.todo.Todo.{Todo}
 use Rattle.wbt_replay_moves.specs.declared.todo.Todo.TheVariants as todo
-use Rattle.wbt_replay_order.specs.Kept.Facts.{IsTaskOn}
 use Rattle.wbt_replay_order.proofs.Facts.Lists.{either}
 use Rattle.wbt_replay_points.proofs.Lawful.Now.{WritesNow, counted_cpu}
 use Rattle.wbt_replay_points.proofs.Lawful.Same.{log_of}

@@ -2,35 +2,13 @@
 use Rattle.std.proofs.Common.{◌≡◌, ℕ, zero, suc, ◌+◌, ◌<◌, ◌≤◌, Bool, true, false, cond, eqb, List, [], ◌∷◌, length, map, flat_map, get_or, Option, Some, None, sum_by, count_by, refl, sym, ◌∙◌, ap, subst, arith}
 use Rattle.std.proofs.lemmas.List.{length-map}
 use Rattle.std.proofs.lemmas.List.Sums.{sum_by-cons, sum_by-append}
-use Rattle.wbt_trace.specs.Lawful.{IsLawful}
-use Rattle.wbt_trace.specs.declared.trace.Trace.{Trace}
-use Rattle.wbt_counter.specs.Sums.{one_if}
-use Rattle.wbt_counter.proofs.Sums.{total_same}
-use Rattle.wbt_book.specs.Book.{Book, page_word}
-use Rattle.wbt_book.specs.Ledger.{dirties, claims, completes, redirties, absorbs, times, all_times}
-use Rattle.wbt_book.specs.declared.event.Event.{Event}
-use Rattle.wbt_book.specs.declared.event.Event.TheVariants.{Dirty, Claim, Complete, Redirty, Absorb}
-use Rattle.wbt_journal.specs.Checks.{has_page}
-use Rattle.wbt_journal.specs.Each.{Each}
-use Rattle.wbt_journal.specs.Effects.{event_of, listed, of_part}
-use Rattle.wbt_journal.specs.Lawful.{LedgerIsEven, LeftPagesAreThere}
+use Rattle.wbt_replay_order.proofs.Common.{IsLawful, Trace, one_if, total_same, Book, page_word, dirties, times, all_times, Event, Dirty, Claim, Complete, has_page, Each, event_of, of_part, LedgerIsEven, LeftPagesAreThere, pages, page_context, Told, told, Left, event_in, onto, eqb_turned, joined, told_is, State, cpu_of, Cpu, deeds_told, AreCleaned, TellsLeft, events_told, NeverFails, inode_with, most_moves, part_of, last_state, left_from, journal_of, Sound}
+use Rattle.wbt_book.specs.Ledger.{claims, completes, redirties, absorbs}
+use Rattle.wbt_book.specs.declared.event.Event.TheVariants.{Redirty, Absorb}
+use Rattle.wbt_journal.specs.Effects.{listed}
 use Rattle.wbt_journal.specs.Leaves as leaves
 use Rattle.wbt_journal.specs.Leaves.{IsEven, is_page}
-use Rattle.wbt_journal.specs.Machine.{pages, page_context}
-use Rattle.wbt_journal.specs.Told.{Told, told}
-use Rattle.wbt_journal.specs.declared.journal.Left.{Left}
-use Rattle.wbt_run_laws.specs.Grew.{event_in, onto}
-use Rattle.wbt_run_laws.proofs.Lefts.{eqb_turned}
-use Rattle.wbt_run_laws.proofs.Parts.{joined, records_sum, told_is}
-use Rattle.wbt_replay_moves.specs.Definition.State.{State, cpu_of}
-use Rattle.wbt_replay_moves.specs.declared.state.Cpu.{Cpu}
-use Rattle.wbt_replay_order.specs.Claims.Cleaned.{deeds_told, AreCleaned}
-use Rattle.wbt_replay_order.specs.Claims.Left.{TellsLeft}
-use Rattle.wbt_replay_order.specs.Claims.Path.{events_told}
-use Rattle.wbt_replay_order.specs.Claims.Unfailing.{NeverFails}
-use Rattle.wbt_replay_order.specs.Claims.Setting.{inode_with}
-use Rattle.wbt_replay_order.specs.Definition.Run.{most_moves, part_of, last_state, left_from, journal_of}
-use Rattle.wbt_replay_order.specs.Kept.Sound.{Sound}
+use Rattle.wbt_run_laws.proofs.Parts.{records_sum}
 use Rattle.wbt_replay_points.proofs.Claims.Found.{told_events}
 use Rattle.wbt_replay_points.proofs.Claims.Sums.{part_at}
 use Rattle.wbt_replay_points.proofs.Claims.Unfailing.{none_given_back}

@@ -5,55 +5,19 @@ use Rattle.std.proofs.lemmas.Bool.{cases_Bool, cond-true, cond-false}
 use Rattle.std.proofs.lemmas.List.{get_or-set_same, get_or-set_other, length-map}
 use mathlib.Core.Logic.{dite}
 use native.Mathlib.Decide.{ℕ_discrete}
-use Rattle.wbt_counter.specs.declared.counter.Counter.{Counter}
+use Rattle.wbt_replay_order.proofs.Common.{Counter, Estimate, is_ageing, context_of, flusher_cpu, flusher_device, page_of, Scan, Trace, Each, WaitMove, notices, ages, takes_first, effect, of_part, is_own_flusher, tells, OfPart, WaitsAreOwn, Told, told, told_entry, Along, CheckEntry, Entry, EstEntry, parts_back, IsOwn, each_weaker, each_item, walked_more, decision_at, check_of, decide_for, counted, fold, logged, log_at, own_of, checked, estimated, estimate_to, complete_page, share_now, claim_now, fly, State, no_cpu, no_flusher, cpu_of, with_cpu, task_of, flusher_of, with_flusher, waiting_of, with_waiting, count_of, with_count, end_now, Cpu, Flusher, Writeback, opening, first_cpu, first_cpus, first_flusher, first_flushers, advance, is_ended, part_of, state_at, last_state, journal_of, IsTaskOn, Facts, IsPageOf, IsFlusherOn, Sound, pairs_in, AgedWereDue}
 use Rattle.wbt_counter.specs.declared.counter.Counter.TheVariants.{Domain as ofDomain, Context as ofContext}
-use Rattle.wbt_estimate.specs.declared.estimate.Estimate.{Estimate}
 use Rattle.wbt_expiry.specs.Waiting.{Waiting as Wheel}
 use Rattle.wbt_expiry.specs.declared.due.Due.{Due}
-use Rattle.wbt_rules.specs.Age.{is_ageing}
-use Rattle.wbt_rules.specs.Things.{context_of, flusher_cpu, flusher_device}
-use Rattle.wbt_rules.specs.Places.{page_of}
-use Rattle.wbt_rules.specs.declared.scan.Scan.{Scan}
-use Rattle.wbt_trace.specs.declared.trace.Trace.{Trace}
-use Rattle.wbt_journal.specs.Each.{Each}
-use Rattle.wbt_journal.specs.Effects.{Effect, Wait, WaitMove, notices, ages, takes_first, effect, of_part, of_wait}
-use Rattle.wbt_journal.specs.Flights.{is_own_flusher}
-use Rattle.wbt_journal.specs.Items.{tells}
-use Rattle.wbt_journal.specs.Laws.{OfPart}
-use Rattle.wbt_journal.specs.Lawful.{WaitsAreInOrder, WaitsAreOwn}
-use Rattle.wbt_journal.specs.Told.{Told, told, told_entry, wrote as wrote_told, folded as folded_told, checked as check_told, estimated as est_told, claimed as claimed_told, batch as batch_told, done as done_told, share as share_told, noticed as noticed_told, aged as aged_told, took as took_told}
+use Rattle.wbt_journal.specs.Effects.{Effect, Wait, of_wait}
+use Rattle.wbt_journal.specs.Lawful.{WaitsAreInOrder}
+use Rattle.wbt_journal.specs.Told.{wrote as wrote_told, folded as folded_told, checked as check_told, estimated as est_told, claimed as claimed_told, batch as batch_told, done as done_told, share as share_told, noticed as noticed_told, aged as aged_told, took as took_told}
 use Rattle.wbt_journal.specs.Waits.{MayWait, waited, without_first, first_lists, Waits, WaitsOnOwn, lists_after}
-use Rattle.wbt_journal.specs.Walk.{Along}
-use Rattle.wbt_journal.specs.declared.entry.CheckEntry.{CheckEntry}
-use Rattle.wbt_journal.specs.declared.entry.Entry.{Entry}
 use Rattle.wbt_journal.specs.declared.entry.Entry.TheVariants as entry
-use Rattle.wbt_journal.specs.declared.entry.EstEntry.{EstEntry}
-use Rattle.wbt_journal.proofs.Parting.{parts_back}
-use Rattle.wbt_run_laws.specs.Owns.{IsOwn}
 use Rattle.wbt_run_laws.specs.Waits.{list_after, WaitsInTurn, Waited}
 use Rattle.wbt_run_laws.proofs.Effects.{if_weaker}
-use Rattle.wbt_run_laws.proofs.Lists.{each_weaker}
-use Rattle.wbt_run_laws.proofs.Parts.{each_item}
 use Rattle.wbt_run_laws.proofs.Waiting.{all_wait, first_list}
-use Rattle.wbt_run_laws.proofs.Walking.{walked_more}
-use Rattle.wbt_replay_moves.specs.Definition.Check.{decision_at, check_of, decide_for}
-use Rattle.wbt_replay_moves.specs.Definition.Counters.{counted, fold}
-use Rattle.wbt_replay_moves.specs.Definition.Cpu.{logged, log_at, own_of, checked, estimated}
-use Rattle.wbt_replay_moves.specs.Definition.Estimates.{estimate_to}
-use Rattle.wbt_replay_moves.specs.Definition.Flight.{complete_page, share_now}
-use Rattle.wbt_replay_moves.specs.Definition.Scan.{claim_now, fly}
-use Rattle.wbt_replay_moves.specs.Definition.State.{State, no_cpu, no_flusher, cpu_of, with_cpu, task_of, flusher_of, with_flusher, waiting_of, with_waiting, count_of, with_count}
-use Rattle.wbt_replay_moves.specs.Definition.Writer.{end_now}
-use Rattle.wbt_replay_moves.specs.declared.state.Cpu.{Cpu}
-use Rattle.wbt_replay_moves.specs.declared.state.Flusher.{Flusher}
 use Rattle.wbt_replay_moves.specs.declared.state.ReplayPhase.TheVariants as phase
-use Rattle.wbt_replay_moves.specs.declared.state.Writeback.{Writeback}
-use Rattle.wbt_replay_order.specs.Definition.Opening.{opening, first_cpu, first_cpus, first_flusher, first_flushers}
-use Rattle.wbt_replay_order.specs.Definition.Order.{advance, is_ended}
-use Rattle.wbt_replay_order.specs.Definition.Run.{part_of, state_at, last_state, journal_of}
-use Rattle.wbt_replay_order.specs.Kept.Facts.{IsTaskOn, Facts, IsPageOf, IsFlusherOn}
-use Rattle.wbt_replay_order.specs.Kept.Sound.{Sound}
-use Rattle.wbt_replay_order.specs.Kept.Waiting.{pairs_in}
 use Rattle.wbt_replay_order.proofs.Growth.Quiet.{same_at, is_name}
 use Rattle.wbt_replay_order.proofs.Growth.Runs.{run_none, run_last, run_stays}
 use Rattle.wbt_replay_order.proofs.Growth.Afresh.{told_in}
@@ -67,7 +31,7 @@ use Rattle.wbt_replay_points.proofs.Lawful.Plainly.{steps_seen, moves_seen, see_
 use Rattle.wbt_replay_points.proofs.Lawful.Points.{each_told, owns, flusher_on}
 use Rattle.wbt_replay_points.proofs.Lawful.Same.{log_of, told_of, listed_of, Hidden}
 use Rattle.wbt_replay_points.proofs.Lawful.Walk.{starts_of, advance_seen}
-use Rattle.wbt_replay_order.specs.Claims.Ages.{AgedWasDue, and_then, AgedWereDue}
+use Rattle.wbt_replay_order.specs.Claims.Ages.{AgedWasDue, and_then}
 use Rattle.wbt_replay_points.proofs.Claims.Ages.{part_due}
 
 -- ---- the state of the lists

@@ -4,46 +4,15 @@ use Rattle.std.proofs.Math.ListN.{set}
 use Rattle.std.proofs.lemmas.Bool.{cases_Bool, lt-ltb}
 use Rattle.std.proofs.lemmas.List.{get_or-set_same, get_or-set_other}
 use Rattle.wbt_book.specs.declared.event.Event.TheVariants as event
-use Rattle.wbt_counter.specs.declared.counter.Counter.{Counter}
+use Rattle.wbt_replay_order.proofs.Common.{Counter, Estimate, context_of, group_of, flusher_cpu, page_of, Scan, Trace, has_page, cgroup_reads, Each, Move, WaitMove, notices, ages, takes_first, ToldPhase, ToldFlusher, scanning, new_flusher, MayMove, domains, page_context, Told, told_entry, CheckEntry, DomainLine, Entry, EstEntry, decision_at, check_of, global_line, cgroup_line, decide_for, counted, fold, logged, log_at, own_of, checked, estimated, estimate_to, complete_page, share_now, claim_now, fly, State, no_cpu, no_flusher, cpu_of, with_cpu, task_of, flusher_of, with_flusher, domain_of, with_domain, writeback_of, with_writeback, count_of, with_count, with_event, with_waiting, end_now, Cpu, Flusher, ReplayPhase, ReplayTurn, Writeback, opening, first_cpu, first_cpus, first_flusher, first_flushers, advance, is_ended, state_at, Facts, IsPageOf, IsFlusherOn, IsTaskOn, Sound, IsCounter}
 use Rattle.wbt_counter.specs.declared.counter.Counter.TheVariants.{Domain as ofDomain, Context as ofContext}
-use Rattle.wbt_estimate.specs.declared.estimate.Estimate.{Estimate}
-use Rattle.wbt_rules.specs.Things.{context_of, group_of, flusher_cpu}
-use Rattle.wbt_rules.specs.Places.{page_of}
-use Rattle.wbt_rules.specs.declared.scan.Scan.{Scan}
-use Rattle.wbt_trace.specs.declared.trace.Trace.{Trace}
-use Rattle.wbt_journal.specs.Checks.{has_page}
-use Rattle.wbt_journal.specs.Counts.{cgroup_reads}
-use Rattle.wbt_journal.specs.Each.{Each}
-use Rattle.wbt_journal.specs.Effects.{Move, takes, flies, lands, WaitMove, notices, ages, takes_first}
-use Rattle.wbt_journal.specs.Flights.{ToldPhase, ToldFlusher, scanning, new_flusher, MayMove, moved}
-use Rattle.wbt_journal.specs.Machine.{domains, has_counter, page_context}
-use Rattle.wbt_journal.specs.Told.{Told, told_entry, checked as check_told, estimated as est_told, claimed as claimed_told, batch as batch_told, done as done_told}
-use Rattle.wbt_journal.specs.declared.entry.CheckEntry.{CheckEntry}
-use Rattle.wbt_journal.specs.declared.entry.DomainLine.{DomainLine}
-use Rattle.wbt_journal.specs.declared.entry.Entry.{Entry}
+use Rattle.wbt_journal.specs.Effects.{takes, flies, lands}
+use Rattle.wbt_journal.specs.Flights.{moved}
+use Rattle.wbt_journal.specs.Machine.{has_counter}
+use Rattle.wbt_journal.specs.Told.{checked as check_told, estimated as est_told, claimed as claimed_told, batch as batch_told, done as done_told}
 use Rattle.wbt_journal.specs.declared.entry.Entry.TheVariants as entry
-use Rattle.wbt_journal.specs.declared.entry.EstEntry.{EstEntry}
 use Rattle.wbt_run_laws.specs.Phases.{Flew}
-use Rattle.wbt_replay_moves.specs.Definition.Check.{decision_at, check_of, global_line, cgroup_line, decide_for}
-use Rattle.wbt_replay_moves.specs.Definition.Counters.{counted, fold}
-use Rattle.wbt_replay_moves.specs.Definition.Cpu.{logged, log_at, own_of, checked, estimated}
-use Rattle.wbt_replay_moves.specs.Definition.Estimates.{estimate_to}
-use Rattle.wbt_replay_moves.specs.Definition.Flight.{complete_page, share_now}
-use Rattle.wbt_replay_moves.specs.Definition.Scan.{claim_now, fly}
-use Rattle.wbt_replay_moves.specs.Definition.State.{State, no_cpu, no_flusher, cpu_of, with_cpu, task_of, flusher_of, with_flusher, domain_of, with_domain, writeback_of, with_writeback, count_of, with_count, with_event, with_waiting}
-use Rattle.wbt_replay_moves.specs.Definition.Writer.{end_now}
-use Rattle.wbt_replay_moves.specs.declared.state.Cpu.{Cpu}
-use Rattle.wbt_replay_moves.specs.declared.state.Flusher.{Flusher}
-use Rattle.wbt_replay_moves.specs.declared.state.ReplayPhase.{ReplayPhase}
 use Rattle.wbt_replay_moves.specs.declared.state.ReplayPhase.TheVariants as phase
-use Rattle.wbt_replay_moves.specs.declared.state.ReplayTurn.{ReplayTurn}
-use Rattle.wbt_replay_moves.specs.declared.state.Writeback.{Writeback}
-use Rattle.wbt_replay_order.specs.Definition.Opening.{opening, first_cpu, first_cpus, first_flusher, first_flushers}
-use Rattle.wbt_replay_order.specs.Definition.Order.{advance, is_ended}
-use Rattle.wbt_replay_order.specs.Definition.Run.{state_at}
-use Rattle.wbt_replay_order.specs.Kept.Facts.{Facts, IsPageOf, IsFlusherOn, IsTaskOn}
-use Rattle.wbt_replay_order.specs.Kept.Sound.{Sound}
-use Rattle.wbt_replay_order.specs.Kept.Turns.{IsCounter}
 use Rattle.wbt_replay_order.proofs.Growth.Quiet.{same_at, is_name}
 use Rattle.wbt_replay_order.proofs.Growth.Runs.{run_none, run_last, run_stays}
 use Rattle.wbt_replay_order.proofs.Outset.Numbered.{numbered_all}

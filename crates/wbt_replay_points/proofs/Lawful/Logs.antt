@@ -6,30 +6,14 @@ use Rattle.std.proofs.lemmas.List.{get_or-set_same, get_or-set_other}
 use Rattle.std.proofs.lemmas.Option.{slice_get-get_or}
 use mathlib.Core.Logic.{dite}
 use native.Mathlib.Decide.{ℕ_discrete}
-use Rattle.wbt_trace.specs.declared.trace.TaskLine.{TaskLine}
-use Rattle.wbt_trace.specs.declared.trace.Trace.{Trace}
-use Rattle.wbt_journal.specs.Each.{Each}
-use Rattle.wbt_journal.specs.Effects.{Effect, Flight, Move, effect, of_flight, of_part}
-use Rattle.wbt_journal.specs.Flights.{ToldPhase, ToldFlusher, new_flusher, MayMove, moved, is_own_flusher}
-use Rattle.wbt_journal.specs.Machine.{cpu_of_task}
-use Rattle.wbt_journal.specs.Side.{is_on, is_own_task}
-use Rattle.wbt_journal.specs.Told.{Told, InOrder, one_checked, one_estimated, told_entry, checked as check_told, estimated as est_told}
-use Rattle.wbt_journal.specs.declared.entry.CheckEntry.{CheckEntry}
-use Rattle.wbt_journal.specs.declared.entry.Entry.{Entry}
+use Rattle.wbt_replay_order.proofs.Common.{TaskLine, Trace, Each, Flight, Move, effect, of_part, ToldPhase, ToldFlusher, new_flusher, MayMove, is_own_flusher, cpu_of_task, is_on, is_own_task, Told, InOrder, one_checked, one_estimated, told_entry, CheckEntry, Entry, EstEntry, IsOwn, each_append, walked_more, logged, checked, estimated, no_cpu, no_flusher, Cpu, Flusher, TellsNoFailure, IsFlusherOn, IsTaskOn}
+use Rattle.wbt_journal.specs.Effects.{Effect, of_flight}
+use Rattle.wbt_journal.specs.Flights.{moved}
+use Rattle.wbt_journal.specs.Told.{checked as check_told, estimated as est_told}
 use Rattle.wbt_journal.specs.declared.entry.Entry.TheVariants as entry
-use Rattle.wbt_journal.specs.declared.entry.EstEntry.{EstEntry}
-use Rattle.wbt_run_laws.specs.Owns.{IsOwn}
 use Rattle.wbt_run_laws.specs.Phases.{flusher_after, FliesInTurn, Flew}
-use Rattle.wbt_run_laws.proofs.Lists.{each_append}
-use Rattle.wbt_run_laws.proofs.Walking.{walked_more}
 use Rattle.wbt_rules.specs.Things as things
-use Rattle.wbt_replay_moves.specs.Definition.Cpu.{logged, checked, estimated}
-use Rattle.wbt_replay_moves.specs.Definition.State.{no_cpu, no_flusher}
-use Rattle.wbt_replay_moves.specs.declared.state.Cpu.{Cpu}
-use Rattle.wbt_replay_moves.specs.declared.state.Flusher.{Flusher}
-use Rattle.wbt_replay_order.specs.Claims.Unfailing.{TellsNoFailure}
 use Rattle.wbt_replay_order.specs.Definition.Tasks as tasks
-use Rattle.wbt_replay_order.specs.Kept.Facts.{IsFlusherOn, IsTaskOn}
 use Rattle.wbt_replay_order.proofs.Growth.Afresh.{told_in, told_more, told_same, slice_more, slice_last}
 use Rattle.wbt_replay_points.proofs.Claims.Named.{names_check, names_est}
 use Rattle.wbt_replay_order.proofs.Growth.Quiet.{is_name, names_stay}

@@ -1,34 +1,17 @@
 -- What is known of a CPU's turn where it makes a move that the journal tells, or ends a task.
 use Rattle.std.proofs.Common.{◌≡◌, ℕ, ◌^◌, ◌<◌, true, false, List, ◌∷◌, length, All, ◌≤◌, is_some}
-use Rattle.wbt_pause.specs.declared.decision.Decision.{Decision}
-use Rattle.wbt_trace.specs.declared.trace.Trace.{Trace}
+use Rattle.wbt_replay_order.proofs.Common.{Decision, Trace, emptied, rests_last, Scan, check_of, writer_of, State, cpu_of, task_of, flusher_of, waiting_of, writeback_of, counted_local, has_nothing, Cpu, ReplayWork, Todo, IsPageOf, IsFlusherOn, IsTaskOn, WorkFits, rests_at_end, is_measured, with_pair, has_inode, WaitMove, notices, ages, takes_first, due_after, device_of, flusher_device, Entry, Whose}
 use Rattle.wbt_journal.specs.Checks.{IsInRange}
-use Rattle.wbt_journal.specs.Flights.{emptied}
-use Rattle.wbt_journal.specs.Machine.{rests_last}
 use Rattle.wbt_rules.specs.Flusher.{IsWithinChunk, chunk_at}
-use Rattle.wbt_rules.specs.declared.scan.Scan.{Scan}
 use Rattle.wbt_task.specs.declared.allowance.Due.TheVariants as due
-use Rattle.wbt_replay_moves.specs.Definition.Check.{check_of, writer_of}
-use Rattle.wbt_replay_moves.specs.Definition.State.{State, cpu_of, task_of, flusher_of, waiting_of, writeback_of}
-use Rattle.wbt_replay_moves.specs.Definition.Writer.{counted_local, has_nothing}
-use Rattle.wbt_replay_moves.specs.declared.state.Cpu.{Cpu}
 use Rattle.wbt_replay_moves.specs.declared.state.ReplayPhase.TheVariants as phase
-use Rattle.wbt_replay_moves.specs.declared.state.ReplayWork.{ReplayWork}
 use Rattle.wbt_replay_moves.specs.declared.state.ReplayWork.TheVariants as work
 use Rattle.wbt_replay_moves.specs.declared.state.Whose.TheVariants as whose
-use Rattle.wbt_replay_moves.specs.declared.todo.Todo.{Todo}
-use Rattle.wbt_replay_order.specs.Kept.Facts.{IsPageOf, IsFlusherOn, IsTaskOn}
-use Rattle.wbt_replay_order.specs.Kept.Sound.{IsWriteOf, WorkFits, rests_at_end}
-use Rattle.wbt_replay_order.specs.Kept.Turns.{is_measured}
+use Rattle.wbt_replay_order.specs.Kept.Sound.{IsWriteOf}
 use Rattle.wbt_replay_points.proofs.Lawful.Same.{log_of, phase_at}
 use Rattle.wbt_expiry.specs.declared.due.Due.{Due}
-use Rattle.wbt_expiry.specs.Waiting.{Waiting as Wheel, with_pair, has_inode}
-use Rattle.wbt_journal.specs.Effects.{WaitMove, notices, ages, takes_first}
-use Rattle.wbt_rules.specs.Age.{due_after}
-use Rattle.wbt_rules.specs.Things.{device_of, flusher_device}
-use Rattle.wbt_journal.specs.declared.entry.Entry.{Entry}
+use Rattle.wbt_expiry.specs.Waiting.{Waiting as Wheel}
 use Rattle.wbt_journal.specs.declared.entry.Entry.TheVariants as entry
-use Rattle.wbt_replay_moves.specs.declared.state.Whose.{Whose}
 
 -- the first item of a task's turn is taken, which the CPU changes to this for
 pub record Takes (trace : Trace) (cpu task : ℕ) (item : Todo) (c : Cpu) (s : State) : Type 0 where

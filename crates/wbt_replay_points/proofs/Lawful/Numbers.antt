@@ -6,7 +6,8 @@ use Rattle.std.proofs.lemmas.List.Elements.{All-nil, All-cons}
 use Rattle.std.proofs.lemmas.List.Folds.{list_any-append}
 use Rattle.std.proofs.lemmas.List.Sums.{sum_by-append, sum_by-cons}
 use Rattle.wbt_task.specs.Counts.{AreApart}
-use Rattle.wbt_trace.specs.WriterList.{is_writer, writers_of_task, writers_from}
+use Rattle.wbt_replay_order.proofs.Common.{is_writer}
+use Rattle.wbt_trace.specs.WriterList.{writers_of_task, writers_from}
 use Rattle.wbt_trace.specs.declared.writers.Writer.{Writer as Name}
 use Rattle.wbt_journal.specs.Side.{number_from, numbers_from}
 use Rattle.wbt_replay_order.proofs.Facts.Lists.{either}

@@ -1,42 +1,14 @@
 -- The same walk for a law that reads nothing of what a turn still does: a CPU may change in that at any place.
 use Rattle.std.proofs.Common.{◌⊎◌, ◌≡◌, ◌≢◌, ℕ, ◌<◌, List, [], ◌∷◌, length, Option, Some, ◌+◌, false, refl}
-use Rattle.wbt_counter.specs.declared.counter.Counter.{Counter}
-use Rattle.wbt_estimate.specs.Estimate.{update_of}
-use Rattle.wbt_estimate.specs.declared.estimate.Estimate.{Estimate}
+use Rattle.wbt_replay_order.proofs.Common.{Counter, update_of, Estimate, domains, context_of, group_of, page_of, Scan, Trace, decide_for, fold, log_at, estimate_to, sample_of, complete_page, share_now, make_step, make_move, begin_turn, claim_now, fly, State, cpu_of, with_cpu, task_of, with_task, flusher_of, with_flusher, writeback_of, plain_step, with_waiting, passed_page, dirty_fresh, end_now, Actor, Cpu, ReplayWork, Stretch, Whose, Silent, Step, Todo, Facts, IsPageOf, Sound, IsCounter, WaitMove}
 use Rattle.wbt_grant.specs.declared.who.StepKind.TheVariants as kind
-use Rattle.wbt_journal.specs.Machine.{domains}
 use Rattle.wbt_journal.specs.declared.entry.Entry.TheVariants as entry
-use Rattle.wbt_rules.specs.Things.{context_of, group_of}
-use Rattle.wbt_rules.specs.Places.{page_of}
-use Rattle.wbt_rules.specs.declared.scan.Scan.{Scan}
-use Rattle.wbt_trace.specs.declared.trace.Trace.{Trace}
-use Rattle.wbt_replay_moves.specs.Definition.Check.{decide_for}
-use Rattle.wbt_replay_moves.specs.Definition.Counters.{fold}
-use Rattle.wbt_replay_moves.specs.Definition.Cpu.{log_at}
-use Rattle.wbt_replay_moves.specs.Definition.Estimates.{estimate_to, sample_of}
-use Rattle.wbt_replay_moves.specs.Definition.Flight.{complete_page, share_now}
-use Rattle.wbt_replay_moves.specs.Definition.Perform.{make_step, make_move, begin_turn}
-use Rattle.wbt_replay_moves.specs.Definition.Scan.{claim_now, fly}
-use Rattle.wbt_replay_moves.specs.Definition.State.{State, cpu_of, with_cpu, task_of, with_task, flusher_of, with_flusher, writeback_of, plain_step, with_waiting}
-use Rattle.wbt_replay_moves.specs.Definition.Writer.{passed_page, dirty_fresh, end_now}
-use Rattle.wbt_replay_moves.specs.declared.state.Actor.{Actor}
-use Rattle.wbt_replay_moves.specs.declared.state.Cpu.{Cpu}
-use Rattle.wbt_replay_moves.specs.declared.state.ReplayWork.{ReplayWork}
-use Rattle.wbt_replay_moves.specs.declared.state.Stretch.{Stretch}
-use Rattle.wbt_replay_moves.specs.declared.state.Whose.{Whose}
-use Rattle.wbt_replay_moves.specs.declared.todo.Silent.{Silent}
-use Rattle.wbt_replay_moves.specs.declared.todo.Step.{Step}
-use Rattle.wbt_replay_moves.specs.declared.todo.Todo.{Todo}
 use Rattle.wbt_replay_moves.specs.declared.todo.Todo.TheVariants as todo
-use Rattle.wbt_replay_order.specs.Kept.Facts.{Facts, IsPageOf}
-use Rattle.wbt_replay_order.specs.Kept.Sound.{Sound}
-use Rattle.wbt_replay_order.specs.Kept.Turns.{IsCounter}
 use Rattle.wbt_replay_points.proofs.Lawful.Items as items
 use Rattle.wbt_replay_points.proofs.Lawful.Now.{WritesNow, DecidesNow, EndsNow, ScansNow, CompletesNow, EstimatesNow, entry_of, ListsNow, Starts}
 use Rattle.wbt_replay_points.proofs.Lawful.Same.{log_of, Hidden, GoesOn}
 use Rattle.wbt_replay_points.proofs.Lawful.Walk.{turned}
 use Rattle.wbt_expiry.specs.Waiting.{Waiting as Wheel}
-use Rattle.wbt_journal.specs.Effects.{WaitMove}
 
 module _ (trace : Trace) (facts : Facts trace) (R : State → State → Type 0) (hide : (s u : State) → Hidden s u → R s u) (thens : (s u v : State) → R s u → R u v → R s v)
     (quiet : (cpu : ℕ) (c : Cpu) (s : State) → log_of c ≡ log_of (cpu_of cpu s) → c.local ≡ (cpu_of cpu s).local → R s (with_cpu cpu c s))

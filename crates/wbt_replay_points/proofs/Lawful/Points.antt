@@ -4,42 +4,22 @@ use Rattle.std.specs.List.{slice_get}
 use Rattle.std.proofs.lemmas.Bool.{cases_lt, cond-true, cond-false, lt-ltb, le-ltb}
 use Rattle.std.proofs.lemmas.List.{length-map}
 use Rattle.std.proofs.lemmas.List.Sums.{sum_by-cons}
-use Rattle.wbt_trace.specs.declared.trace.FlusherLine.{FlusherLine}
-use Rattle.wbt_trace.specs.declared.trace.TaskLine.{TaskLine}
-use Rattle.wbt_trace.specs.declared.trace.Trace.{Trace}
-use Rattle.wbt_journal.specs.Each.{Each}
-use Rattle.wbt_journal.specs.Effects.{Flight, Write, effect, of_part}
-use Rattle.wbt_journal.specs.Flights.{ToldFlusher, new_flusher, MayMove, flusher_of, first_flushers, Flies, flushers_after, is_own_flusher}
-use Rattle.wbt_journal.specs.Items.{tells}
-use Rattle.wbt_journal.specs.Laws.{OfPart}
-use Rattle.wbt_journal.specs.Lawful.{EachPart, FlushersAreInTurn, WritesAreInOrder, EndingIsRight}
+use Rattle.wbt_replay_order.proofs.Common.{FlusherLine, TaskLine, Trace, Each, Flight, effect, of_part, ToldFlusher, new_flusher, MayMove, is_own_flusher, tells, OfPart, EachPart, FlushersAreInTurn, WritesAreInOrder, cpu_of_task, pages_of_task, is_on, is_own_task, Told, one_checked, one_estimated, told_entry, told, Along, CheckEntry, Entry, EstEntry, parts_back, IsOwn, each_weaker, joined, told_is, each_cpu, each_joined, flusher_cpu, State, cpu_of, task_of, Cpu, CompletesAll, written_in, part_of, last_state, ending_of, journal_of, task_cpu, IsFlusherOn, IsTaskOn}
+use Rattle.wbt_journal.specs.Effects.{Write}
+use Rattle.wbt_journal.specs.Flights.{flusher_of, first_flushers, Flies, flushers_after}
+use Rattle.wbt_journal.specs.Lawful.{EndingIsRight}
 use Rattle.wbt_journal.specs.Leaves.{is_failure, is_fault, is_fault_of, some_failed, a_flusher_failed, writes_of, WroteAll, EndsBy}
-use Rattle.wbt_journal.specs.Machine.{cpu_of_task, pages_of_task}
 use Rattle.wbt_journal.specs.Pages.{PagesAreNext, writes_after, NamesPage, NamesPages, Writes}
-use Rattle.wbt_journal.specs.Side.{is_on, is_own_task}
-use Rattle.wbt_journal.specs.Told.{Told, wrote, one_checked, one_estimated, told_entry, told}
-use Rattle.wbt_journal.specs.Walk.{Along}
-use Rattle.wbt_journal.specs.declared.entry.CheckEntry.{CheckEntry}
-use Rattle.wbt_journal.specs.declared.entry.Entry.{Entry}
+use Rattle.wbt_journal.specs.Told.{wrote}
 use Rattle.wbt_journal.specs.declared.entry.Entry.TheVariants as entry
-use Rattle.wbt_journal.specs.declared.entry.EstEntry.{EstEntry}
 use Rattle.wbt_journal.specs.declared.journal.Ending.{Ending}
 use Rattle.wbt_journal.specs.declared.journal.Ending.TheVariants as ending
-use Rattle.wbt_journal.proofs.Parting.{parts_back}
-use Rattle.wbt_run_laws.specs.Owns.{IsOwn, IsOwnCheck, IsOwnFlight}
+use Rattle.wbt_run_laws.specs.Owns.{IsOwnCheck, IsOwnFlight}
 use Rattle.wbt_run_laws.specs.Phases.{flusher_after, FliesInTurn}
 use Rattle.wbt_run_laws.proofs.Effects.{if_weaker}
 use Rattle.wbt_run_laws.proofs.Flying.{all_fly}
-use Rattle.wbt_run_laws.proofs.Lists.{each_weaker}
-use Rattle.wbt_run_laws.proofs.Parts.{joined, told_is, each_cpu, each_joined, part_at_most}
-use Rattle.wbt_rules.specs.Things.{flusher_cpu}
+use Rattle.wbt_run_laws.proofs.Parts.{part_at_most}
 use Rattle.wbt_rules.specs.declared.moments.TheConstants.{MOST_FAULTS}
-use Rattle.wbt_replay_moves.specs.Definition.State.{State, cpu_of, task_of}
-use Rattle.wbt_replay_moves.specs.declared.state.Cpu.{Cpu}
-use Rattle.wbt_replay_order.specs.Claims.Complete.{CompletesAll, written_in}
-use Rattle.wbt_replay_order.specs.Definition.Run.{part_of, last_state, ending_of, journal_of}
-use Rattle.wbt_replay_order.specs.Definition.Tasks.{task_cpu}
-use Rattle.wbt_replay_order.specs.Kept.Facts.{IsFlusherOn, IsTaskOn}
 use Rattle.wbt_replay_points.proofs.Claims.Sums.{part_at}
 use Rattle.wbt_replay_points.proofs.Lawful.Logs.{IsTold, own_flusher}
 use Rattle.wbt_replay_points.proofs.Lawful.Logged.{HasLogs}

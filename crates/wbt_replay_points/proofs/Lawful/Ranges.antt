@@ -2,26 +2,13 @@
 use Rattle.std.proofs.Common.{ℕ, zero, suc, ◌-◌, ◌/◌, ◌^◌, ◌<◌, ◌≤◌, ℤ, pos, negsuc, unsigned_abs, List, length, Option, IfSome, arith}
 use Rattle.std.proofs.Math.Nat.{div-le_self}
 use Rattle.wbt_num.specs.Limits.{IsLawful}
-use Rattle.wbt_counter.specs.History.{at_least_zero}
+use Rattle.wbt_replay_order.proofs.Common.{at_least_zero, Estimate, fraction_of, Half, Decision, group_of, new_writer, Trace, cgroup_line, check_of, writer_in, State, domain_of, task_of, writeback_of, Actor, Cpu, ReplayTurn, Stretch, Facts, IsTurn, Sound, most_counted}
 use Rattle.wbt_estimate.specs.Estimate.{IsSound}
-use Rattle.wbt_estimate.specs.declared.estimate.Estimate.{Estimate}
-use Rattle.wbt_flex.specs.Proportions.{fraction_at, fraction_of}
-use Rattle.wbt_flex.specs.declared.half.Half.{Half}
+use Rattle.wbt_flex.specs.Proportions.{fraction_at}
 use Rattle.wbt_pause.specs.Reads.{IsCounted}
-use Rattle.wbt_pause.specs.declared.decision.Decision.{Decision}
-use Rattle.wbt_rules.specs.Things.{group_of}
-use Rattle.wbt_task.specs.History.{new_writer}
-use Rattle.wbt_trace.specs.declared.trace.Trace.{Trace}
 use Rattle.wbt_journal.specs.Checks.{IsInRange, IsPart, IsRate, IsRead}
-use Rattle.wbt_replay_moves.specs.Definition.Check.{cgroup_line, check_of, line_of, writer_in}
-use Rattle.wbt_replay_moves.specs.Definition.State.{State, domain_of, task_of, writeback_of}
-use Rattle.wbt_replay_moves.specs.declared.state.Actor.{Actor}
-use Rattle.wbt_replay_moves.specs.declared.state.Cpu.{Cpu}
+use Rattle.wbt_replay_moves.specs.Definition.Check.{line_of}
 use Rattle.wbt_replay_moves.specs.declared.state.Load.{Load}
-use Rattle.wbt_replay_moves.specs.declared.state.ReplayTurn.{ReplayTurn}
-use Rattle.wbt_replay_moves.specs.declared.state.Stretch.{Stretch}
-use Rattle.wbt_replay_order.specs.Kept.Facts.{Facts}
-use Rattle.wbt_replay_order.specs.Kept.Sound.{IsTurn, Sound, most_counted}
 use Rattle.wbt_replay_order.proofs.Facts.Things.{cgroup_part_fits, moment_fits, part_fits}
 
 -- ---- what was read

@@ -7,27 +7,11 @@ use Rattle.std.proofs.lemmas.List.{append-nil, get_or-set_same, get_or-set_other
 use Rattle.std.proofs.lemmas.List.Folds.{list_any-append}
 use mathlib.Core.Logic.{dite}
 use native.Mathlib.Decide.{ℕ_discrete}
-use Rattle.wbt_flex.specs.declared.half.Half.{Half}
-use Rattle.wbt_estimate.specs.declared.estimate.Estimate.{Estimate}
-use Rattle.wbt_journal.specs.Flights.{ToldPhase, ToldFlusher, scanning, emptied}
-use Rattle.wbt_journal.specs.Told.{Told}
-use Rattle.wbt_journal.specs.declared.entry.CheckEntry.{CheckEntry}
-use Rattle.wbt_journal.specs.declared.entry.Entry.{Entry}
-use Rattle.wbt_journal.specs.declared.entry.EstEntry.{EstEntry}
-use Rattle.wbt_task.specs.declared.history.Writer.{Writer}
-use Rattle.wbt_replay_moves.specs.Definition.State.{State, no_cpu, no_domain, no_context, no_task, no_flusher, cpu_of, with_cpu, domain_of, with_domain, writeback_of, with_writeback, task_of, with_task, flusher_of, with_flusher}
-use Rattle.wbt_replay_moves.specs.declared.state.Cpu.{Cpu}
-use Rattle.wbt_replay_moves.specs.declared.state.Domain.{Domain}
-use Rattle.wbt_replay_moves.specs.declared.state.Flusher.{Flusher}
-use Rattle.wbt_replay_moves.specs.declared.state.ReplayPhase.{ReplayPhase}
+use Rattle.wbt_replay_order.proofs.Common.{Half, Estimate, ToldPhase, ToldFlusher, scanning, emptied, Told, CheckEntry, Entry, EstEntry, Writer, State, no_cpu, no_domain, no_context, no_task, no_flusher, cpu_of, with_cpu, domain_of, with_domain, writeback_of, with_writeback, task_of, with_task, flusher_of, with_flusher, Cpu, Domain, Flusher, ReplayPhase, ReplayTask, Writeback, Todo, is_end, pairs_in}
 use Rattle.wbt_replay_moves.specs.declared.state.ReplayPhase.TheVariants as phase
-use Rattle.wbt_replay_moves.specs.declared.state.ReplayTask.{ReplayTask}
-use Rattle.wbt_replay_moves.specs.declared.state.Writeback.{Writeback}
 use Rattle.wbt_replay_moves.specs.declared.todo.Silent.TheVariants as silent
 use Rattle.wbt_replay_moves.specs.declared.todo.Step.TheVariants as step
-use Rattle.wbt_replay_moves.specs.declared.todo.Todo.{Todo}
 use Rattle.wbt_replay_moves.specs.declared.todo.Todo.TheVariants as todo
-use Rattle.wbt_replay_order.specs.Kept.Waiting.{is_end, pairs_in}
 use Rattle.wbt_replay_order.proofs.Growth.Afresh.{told_in}
 use Rattle.wbt_replay_order.proofs.Growth.Quiet.{same_at}
 use Rattle.wbt_replay_order.proofs.Lists.Todos.{any_left}

@@ -5,53 +5,16 @@ use Rattle.std.proofs.lemmas.Bool.{cases_Bool, cond-true}
 use Rattle.std.proofs.lemmas.List.{get_or-set_same, get_or-set_other, length-set}
 use mathlib.Core.Logic.{dite}
 use native.Mathlib.Decide.{ℕ_discrete}
-use Rattle.wbt_counter.specs.declared.counter.Count.{Count}
-use Rattle.wbt_counter.specs.declared.counter.Counter.{Counter}
+use Rattle.wbt_replay_order.proofs.Common.{Count, Counter, Estimate, after_period, aged, fraction_of, Half, context_of, group_of, page_of, Scan, Trace, reads_of, cgroup_reads, Each, domains, Told, told_entry, InOrder, told, CheckEntry, DomainLine, Entry, EstEntry, decision_at, check_of, global_line, cgroup_line, decide_for, fold, counted, do_next, logged, log_at, own_of, checked, estimated, estimate_to, complete_page, share_now, make_timer_step, make_timer_move, claim_now, fly, State, no_cpu, cpu_of, with_cpu, task_of, flusher_of, with_flusher, domain_of, with_domain, writeback_of, with_writeback, count_of, no_domain, no_context, with_waiting, with_timer, load, period, period_to, periods, is_time, end_now, Cpu, ReplayTurn, Actor, Stretch, TimerSilent, TimerStep, TimerTodo, Flusher, opening, first_cpu, first_cpus, first_context, first_contexts, first_domain, first_domains, first_entries, first_limits, opening_moment, advance, is_ended, state_at, last_state, part_of, journal_of, IsTaskOn, Facts, IsPageOf, Sound, TimerItemFits, tells, items_from, OfPart, TimerEntry, parts_back, is_check, items_told, Walks, and_both, each_append, each_weaker, each_both, joined, told_is, each_item, walks_silent, Domain, Timer, Writeback, WaitMove, notices, ages, takes_first}
 use Rattle.wbt_counter.specs.declared.counter.Counter.TheVariants.{Domain as ofDomain, Context as ofContext}
-use Rattle.wbt_estimate.specs.declared.estimate.Estimate.{Estimate}
-use Rattle.wbt_flex.specs.Proportions.{after_period, aged, added, may_age, fraction_of}
-use Rattle.wbt_flex.specs.declared.half.Half.{Half}
-use Rattle.wbt_rules.specs.Things.{context_of, group_of}
-use Rattle.wbt_rules.specs.Places.{page_of}
-use Rattle.wbt_rules.specs.declared.scan.Scan.{Scan}
-use Rattle.wbt_trace.specs.declared.trace.Trace.{Trace}
-use Rattle.wbt_journal.specs.Counts.{reads_of, cgroup_reads}
-use Rattle.wbt_journal.specs.Each.{Each}
-use Rattle.wbt_journal.specs.Machine.{domains}
-use Rattle.wbt_journal.specs.Told.{Told, told_entry, checked as check_told, estimated as est_told, claimed as claimed_told, batch as batch_told, done as done_told, InOrder, told, wrote as wrote_told, folded as folded_told, share as share_told, noticed as noticed_told, aged as aged_told, took as took_told}
-use Rattle.wbt_journal.specs.declared.entry.CheckEntry.{CheckEntry}
-use Rattle.wbt_journal.specs.declared.entry.DomainLine.{DomainLine}
-use Rattle.wbt_journal.specs.declared.entry.Entry.{Entry}
+use Rattle.wbt_flex.specs.Proportions.{added, may_age}
+use Rattle.wbt_journal.specs.Told.{checked as check_told, estimated as est_told, claimed as claimed_told, batch as batch_told, done as done_told, wrote as wrote_told, folded as folded_told, share as share_told, noticed as noticed_told, aged as aged_told, took as took_told}
 use Rattle.wbt_journal.specs.declared.entry.Entry.TheVariants as entry
-use Rattle.wbt_journal.specs.declared.entry.EstEntry.{EstEntry}
-use Rattle.wbt_replay_moves.specs.Definition.Check.{decision_at, check_of, global_line, cgroup_line, decide_for}
-use Rattle.wbt_replay_moves.specs.Definition.Counters.{fold, counted}
-use Rattle.wbt_replay_moves.specs.Definition.Cpu.{do_next, logged, log_at, own_of, checked, estimated}
-use Rattle.wbt_replay_moves.specs.Definition.Estimates.{estimate_to}
-use Rattle.wbt_replay_moves.specs.Definition.Flight.{complete_page, share_now}
-use Rattle.wbt_replay_moves.specs.Definition.Perform.{make_timer_step, make_timer_move}
-use Rattle.wbt_replay_moves.specs.Definition.Scan.{claim_now, fly}
-use Rattle.wbt_replay_moves.specs.Definition.State.{State, no_cpu, cpu_of, with_cpu, task_of, flusher_of, with_flusher, domain_of, with_domain, writeback_of, with_writeback, count_of, no_domain, no_context, with_waiting}
-use Rattle.wbt_replay_moves.specs.Definition.Timer.{with_timer, load, period, period_to, periods, is_time}
-use Rattle.wbt_replay_moves.specs.Definition.Writer.{end_now}
-use Rattle.wbt_replay_moves.specs.declared.state.Cpu.{Cpu}
-use Rattle.wbt_replay_moves.specs.declared.state.ReplayTurn.{ReplayTurn}
-use Rattle.wbt_replay_moves.specs.declared.state.Actor.{Actor}
-use Rattle.wbt_replay_moves.specs.declared.state.Stretch.{Stretch}
-use Rattle.wbt_replay_moves.specs.declared.todo.TimerSilent.{TimerSilent}
 use Rattle.wbt_replay_moves.specs.declared.todo.TimerSilent.TheVariants as timer_silent
-use Rattle.wbt_replay_moves.specs.declared.todo.TimerStep.{TimerStep}
 use Rattle.wbt_replay_moves.specs.declared.todo.TimerStep.TheVariants as timer_step
 use Rattle.wbt_replay_moves.specs.declared.todo.Silent.TheVariants as silent
 use Rattle.wbt_replay_moves.specs.declared.todo.Todo.TheVariants as todo
-use Rattle.wbt_replay_moves.specs.declared.todo.TimerTodo.{TimerTodo}
 use Rattle.wbt_replay_moves.specs.declared.todo.TimerTodo.TheVariants as timer_todo
-use Rattle.wbt_replay_moves.specs.declared.state.Flusher.{Flusher}
-use Rattle.wbt_replay_order.specs.Definition.Opening.{opening, first_cpu, first_cpus, first_context, first_contexts, first_domain, first_domains, first_entries, first_limits, opening_moment}
-use Rattle.wbt_replay_order.specs.Definition.Order.{advance, is_ended}
-use Rattle.wbt_replay_order.specs.Definition.Run.{state_at, last_state, part_of, journal_of}
-use Rattle.wbt_replay_order.specs.Kept.Facts.{IsTaskOn, Facts, IsPageOf}
-use Rattle.wbt_replay_order.specs.Kept.Sound.{Sound, TimerItemFits}
 use Rattle.wbt_replay_order.proofs.Growth.Quiet.{same_at, is_name}
 use Rattle.wbt_replay_order.proofs.Growth.Runs.{run_none, run_last, run_stays}
 use Rattle.wbt_replay_order.proofs.Facts.Lists.{either}
@@ -65,22 +28,10 @@ use Rattle.wbt_replay_points.proofs.Lawful.Walk.{turned, advance_seen, starts_of
 use Rattle.std.proofs.lemmas.List.Elements.{All-head}
 use Rattle.std.proofs.lemmas.List.Sums.{sum_by-cons, sum_by-append}
 use Rattle.std.proofs.lemmas.Nat.{shr_le}
-use Rattle.wbt_journal.specs.Items.{tells, items_from}
-use Rattle.wbt_journal.specs.Laws.{OfPart}
 use Rattle.wbt_journal.specs.Lawful.{FractionsAreOfShares, PeriodsStayNew}
 use Rattle.wbt_journal.specs.Reads.{added_by, added_to, IsFraction, FractionsAreOfPeriods, PeriodsGoOn, periods_after}
-use Rattle.wbt_journal.specs.declared.timer.TimerEntry.{TimerEntry}
-use Rattle.wbt_journal.proofs.Parting.{parts_back}
-use Rattle.wbt_run_laws.specs.Entries.{is_check}
 use Rattle.wbt_run_laws.specs.Notes.{KeepsPeriods}
-use Rattle.wbt_run_laws.specs.Walks.{items_told, Walks}
 use Rattle.wbt_run_laws.proofs.Entering.{check_reads_kept}
-use Rattle.wbt_run_laws.proofs.Lists.{and_both, each_append, each_weaker, each_both}
-use Rattle.wbt_run_laws.proofs.Parts.{joined, told_is, each_item}
-use Rattle.wbt_run_laws.proofs.Walking.{walks_silent}
-use Rattle.wbt_replay_moves.specs.declared.state.Domain.{Domain}
-use Rattle.wbt_replay_moves.specs.declared.state.Timer.{Timer}
-use Rattle.wbt_replay_moves.specs.declared.state.Writeback.{Writeback}
 use Rattle.wbt_replay_order.proofs.Growth.Afresh.{told_in}
 use Rattle.wbt_replay_points.proofs.Claims.Peaks.{first_domain_of}
 use Rattle.wbt_replay_points.proofs.Lawful.Logged.{HasLogs}
@@ -88,7 +39,6 @@ use Rattle.wbt_replay_points.proofs.Lawful.Points.{each_told}
 use Rattle.wbt_replay_points.proofs.Lawful.Sharing.{last_period, last_limits, added_on, added_all, same_sums, added_more, IsPrinted, IsPrintedIn, kept_none, kept_of, HasRead, AreShared, printed_on, read_on, shared_more, shared_other, shared_limits, shared_periods, printed_line}
 use Rattle.wbt_replay_points.proofs.Lawful.Told.{OfCheck, told_checks}
 use Rattle.wbt_expiry.specs.Waiting.{Waiting as Wheel}
-use Rattle.wbt_journal.specs.Effects.{WaitMove, notices, ages, takes_first}
 
 abbrev pub HasShares : (trace : Trace) (s : State) → Type 0
 HasShares trace s = AreShared trace s.cpus s.domains s.contexts s.timer.entries

@@ -8,32 +8,15 @@ use Rattle.std.proofs.lemmas.List.Sums.{sum_by-cons, sum_by-append, sum_by-set}
 use Rattle.std.proofs.lemmas.Nat.{shr_le}
 use mathlib.Core.Logic.{dite}
 use native.Mathlib.Decide.{ℕ_discrete}
-use Rattle.wbt_flex.specs.Proportions.{aged, fraction_of}
-use Rattle.wbt_flex.specs.declared.half.Half.{Half}
+use Rattle.wbt_replay_order.proofs.Common.{aged, fraction_of, Half, Limits, group_of, Trace, reads_of, Each, tells, domains, Told, CheckEntry, DomainLine, TimerEntry, is_check, items_told, Walks, each_weaker, walks_silent, no_cpu, no_domain, no_context, Cpu, Domain, Writeback}
 use Rattle.wbt_flex.specs.declared.share.Fraction.{Fraction}
-use Rattle.wbt_num.specs.declared.limits.Limits.{Limits}
-use Rattle.wbt_rules.specs.Things.{group_of}
-use Rattle.wbt_trace.specs.declared.trace.Trace.{Trace}
-use Rattle.wbt_journal.specs.Counts.{reads_of}
-use Rattle.wbt_journal.specs.Each.{Each}
-use Rattle.wbt_journal.specs.Items.{Item, tells}
-use Rattle.wbt_journal.specs.Machine.{domains}
+use Rattle.wbt_journal.specs.Items.{Item}
 use Rattle.wbt_journal.specs.Reads.{periods_from, added_by, added_to, PeriodsGoOn, periods_after}
-use Rattle.wbt_journal.specs.Told.{Told}
-use Rattle.wbt_journal.specs.declared.entry.CheckEntry.{CheckEntry}
-use Rattle.wbt_journal.specs.declared.entry.DomainLine.{DomainLine}
-use Rattle.wbt_journal.specs.declared.timer.TimerEntry.{TimerEntry}
 use Rattle.wbt_journal.specs.declared.timer.TimerEntry.TheVariants as timer
-use Rattle.wbt_run_laws.specs.Entries.{is_check}
 use Rattle.wbt_run_laws.specs.Notes.{KeepsPeriods}
-use Rattle.wbt_run_laws.specs.Walks.{items_told, Walks}
 use Rattle.wbt_run_laws.proofs.Entering.{others_read_none}
-use Rattle.wbt_run_laws.proofs.Lists.{each_weaker, or_right}
-use Rattle.wbt_run_laws.proofs.Walking.{walks_more, walks_silent}
-use Rattle.wbt_replay_moves.specs.Definition.State.{no_cpu, no_domain, no_context}
-use Rattle.wbt_replay_moves.specs.declared.state.Cpu.{Cpu}
-use Rattle.wbt_replay_moves.specs.declared.state.Domain.{Domain}
-use Rattle.wbt_replay_moves.specs.declared.state.Writeback.{Writeback}
+use Rattle.wbt_run_laws.proofs.Lists.{or_right}
+use Rattle.wbt_run_laws.proofs.Walking.{walks_more}
 use Rattle.wbt_replay_points.proofs.Lawful.Logs.{IsInOrder}
 use Rattle.wbt_replay_points.proofs.Lawful.Same.{told_of}
 

@@ -4,29 +4,15 @@ use Rattle.std.specs.List.{list_any}
 use Rattle.std.proofs.lemmas.List.{append-nil, map-append}
 use mathlib.Core.Logic.{dite}
 use native.Mathlib.Decide.{ℕ_discrete}
-use Rattle.wbt_estimate.specs.declared.estimate.Estimate.{Estimate}
-use Rattle.wbt_rules.specs.First.{first_estimate}
-use Rattle.wbt_task.specs.declared.allowance.CpuLocal.{CpuLocal}
-use Rattle.wbt_trace.specs.declared.trace.Trace.{Trace}
-use Rattle.wbt_journal.specs.Checks.{nth_estimate, DecidesBy, IsQuiet, MayCheck, Stands, is_judged}
-use Rattle.wbt_journal.specs.Effects.{Write, effect, of_part}
-use Rattle.wbt_journal.specs.Estimates.{estimate_in, estimates_of}
-use Rattle.wbt_journal.specs.Items.{begins, tells}
+use Rattle.wbt_replay_order.proofs.Common.{Estimate, first_estimate, CpuLocal, Trace, nth_estimate, DecidesBy, IsQuiet, effect, of_part, estimate_in, estimates_of, tells, ratelimit_pages, item, ends, Side, is_own_task, Told, Along, CheckEntry, Walked, flat_append, walked_more, State, cpu_of, task_of, Cpu, opening_moment, is_end}
+use Rattle.wbt_journal.specs.Checks.{MayCheck, Stands, is_judged}
+use Rattle.wbt_journal.specs.Effects.{Write}
+use Rattle.wbt_journal.specs.Items.{begins}
 use Rattle.wbt_journal.specs.Lawful.{item_of_event, items_among}
-use Rattle.wbt_journal.specs.Machine.{ratelimit_pages}
-use Rattle.wbt_journal.specs.Side.{Event, item, ends, Side, first_side, side_after, side_after_check, side_after_write, is_own_task}
-use Rattle.wbt_journal.specs.Told.{Told}
-use Rattle.wbt_journal.specs.Walk.{Along}
-use Rattle.wbt_journal.specs.declared.entry.CheckEntry.{CheckEntry}
+use Rattle.wbt_journal.specs.Side.{Event, first_side, side_after, side_after_check, side_after_write}
 use Rattle.wbt_journal.proofs.Parting.{along_more}
-use Rattle.wbt_run_laws.specs.Walks.{Walked}
-use Rattle.wbt_run_laws.proofs.Lists.{flat_append}
-use Rattle.wbt_run_laws.proofs.Walking.{walked_more, along_weaker}
-use Rattle.wbt_replay_moves.specs.Definition.State.{State, cpu_of, task_of}
-use Rattle.wbt_replay_moves.specs.declared.state.Cpu.{Cpu}
+use Rattle.wbt_run_laws.proofs.Walking.{along_weaker}
 use Rattle.wbt_replay_moves.specs.declared.state.Whose.TheVariants as whose
-use Rattle.wbt_replay_order.specs.Definition.Opening.{opening_moment}
-use Rattle.wbt_replay_order.specs.Kept.Waiting.{is_end}
 use Rattle.wbt_replay_points.proofs.Lawful.Estimating.{publisher, estimates_on}
 use Rattle.wbt_replay_points.proofs.Lawful.Points.{task_on}
 use Rattle.wbt_replay_points.proofs.Lawful.Same.{told_of, task_view, EndsLater, GoesOn}

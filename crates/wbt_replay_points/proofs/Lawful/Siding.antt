@@ -6,26 +6,15 @@ use Rattle.std.proofs.lemmas.Bool.{cond-true, cond-false, cases_lt, cases_Bool}
 use Rattle.std.proofs.lemmas.List.{get_or-set_same, get_or-set_other, get_or_past, length-set}
 use mathlib.Core.Logic.{dite}
 use native.Mathlib.Decide.{ℕ_discrete}
-use Rattle.wbt_pause.specs.declared.decision.Decision.{Decision}
-use Rattle.wbt_task.specs.Allowance.{ended}
+use Rattle.wbt_replay_order.proofs.Common.{Decision, ended, new_writer, wrote_page, wrote_writer, checked_writer, CpuLocal, Due, Writer, writers_of, is_writer, TaskLine, Trace, IsQuiet, Each, cpu_of_task, ratelimit_pages, rests_last, Side, TaskState, all_writers, is_empty, is_not_due, is_on, is_own_task, end_task, settle, with_page, write_fresh, check_by}
 use Rattle.wbt_task.specs.Counts.{dirtied_by, dirtied_by_all}
-use Rattle.wbt_task.specs.History.{Cpu, new_writer, writer_of, cpu_step, cpu_after, wrote_page, wrote_writer, checked_writer}
-use Rattle.wbt_task.specs.declared.allowance.CpuLocal.{CpuLocal}
-use Rattle.wbt_task.specs.declared.allowance.Due.{Due}
+use Rattle.wbt_task.specs.History.{Cpu, writer_of, cpu_step, cpu_after}
 use Rattle.wbt_task.specs.declared.allowance.Due.TheVariants as due
 use Rattle.wbt_task.specs.declared.history.Event.TheVariants.{Wrote, Checked, Ended}
-use Rattle.wbt_task.specs.declared.history.Writer.{Writer}
 use Rattle.wbt_task.proofs.Ending.{ended_task_leaks, ended_writers_leak}
 use Rattle.wbt_task.proofs.Keeping.{same_writers, others_stay, written_is, checked_is, new_is}
-use Rattle.wbt_trace.specs.Lawful.{writers_of}
-use Rattle.wbt_trace.specs.WriterList.{is_writer}
-use Rattle.wbt_trace.specs.declared.trace.TaskLine.{TaskLine}
-use Rattle.wbt_trace.specs.declared.trace.Trace.{Trace}
 use Rattle.wbt_trace.specs.declared.writers.Writer.{Writer as Name}
-use Rattle.wbt_journal.specs.Checks.{IsQuiet}
-use Rattle.wbt_journal.specs.Each.{Each}
-use Rattle.wbt_journal.specs.Machine.{cpu_of_task, ratelimit_pages, rests_last}
-use Rattle.wbt_journal.specs.Side.{Side, TaskState, all_writers, number_of, numbers_of, numbers_from, is_empty, is_not_due, is_quiet, is_none_due, is_on, is_own_task, task_of, end_task, settle, with_page, write_fresh, check_by}
+use Rattle.wbt_journal.specs.Side.{number_of, numbers_of, numbers_from, is_quiet, is_none_due, task_of}
 use Rattle.wbt_replay_points.proofs.Lawful.Numbers.{pair, no_name, HasNumber, has_number, number_back, stand_once, is_there, numbers_apart, number_is_its, sum_numbers, sum_from, sum_of_task, sum_places}
 
 -- ---- a task

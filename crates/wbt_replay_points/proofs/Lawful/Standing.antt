@@ -6,17 +6,11 @@ use Rattle.std.proofs.lemmas.Bool.{cond-true, cond-false}
 use Rattle.std.proofs.lemmas.List.{get_or-set_other, length-set}
 use mathlib.Core.Logic.{dite}
 use native.Mathlib.Decide.{ℕ_discrete}
-use Rattle.wbt_pause.specs.declared.decision.Decision.{Decision}
-use Rattle.wbt_task.specs.Allowance.{ended}
-use Rattle.wbt_task.specs.History.{new_writer, writer_of, wrote_page, wrote_writer, checked_writer}
-use Rattle.wbt_task.specs.declared.allowance.CpuLocal.{CpuLocal}
+use Rattle.wbt_replay_order.proofs.Common.{Decision, ended, new_writer, wrote_page, wrote_writer, checked_writer, CpuLocal, Writer, is_writer, Trace, IsQuiet, ratelimit_pages, rests_last, Side, TaskState, all_writers, is_empty, is_not_due, is_own_task, end_task, settle, with_page, write_fresh, check_by}
+use Rattle.wbt_task.specs.History.{writer_of}
 use Rattle.wbt_task.specs.declared.allowance.Due.TheVariants as due
-use Rattle.wbt_task.specs.declared.history.Writer.{Writer}
-use Rattle.wbt_trace.specs.WriterList.{is_writer}
-use Rattle.wbt_trace.specs.declared.trace.Trace.{Trace}
-use Rattle.wbt_journal.specs.Checks.{IsQuiet, MayEnd, due_of}
-use Rattle.wbt_journal.specs.Machine.{ratelimit_pages, rests_last}
-use Rattle.wbt_journal.specs.Side.{Side, TaskState, all_writers, number_of, is_empty, is_not_due, is_own_task, end_task, settle, with_page, write_fresh, check_by}
+use Rattle.wbt_journal.specs.Checks.{MayEnd, due_of}
+use Rattle.wbt_journal.specs.Side.{number_of}
 use Rattle.wbt_replay_points.proofs.Lawful.Numbers.{HasNumber}
 use Rattle.wbt_replay_points.proofs.Lawful.Siding.{View, writer_in, last_writer, is_done, is_waiting, is_gone, writers_in, IsView, SideAt, name, due_there, quiet, due_number, its_writer, fresh, checked, page_less, ends, settled}
 

@@ -5,39 +5,15 @@ use Rattle.std.proofs.Math.Path.{fun_ext}
 use Rattle.std.proofs.lemmas.Bool.{cases_Bool, leb-true, le-ltb}
 use Rattle.std.proofs.lemmas.List.{get_or-set_same, get_or-set_other, length-set}
 use Rattle.std.proofs.lemmas.List.Elements.{All-head}
-use Rattle.wbt_num.specs.declared.limits.Limits.{Limits}
-use Rattle.wbt_counter.specs.History.{at_least_zero}
-use Rattle.wbt_counter.specs.declared.counter.Counter.{Counter}
+use Rattle.wbt_replay_order.proofs.Common.{Limits, at_least_zero, Counter, after_period, Half, Trace, opened_at, domains, Along, fold, counted, own_of, share_now, make_timer_step, make_timer_move, State, no_domain, cpu_of, domain_of, with_domain, count_of, with_timer, load, peak, unseal, thresh, publish, period, period_to, periods, is_time, begin_timer, Domain, Timer, Actor, Stretch, TimerSilent, TimerStep, TimerTodo, opening, first_limits, first_domain, first_domains, opening_moment, advance, is_ended, most_moves, state_at, last_state, journal_of, Facts, Sound, TimerItemFits}
 use Rattle.wbt_counter.specs.declared.counter.Counter.TheVariants.{Domain as ofDomain, Context as ofContext}
-use Rattle.wbt_flex.specs.Proportions.{after_period, added}
-use Rattle.wbt_flex.specs.declared.half.Half.{Half}
-use Rattle.wbt_trace.specs.declared.trace.Trace.{Trace}
-use Rattle.wbt_journal.specs.Estimates.{opened_at}
+use Rattle.wbt_flex.specs.Proportions.{added}
 use Rattle.wbt_journal.specs.Lawful.{TimerFollows, TimerHasOpened}
-use Rattle.wbt_journal.specs.Machine.{domains}
 use Rattle.wbt_journal.specs.Timer.{TimerGoesOn, LastLine, lines_after}
-use Rattle.wbt_journal.specs.Walk.{Along}
-use Rattle.wbt_replay_moves.specs.Definition.Counters.{fold, counted}
-use Rattle.wbt_replay_moves.specs.Definition.Cpu.{own_of}
-use Rattle.wbt_replay_moves.specs.Definition.Flight.{share_now}
-use Rattle.wbt_replay_moves.specs.Definition.Perform.{make_timer_step, make_timer_move}
-use Rattle.wbt_replay_moves.specs.Definition.State.{State, no_domain, cpu_of, domain_of, with_domain, count_of}
-use Rattle.wbt_replay_moves.specs.Definition.Timer.{with_timer, load, peak, unseal, thresh, publish, period, period_to, periods, is_time, rested, begin_timer}
-use Rattle.wbt_replay_moves.specs.declared.state.Domain.{Domain}
-use Rattle.wbt_replay_moves.specs.declared.state.Timer.{Timer}
-use Rattle.wbt_replay_moves.specs.declared.state.Actor.{Actor}
-use Rattle.wbt_replay_moves.specs.declared.state.Stretch.{Stretch}
-use Rattle.wbt_replay_moves.specs.declared.todo.TimerSilent.{TimerSilent}
+use Rattle.wbt_replay_moves.specs.Definition.Timer.{rested}
 use Rattle.wbt_replay_moves.specs.declared.todo.TimerSilent.TheVariants as silent
-use Rattle.wbt_replay_moves.specs.declared.todo.TimerStep.{TimerStep}
 use Rattle.wbt_replay_moves.specs.declared.todo.TimerStep.TheVariants as step
-use Rattle.wbt_replay_moves.specs.declared.todo.TimerTodo.{TimerTodo}
 use Rattle.wbt_replay_moves.specs.declared.todo.TimerTodo.TheVariants as todo
-use Rattle.wbt_replay_order.specs.Definition.Opening.{opening, first_limits, first_domain, first_domains, opening_moment}
-use Rattle.wbt_replay_order.specs.Definition.Order.{advance, is_ended}
-use Rattle.wbt_replay_order.specs.Definition.Run.{most_moves, state_at, last_state, journal_of}
-use Rattle.wbt_replay_order.specs.Kept.Facts.{Facts}
-use Rattle.wbt_replay_order.specs.Kept.Sound.{Sound, TimerItemFits}
 use Rattle.wbt_replay_points.proofs.Claims.Peaks.{first_domain_of, peaks_at}
 use Rattle.wbt_replay_order.proofs.Growth.Quiet.{same_at}
 use Rattle.wbt_replay_order.proofs.Growth.Runs.{run_none, run_last, run_stays}

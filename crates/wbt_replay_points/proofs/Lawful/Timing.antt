@@ -7,32 +7,23 @@ use Rattle.std.proofs.lemmas.List.{get_or-set_same, get_or-set_other, get_or_app
 use Rattle.std.proofs.lemmas.Option.{slice_get-get_or}
 use mathlib.Core.Logic.{dite}
 use native.Mathlib.Decide.{ℕ_discrete}
-use Rattle.wbt_num.specs.declared.limits.Limits.{Limits}
+use Rattle.wbt_replay_order.proofs.Common.{Limits, thresholds_of, Trace, opened_at, domains, Along, TimerEntry, domain_turns, domain_periods, turn_items, Timer, TimerSilent, TimerTodo, first_limits, first_entries, opening_moment}
 use Rattle.wbt_num.specs.declared.limits.Settings.{Settings}
 use Rattle.wbt_limits.specs.Cgroup.{available_to_cgroup}
-use Rattle.wbt_limits.specs.Thresholds.{thresholds_of, followed_limit, hard_limit}
+use Rattle.wbt_limits.specs.Thresholds.{followed_limit, hard_limit}
 use Rattle.wbt_limits.specs.declared.domain.Pair.{Pair}
 use Rattle.wbt_limits.proofs.Rising.{limits_are_lawful, cgroup_thresh_is_between, following_is_hard, following_rises_at_once, following_falls_slowly}
 use Rattle.wbt_rules.specs.Thresholds.{avail_at, thresholds_at, limits_after, cgroup_of}
 use Rattle.wbt_rules.specs.declared.moments.TheConstants.{TIMER_REST}
 use Rattle.wbt_trace.specs.declared.trace.Cgroup.{Cgroup}
-use Rattle.wbt_trace.specs.declared.trace.Trace.{Trace}
-use Rattle.wbt_journal.specs.Estimates.{opened_at}
-use Rattle.wbt_journal.specs.Machine.{domains}
 use Rattle.wbt_journal.specs.Timer.{IsCgroup, HasThresholds, HardBy, HardFollows, LastLine, LimitsBy, LineFollows, TimerGoesOn, lines_after}
-use Rattle.wbt_journal.specs.Walk.{Along, after}
-use Rattle.wbt_journal.specs.declared.timer.TimerEntry.{TimerEntry}
+use Rattle.wbt_journal.specs.Walk.{after}
 use Rattle.wbt_journal.specs.declared.timer.TimerEntry.TheVariants as timer
 use Rattle.wbt_journal.proofs.Parting.{along_more}
 use Rattle.wbt_run_laws.proofs.Walking.{after_append}
-use Rattle.wbt_replay_moves.specs.Definition.Timer.{domain_turns, domain_periods, turn_items}
-use Rattle.wbt_replay_moves.specs.declared.state.Timer.{Timer}
-use Rattle.wbt_replay_moves.specs.declared.todo.TimerSilent.{TimerSilent}
 use Rattle.wbt_replay_moves.specs.declared.todo.TimerSilent.TheVariants as silent
 use Rattle.wbt_replay_moves.specs.declared.todo.TimerStep.TheVariants as step
-use Rattle.wbt_replay_moves.specs.declared.todo.TimerTodo.{TimerTodo}
 use Rattle.wbt_replay_moves.specs.declared.todo.TimerTodo.TheVariants as todo
-use Rattle.wbt_replay_order.specs.Definition.Opening.{first_limits, first_entries, opening_moment}
 
 -- ---- the limits that a turn finds
 

@@ -4,18 +4,8 @@ use Rattle.std.specs.List.{slice_get}
 use Rattle.std.proofs.lemmas.Bool.{cond-true, cond-false}
 use Rattle.std.proofs.lemmas.Bool.Decides.{nat_tests}
 use Rattle.std.proofs.lemmas.List.Sums.{sum_by-cons}
-use Rattle.wbt_trace.specs.Lawful.{AreFirsts}
-use Rattle.wbt_trace.specs.Sofar.{pages_in}
-use Rattle.wbt_trace.specs.declared.trace.Inode.{Inode}
-use Rattle.wbt_journal.specs.Each.{Each}
-use Rattle.wbt_journal.specs.Effects.{effect}
-use Rattle.wbt_journal.specs.Machine.{context_among}
-use Rattle.wbt_journal.specs.Told.{Told, one_checked, one_estimated, told_entry}
-use Rattle.wbt_journal.specs.declared.entry.CheckEntry.{CheckEntry}
-use Rattle.wbt_journal.specs.declared.entry.Entry.{Entry}
+use Rattle.wbt_replay_order.proofs.Common.{AreFirsts, pages_in, Inode, Each, effect, context_among, Told, one_checked, one_estimated, told_entry, CheckEntry, Entry, EstEntry, each_append}
 use Rattle.wbt_journal.specs.declared.entry.Entry.TheVariants as entry
-use Rattle.wbt_journal.specs.declared.entry.EstEntry.{EstEntry}
-use Rattle.wbt_run_laws.proofs.Lists.{each_append}
 use Rattle.wbt_replay_order.specs.Claims.Setting.{inode_from}
 use Rattle.wbt_replay_order.proofs.Facts.Inodes.{no_inode}
 use Rattle.wbt_replay_order.proofs.Facts.Lists.{either}

@@ -5,44 +5,18 @@ use Rattle.std.proofs.lemmas.Bool.{cond-true, cond-false, ltb-true}
 use Rattle.std.proofs.lemmas.List.Elements.{All-contains}
 use mathlib.Core.Logic.{dite}
 use native.Mathlib.Decide.{ℕ_discrete}
-use Rattle.wbt_num.specs.declared.limits.Limits.{Limits}
-use Rattle.wbt_trace.specs.declared.trace.Trace.{Trace}
+use Rattle.wbt_replay_order.proofs.Common.{Limits, Trace, IsSetting, DomainLimits, Load, reads_of, read_loads, loads_of, Each, effect, tells, OfPart, EachPart, domains, Told, told, told_entry, one_checked, one_estimated, InOrder, CheckEntry, DomainLine, Entry, EstEntry, TimerEntry, parts_back, limits_of, WereHeld, and_both, flat_append, each_weaker, each_both, each_cpu, each_item, State, no_cpu, cpu_of, Cpu, AreDecided, triples_told, IsFollowed, setting_of, first_limits, first_entries, opening_moment, most_moves, state_at, part_of, last_state, journal_of, Facts, Sound}
 use Rattle.wbt_grant.specs.Rule.{WasPublished, as_first, by_timer}
-use Rattle.wbt_grant.specs.Setting.{IsSetting}
 use Rattle.wbt_grant.specs.State as throttle
-use Rattle.wbt_grant.specs.declared.record.DomainLimits.{DomainLimits}
-use Rattle.wbt_journal.specs.Counts.{Load, reads_of, read_loads, loads_of}
-use Rattle.wbt_journal.specs.Each.{Each}
-use Rattle.wbt_journal.specs.Effects.{effect}
-use Rattle.wbt_journal.specs.Items.{tells}
-use Rattle.wbt_journal.specs.Laws.{OfPart}
-use Rattle.wbt_journal.specs.Lawful.{TriplesAreOfTimer, TriplesStayNew, EachPart}
-use Rattle.wbt_journal.specs.Machine.{domains}
+use Rattle.wbt_journal.specs.Lawful.{TriplesAreOfTimer, TriplesStayNew}
 use Rattle.wbt_journal.specs.Reads.{triple_in, triples_of, same_limits, are_limits, is_published, TriplesArePublished, TriplesGoOn, triples_after}
-use Rattle.wbt_journal.specs.Told.{Told, told, told_entry, one_checked, one_estimated, InOrder}
-use Rattle.wbt_journal.specs.declared.entry.CheckEntry.{CheckEntry}
-use Rattle.wbt_journal.specs.declared.entry.DomainLine.{DomainLine}
-use Rattle.wbt_journal.specs.declared.entry.Entry.{Entry}
 use Rattle.wbt_journal.specs.declared.entry.Entry.TheVariants as entry
-use Rattle.wbt_journal.specs.declared.entry.EstEntry.{EstEntry}
-use Rattle.wbt_journal.specs.declared.timer.TimerEntry.{TimerEntry}
 use Rattle.wbt_journal.specs.declared.timer.TimerEntry.TheVariants as timer
-use Rattle.wbt_journal.proofs.Parting.{parts_back}
-use Rattle.wbt_run_laws.specs.Held.{limits_of, limits_in, IsLoaded, WereHeld}
+use Rattle.wbt_run_laws.specs.Held.{limits_in, IsLoaded}
 use Rattle.wbt_run_laws.proofs.Effects.{each_told}
 use Rattle.wbt_run_laws.proofs.Holding.{held_loaded, held_new}
-use Rattle.wbt_run_laws.proofs.Lists.{and_both, flat_append, all_of_each, each_weaker, each_both, each_unmap, each_flat}
-use Rattle.wbt_run_laws.proofs.Parts.{each_cpu, each_item}
+use Rattle.wbt_run_laws.proofs.Lists.{all_of_each, each_unmap, each_flat}
 use Rattle.wbt_run_laws.proofs.Triples.{IsLine, IsLater, published_all}
-use Rattle.wbt_replay_moves.specs.Definition.State.{State, no_cpu, cpu_of}
-use Rattle.wbt_replay_moves.specs.declared.state.Cpu.{Cpu}
-use Rattle.wbt_replay_order.specs.Claims.Decided.{AreDecided}
-use Rattle.wbt_replay_order.specs.Claims.Path.{triples_told, IsFollowed}
-use Rattle.wbt_replay_order.specs.Claims.Setting.{setting_of}
-use Rattle.wbt_replay_order.specs.Definition.Opening.{first_limits, first_entries, opening_moment}
-use Rattle.wbt_replay_order.specs.Definition.Run.{most_moves, state_at, part_of, last_state, journal_of}
-use Rattle.wbt_replay_order.specs.Kept.Facts.{Facts}
-use Rattle.wbt_replay_order.specs.Kept.Sound.{Sound}
 use Rattle.wbt_replay_points.proofs.Claims.Counted.{state_of, rule_at}
 use Rattle.wbt_replay_points.proofs.Claims.Fresh.{may_decide}
 use Rattle.wbt_replay_points.proofs.Claims.Named.{AllNamed, named_at}

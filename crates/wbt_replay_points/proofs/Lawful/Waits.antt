@@ -1,21 +1,10 @@
 -- What a task has still to do: one that has more doesn't wait for its end; and the estimate that was told last.
 use Rattle.std.proofs.Common.{◌≡◌, ℕ, zero, suc, ◌≤◌, Bool, true, false, ◌&&◌, not, List, [], ◌∷◌, ◌++◌, length, flat_map, All, Some, refl, sym, ap, arith, true≢false}
 use Rattle.std.proofs.lemmas.List.Elements.{All-head, All-tail}
-use Rattle.wbt_estimate.specs.declared.estimate.Estimate.{Estimate}
-use Rattle.wbt_task.specs.declared.allowance.Due.{Due}
+use Rattle.wbt_replay_order.proofs.Common.{Estimate, Due, Trace, nth_estimate, numbers, rests_last, is_empty, is_not_due, newer, writer_of, has_nothing, ReplayTask, ReplayWork, WorkFits, rests_at_end}
 use Rattle.wbt_task.specs.declared.allowance.Due.TheVariants as due
-use Rattle.wbt_trace.specs.declared.trace.Trace.{Trace}
-use Rattle.wbt_journal.specs.Checks.{nth_estimate}
-use Rattle.wbt_journal.specs.Machine.{numbers, rests_last}
-use Rattle.wbt_journal.specs.Side.{is_empty, is_not_due}
 use Rattle.wbt_journal.specs.Walk.{after}
-use Rattle.wbt_run_laws.specs.Notes.{newer}
-use Rattle.wbt_replay_moves.specs.Definition.Check.{writer_of}
-use Rattle.wbt_replay_moves.specs.Definition.Writer.{has_nothing}
-use Rattle.wbt_replay_moves.specs.declared.state.ReplayTask.{ReplayTask}
-use Rattle.wbt_replay_moves.specs.declared.state.ReplayWork.{ReplayWork}
 use Rattle.wbt_replay_moves.specs.declared.state.ReplayWork.TheVariants as work
-use Rattle.wbt_replay_order.specs.Kept.Sound.{WorkFits, rests_at_end}
 use Rattle.wbt_replay_points.proofs.Lawful.Same.{task_view}
 use Rattle.wbt_replay_points.proofs.Lawful.Siding.{is_done, is_waiting}
 use Rattle.wbt_replay_order.proofs.Written.Same.{pages_of, to_write}

@@ -2,28 +2,13 @@
 use Rattle.std.proofs.Common.{◌≡◌, ℕ, zero, suc, ◌+◌, ◌<◌, Bool, true, false, not, ◌&&◌, cond, leb, List, [], ◌∷◌, length, get_or, Option, Some, None, refl, sym, ap, subst, ⊎_elim, All, arith, ◌∙◌}
 use Rattle.std.proofs.lemmas.Bool.{cases_lt}
 use Rattle.std.proofs.lemmas.List.{get_or_past}
-use Rattle.wbt_trace.specs.declared.trace.Trace.{Trace}
-use Rattle.wbt_replay_moves.specs.Definition.Perform.{make_step, make_move, make_timer_step, make_timer_move, begin_turn}
-use Rattle.wbt_replay_moves.specs.Definition.State.{State, no_cpu, cpu_of, with_cpu, task_of, is_drained}
-use Rattle.wbt_replay_moves.specs.Definition.Timer.{begin_timer, with_timer}
-use Rattle.wbt_replay_moves.specs.declared.state.Actor.{Actor}
+use Rattle.wbt_replay_order.proofs.Common.{Trace, make_step, make_move, make_timer_step, make_timer_move, begin_turn, State, no_cpu, cpu_of, with_cpu, task_of, is_drained, begin_timer, with_timer, Actor, Cpu, ReplayJob, Stretch, Whose, Silent, Step, TimerSilent, TimerStep, TimerTodo, Todo, actor_at, after, ahead_of, todo_ahead, timer_todo_ahead, timer_turn, turn_at, task_turn, job_turn, job_at, seek_job, is_task_ready, is_full, is_halted, is_nothing, spend, stop, cpu_on, timer_on, go_on, begin_job, begin, begin_or_drop, follow, next_moment, at_moment, place_after, chance_of, chance_by, take, take_turn, seek_turn, next_turn, finish_turn, rotate_from, tick, advance_by, advance, Facts, IsFlusherOn, IsJobOn, Sound}
 use Rattle.wbt_replay_moves.specs.declared.state.Actor.TheVariants as who
-use Rattle.wbt_replay_moves.specs.declared.state.Cpu.{Cpu}
-use Rattle.wbt_replay_moves.specs.declared.state.ReplayJob.{ReplayJob}
 use Rattle.wbt_replay_moves.specs.declared.state.ReplayJob.TheVariants as job
-use Rattle.wbt_replay_moves.specs.declared.state.Stretch.{Stretch}
 use Rattle.wbt_replay_moves.specs.declared.state.Stretch.TheVariants as stretch
-use Rattle.wbt_replay_moves.specs.declared.state.Whose.{Whose}
 use Rattle.wbt_replay_moves.specs.declared.state.Whose.TheVariants as whose
-use Rattle.wbt_replay_moves.specs.declared.todo.Silent.{Silent}
-use Rattle.wbt_replay_moves.specs.declared.todo.Step.{Step}
-use Rattle.wbt_replay_moves.specs.declared.todo.TimerSilent.{TimerSilent}
-use Rattle.wbt_replay_moves.specs.declared.todo.TimerStep.{TimerStep}
-use Rattle.wbt_replay_moves.specs.declared.todo.TimerTodo.{TimerTodo}
 use Rattle.wbt_replay_moves.specs.declared.todo.TimerTodo.TheVariants as timer_todo
-use Rattle.wbt_replay_moves.specs.declared.todo.Todo.{Todo}
 use Rattle.wbt_replay_moves.specs.declared.todo.Todo.TheVariants as todo
-use Rattle.wbt_replay_order.specs.Definition.Order.{actor_at, after, ahead_of, todo_ahead, timer_todo_ahead, timer_turn, turn_at, task_turn, job_turn, job_at, seek_job, is_task_ready, is_full, is_halted, is_nothing, spend, stop, cpu_on, timer_on, go_on, begin_job, begin, begin_or_drop, follow, next_moment, at_moment, place_after, chance_of, chance_by, take, take_turn, seek_turn, next_turn, finish_turn, rotate_from, tick, advance_by, advance}
 use Rattle.wbt_replay_order.specs.declared.chance.Ahead.{Ahead}
 use Rattle.wbt_replay_order.specs.declared.chance.Ahead.TheVariants as ahead
 use Rattle.wbt_replay_order.specs.declared.chance.Chance.{Chance}
@@ -32,8 +17,6 @@ use Rattle.wbt_replay_order.proofs.Facts.Lists.{either}
 use Rattle.wbt_replay_points.proofs.Lawful.Same.{log_of, Hidden, still, hide_cpu, GoesOn, same_turn}
 use Rattle.wbt_replay_points.proofs.Lawful.Now.{Starts}
 use Rattle.std.proofs.lemmas.List.Elements.{All-get_or}
-use Rattle.wbt_replay_order.specs.Kept.Facts.{Facts, IsFlusherOn, IsJobOn}
-use Rattle.wbt_replay_order.specs.Kept.Sound.{Sound}
 
 -- the same where it is another's turn in the rotation, with other order lines
 abbrev pub turned : (orders : List Stretch) (rotation : Option Actor) (s : State) → State

@@ -4,22 +4,10 @@ use Rattle.std.specs.Prelude.{IfSome}
 use Rattle.std.proofs.Math.Nat.{div-le_self}
 use Rattle.std.proofs.lemmas.List.{get_or_default}
 use Rattle.std.proofs.lemmas.List.Elements.{All-nil, All-cons}
-use Rattle.wbt_flex.specs.Proportions.{fraction_of}
-use Rattle.wbt_flex.specs.declared.half.Half.{Half}
+use Rattle.wbt_replay_order.proofs.Common.{fraction_of, Half, CheckEntry, group_of, Trace, cgroup_line, State, no_cpu, cpu_of, domain_of, writeback_of, ReadFits, Cpu, ReplayTurn, AreDecided, EachFrom, IsDecided, most_moves, state_at, last_state, Facts, Sound, ChecksFit}
 use Rattle.wbt_num.specs.Limits.{IsLawful}
-use Rattle.wbt_journal.specs.declared.entry.CheckEntry.{CheckEntry}
-use Rattle.wbt_rules.specs.Things.{group_of}
-use Rattle.wbt_trace.specs.declared.trace.Trace.{Trace}
-use Rattle.wbt_replay_moves.specs.Definition.Check.{cgroup_line}
-use Rattle.wbt_replay_moves.specs.Definition.State.{State, no_cpu, cpu_of, domain_of, writeback_of}
-use Rattle.wbt_replay_moves.specs.Kept.Fit.{IsFraction, IsLine, IsPart, ReadFits}
-use Rattle.wbt_replay_moves.specs.declared.state.Cpu.{Cpu}
-use Rattle.wbt_replay_moves.specs.declared.state.ReplayTurn.{ReplayTurn}
-use Rattle.wbt_replay_order.specs.Claims.Decided.{AreDecided, EachFrom, IsDecided}
-use Rattle.wbt_replay_order.specs.Definition.Run.{most_moves, state_at, last_state}
-use Rattle.wbt_replay_order.specs.Kept.Facts.{Facts}
-use Rattle.wbt_replay_order.specs.Kept.Sound.{Sound}
-use Rattle.wbt_replay_order.specs.Kept.Strict.{CheckFits, ChecksFit}
+use Rattle.wbt_replay_moves.specs.Kept.Fit.{IsFraction, IsLine, IsPart}
+use Rattle.wbt_replay_order.specs.Kept.Strict.{CheckFits}
 use Rattle.wbt_replay_order.proofs.Facts.Things.{read_fits}
 
 fraction_fits : (whole part : Half) → IsPart whole part → IsFraction (fraction_of part whole)

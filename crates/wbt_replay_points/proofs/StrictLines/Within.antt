@@ -3,32 +3,17 @@ use Rattle.std.proofs.Common.{◌≡◌, ℕ, zero, suc, ◌+◌, ◌-◌, ◌<�
 use Rattle.std.proofs.lemmas.Bool.{cases_Bool, cases_lt}
 use Rattle.std.proofs.lemmas.List.{append-nil}
 use Rattle.std.proofs.lemmas.List.Elements.{All-nil, All-push, Contains-push, Contains-append_left}
-use Rattle.wbt_trace.specs.declared.trace.Trace.{Trace}
+use Rattle.wbt_replay_order.proofs.Common.{Trace, at_least_zero, total, one_if, Book, clean, total_nothing, if_nothing, opening_keeps, AreAllowed, Setting, IsSetting, context_count, greatest_reading, StepEntry, State, is_strict, IsFollowed, setting_of, writers_in, writer_at, opening, advance, is_ended, most_moves, state_at, last_state, journal_of, pages_after, most_pages, part_used}
 use Rattle.wbt_trace.specs.declared.writers.Writer.{Writer}
-use Rattle.wbt_counter.specs.History.{at_least_zero}
-use Rattle.wbt_counter.specs.Sums.{total, one_if}
-use Rattle.wbt_book.specs.Book.{Book, clean}
-use Rattle.wbt_counter.proofs.Sums.{total_nothing}
-use Rattle.wbt_grant.proofs.Bounding.{if_nothing}
-use Rattle.wbt_grant.proofs.Whole.{opening_keeps}
-use Rattle.wbt_grant.specs.Kinds.{Step, after, run, AreAllowed}
-use Rattle.wbt_grant.specs.Setting.{Setting, IsSetting}
+use Rattle.wbt_grant.specs.Kinds.{Step, after, run}
 use Rattle.wbt_grant.specs.State as throttle
-use Rattle.wbt_grant.specs.State.{context_count}
 use Rattle.wbt_strict.proofs.Bounding.{strict_is_bounded}
-use Rattle.wbt_strict.specs.Bound.{greatest_reading, strict_bound}
+use Rattle.wbt_strict.specs.Bound.{strict_bound}
 use Rattle.wbt_strict.specs.Rule.{AreStrict, writers_in_context}
 use Rattle.wbt_journal.specs.declared.journal.StrictLine.{StrictLine}
-use Rattle.wbt_journal.specs.declared.step.StepEntry.{StepEntry}
-use Rattle.wbt_replay_moves.specs.Definition.State.{State}
-use Rattle.wbt_rules.specs.Strict.{is_strict}
-use Rattle.wbt_replay_order.specs.Claims.Path.{tells, IsFollowed}
-use Rattle.wbt_replay_order.specs.Claims.Setting.{setting_of, writers_in, writer_at}
+use Rattle.wbt_replay_order.specs.Claims.Path.{tells}
 use Rattle.wbt_replay_order.specs.Claims.Strict.{exact_pages, IsWithin, StaysWithinStrict}
-use Rattle.wbt_replay_order.specs.Definition.Opening.{opening}
-use Rattle.wbt_replay_order.specs.Definition.Order.{advance, is_ended}
-use Rattle.wbt_replay_order.specs.Definition.Run.{most_moves, state_at, last_state, journal_of}
-use Rattle.wbt_replay_order.specs.Definition.Strict.{pages_after, most_from, most_pages, part_used, writers_with, bound_with, line_for, lines_of}
+use Rattle.wbt_replay_order.specs.Definition.Strict.{most_from, writers_with, bound_with, line_for, lines_of}
 use Rattle.wbt_replay_points.proofs.Claims.Columns.{pages_at, pages_follow}
 use Rattle.wbt_replay_points.proofs.Claims.Counted.{are_homes, counted_by_number, counted_map}
 use Rattle.wbt_replay_order.proofs.Growth.Growing.{Grew}

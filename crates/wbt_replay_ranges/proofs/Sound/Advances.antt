@@ -3,21 +3,11 @@ use Rattle.std.proofs.Common.{◌≡◌, ℕ, zero, suc, ◌+◌, Bool, true, fa
 use Rattle.std.specs.List.{sum_by}
 use Rattle.std.proofs.lemmas.List.Elements.{All-cons}
 use Rattle.std.proofs.lemmas.List.Sums.{sum_by-cons}
-use Rattle.wbt_trace.specs.declared.trace.Trace.{Trace}
-use Rattle.wbt_replay_moves.specs.Definition.State.{State, cpu_of, task_of, flusher_of, is_drained}
-use Rattle.wbt_replay_moves.specs.declared.state.Actor.{Actor}
+use Rattle.wbt_replay_order.proofs.Common.{Trace, State, cpu_of, task_of, flusher_of, is_drained, Actor, Cpu, ReplayJob, Stretch, opening, actor_at, after, ahead_of, go_on, is_nothing, turn_at, with_orders, begin_or_drop, task_turn, is_task_ready, job_turn, job_at, is_phase_ready, seek_job, cpu_turn, timer_turn, timer_ahead, timer_todo_ahead, follow, place_after, chance_by, chance_of, take, take_turn, seek_turn, next_turn, finish_turn, rotate_from, advance_by, advance, is_ended, run, state_at, Facts, ticks_of, Sound, HasRoom, IsStretch}
 use Rattle.wbt_replay_moves.specs.declared.state.Actor.TheVariants as who
-use Rattle.wbt_replay_moves.specs.declared.state.Cpu.{Cpu}
-use Rattle.wbt_replay_moves.specs.declared.state.ReplayJob.{ReplayJob}
 use Rattle.wbt_replay_moves.specs.declared.state.ReplayJob.TheVariants as job
-use Rattle.wbt_replay_moves.specs.declared.state.Stretch.{Stretch}
 use Rattle.wbt_replay_moves.specs.declared.state.Stretch.TheVariants as stretch
-use Rattle.wbt_replay_order.specs.Definition.Opening.{opening}
-use Rattle.wbt_replay_order.specs.Definition.Order.{actor_at, after, ahead_of, go_on, is_nothing, turn_at, with_orders, begin_or_drop, task_turn, is_task_ready, job_turn, job_at, is_phase_ready, seek_job, cpu_turn, timer_turn, timer_ahead, timer_todo_ahead, follow, place_after, chance_by, chance_of, take, take_turn, seek_turn, next_turn, finish_turn, rotate_from, advance_by, advance, is_ended, run}
-use Rattle.wbt_replay_order.specs.Definition.Run.{state_at}
-use Rattle.wbt_replay_order.specs.Kept.Facts.{Facts}
-use Rattle.wbt_replay_order.specs.Kept.Horizon.{ticks_of}
-use Rattle.wbt_replay_order.specs.Kept.Sound.{Sound, HasRoom, IsActor, IsStretch}
+use Rattle.wbt_replay_order.specs.Kept.Sound.{IsActor}
 use Rattle.wbt_replay_order.specs.declared.chance.Ahead.{Ahead}
 use Rattle.wbt_replay_order.specs.declared.chance.Ahead.TheVariants as ahead
 use Rattle.wbt_replay_order.specs.declared.chance.Chance.{Chance}

@@ -4,21 +4,17 @@ use Rattle.std.specs.Prelude.{int_lt, neg_ℤ, ◌-ℤ◌}
 use Rattle.std.proofs.lemmas.Bool.Decides.{nat_tests}
 use Rattle.std.proofs.lemmas.Int.{ints}
 use Rattle.wbt_num.specs.Limits.{IsLawful}
-use Rattle.wbt_num.specs.declared.limits.TheConstants.{MAX_LIMIT}
-use Rattle.wbt_estimate.specs.declared.estimate.Estimate.{Estimate}
-use Rattle.wbt_pause.specs.declared.decision.Decision.{Decision}
+use Rattle.wbt_replay_order.proofs.Common.{MAX_LIMIT, Estimate, Decision, Reads, cut_decision, decided, decision_of, go_decision, rate_of, throttled, least_pause, longest_pause, most_ever, decision_for}
 use Rattle.wbt_pause.specs.declared.decision.Kind.TheVariants.{Go}
 use Rattle.wbt_pause.specs.declared.pauses.MinPause.{MinPause}
-use Rattle.wbt_pause.specs.declared.reads.Reads.{Reads}
 use Rattle.wbt_pause.specs.declared.reads.Task.{Task}
 use Rattle.wbt_pause.specs.declared.rule.Rule.{Rule}
-use Rattle.wbt_pause.specs.Decision.{cut_decision, decided, decision_of, domain_rule, due_pause, finished, go_decision}
-use Rattle.wbt_pause.specs.Decision.{kind_at_rest, paused, period_of, rate_of, throttled, unpaused}
-use Rattle.wbt_pause.specs.Pauses.{least_pause, longest_pause, poll_pages}
+use Rattle.wbt_pause.specs.Decision.{domain_rule, due_pause, finished}
+use Rattle.wbt_pause.specs.Decision.{kind_at_rest, paused, period_of, unpaused}
+use Rattle.wbt_pause.specs.Pauses.{poll_pages}
 use Rattle.wbt_pause.proofs.Small as small
 use Rattle.wbt_position.specs.declared.ratio.DomainRead.{DomainRead}
-use Rattle.wbt_replay_order.specs.Kept.Horizon.{most_ever}
-use Rattle.wbt_strict.specs.Decision.{decision_for, strict_decision, strict_rule}
+use Rattle.wbt_strict.specs.Decision.{strict_decision, strict_rule}
 
 abbrev LeavesSmall : (decision : Decision) → Type 0
 LeavesSmall decision = decision.task.nr_dirtied_pause ≤ 2 ^ 42

@@ -4,26 +4,14 @@ use Rattle.std.proofs.Math.ListN.{set}
 use Rattle.std.specs.List.{list_any}
 use Rattle.std.proofs.lemmas.Bool.{or_right}
 use Rattle.std.proofs.lemmas.List.Elements.{All-nil, All-cons, All-head, All-tail}
-use Rattle.wbt_counter.specs.declared.counter.Counter.TheVariants.{Domain, Context}
-use Rattle.wbt_journal.specs.Machine.{domains}
-use Rattle.wbt_trace.specs.declared.trace.Trace.{Trace}
-use Rattle.wbt_replay_moves.specs.Definition.Cpu.{then_do, do_last}
-use Rattle.wbt_replay_moves.specs.Definition.Idle.{domain_loads, measures_of, weighs_of, begin_test, begin_idle, take_last}
-use Rattle.wbt_rules.specs.declared.moments.TheConstants.{ESTIMATE_AGE}
-use Rattle.wbt_replay_moves.specs.Definition.Perform.{begin_phase, begin_flush}
-use Rattle.wbt_replay_moves.specs.Definition.State.{State, no_cpu, cpu_of, flusher_of, writeback_of, is_drained, waiting_of}
-use Rattle.wbt_replay_moves.specs.declared.state.Cpu.{Cpu}
-use Rattle.wbt_replay_moves.specs.declared.state.ReplayPhase.{ReplayPhase}
+use Rattle.wbt_replay_order.proofs.Common.{Context, domains, Trace, then_do, do_last, domain_loads, measures_of, weighs_of, begin_test, begin_idle, take_last, ESTIMATE_AGE, begin_phase, State, no_cpu, cpu_of, flusher_of, writeback_of, is_drained, waiting_of, Cpu, ReplayPhase, Whose, Todo, Facts, IsFlusherOn, credit_in, ItemFits, Agrees, FlusherAgrees, IsIdle, IsTaken, IsScanning, IsFlying, IsOpen, floor_of, is_measured, rank_of, is_settling}
+use Rattle.wbt_counter.specs.declared.counter.Counter.TheVariants.{Domain}
+use Rattle.wbt_replay_moves.specs.Definition.Perform.{begin_flush}
 use Rattle.wbt_replay_moves.specs.declared.state.ReplayPhase.TheVariants as phase
-use Rattle.wbt_replay_moves.specs.declared.state.Whose.{Whose}
 use Rattle.wbt_replay_moves.specs.declared.state.Whose.TheVariants as whose
 use Rattle.wbt_replay_moves.specs.declared.todo.Silent.TheVariants as silent
 use Rattle.wbt_replay_moves.specs.declared.todo.Step.TheVariants as step
-use Rattle.wbt_replay_moves.specs.declared.todo.Todo.{Todo}
 use Rattle.wbt_replay_moves.specs.declared.todo.Todo.TheVariants as todo
-use Rattle.wbt_replay_order.specs.Kept.Facts.{Facts, IsFlusherOn}
-use Rattle.wbt_replay_order.specs.Kept.Horizon.{credit_in}
-use Rattle.wbt_replay_order.specs.Kept.Turns.{ItemFits, Agrees, FlusherAgrees, IsIdle, IsTaken, IsScanning, IsFlying, IsOpen, floor_of, is_measured, rank_of, is_settling}
 use Rattle.wbt_replay_order.proofs.Facts.Lists.{either, twice}
 use Rattle.wbt_replay_ranges.proofs.Sound.Going.{Going}
 use Rattle.wbt_replay_ranges.proofs.Sound.Idles.{take_last_done}

@@ -3,29 +3,15 @@ use Rattle.std.proofs.Common.{◌≡◌, ℕ, zero, suc, ◌+◌, ◌<◌, ◌�
 use Rattle.std.specs.List.{sum_by}
 use Rattle.std.proofs.Math.ListN.{set}
 use Rattle.std.proofs.lemmas.List.Sums.{sum_by-cons}
-use Rattle.wbt_counter.specs.declared.counter.Counter.TheVariants.{Domain, Context}
-use Rattle.wbt_journal.specs.Machine.{domains}
-use Rattle.wbt_task.specs.declared.allowance.Due.{Due}
+use Rattle.wbt_replay_order.proofs.Common.{Context, domains, Due, Trace, writer_of, then_do, State, cpu_of, task_of, group_of, check_items, begin_rest, begin_pause, begin_page, pause_in, begin_work, begin_due, ReplayTask, Whose, ReplayWork, Todo, Facts, IsTaskOn, credit_in, rest_of, WorkFits, rests_at_end, ItemFits, Agrees, TaskAgrees, WritesNext, floor_of, rank_of, is_settling}
+use Rattle.wbt_counter.specs.declared.counter.Counter.TheVariants.{Domain}
 use Rattle.wbt_task.specs.declared.allowance.Due.TheVariants as due
-use Rattle.wbt_trace.specs.declared.trace.Trace.{Trace}
-use Rattle.wbt_replay_moves.specs.Definition.Check.{writer_of}
-use Rattle.wbt_replay_moves.specs.Definition.Cpu.{then_do}
-use Rattle.wbt_replay_moves.specs.Definition.State.{State, cpu_of, task_of}
-use Rattle.wbt_rules.specs.Things.{group_of}
-use Rattle.wbt_replay_moves.specs.Definition.Writer.{check_items, begin_rest, begin_write, begin_pause, begin_page, pause_in, begin_work, begin_due, begin_task}
-use Rattle.wbt_replay_moves.specs.declared.state.ReplayTask.{ReplayTask}
-use Rattle.wbt_replay_moves.specs.declared.state.Whose.{Whose}
+use Rattle.wbt_replay_moves.specs.Definition.Writer.{begin_write, begin_task}
 use Rattle.wbt_replay_moves.specs.declared.state.Whose.TheVariants as whose
-use Rattle.wbt_replay_moves.specs.declared.state.ReplayWork.{ReplayWork}
 use Rattle.wbt_replay_moves.specs.declared.state.ReplayWork.TheVariants as work
 use Rattle.wbt_replay_moves.specs.declared.todo.Silent.TheVariants as silent
 use Rattle.wbt_replay_moves.specs.declared.todo.Step.TheVariants as step
-use Rattle.wbt_replay_moves.specs.declared.todo.Todo.{Todo}
 use Rattle.wbt_replay_moves.specs.declared.todo.Todo.TheVariants as todo
-use Rattle.wbt_replay_order.specs.Kept.Facts.{Facts, IsTaskOn}
-use Rattle.wbt_replay_order.specs.Kept.Horizon.{credit_in, rest_of}
-use Rattle.wbt_replay_order.specs.Kept.Sound.{WorkFits, rests_at_end}
-use Rattle.wbt_replay_order.specs.Kept.Turns.{ItemFits, Agrees, TaskAgrees, WritesNext, floor_of, rank_of, is_settling}
 use Rattle.wbt_replay_ranges.proofs.Sound.Checks.{due_there}
 use Rattle.wbt_replay_ranges.proofs.Sound.Flights.{group_inside, global_inside}
 use Rattle.wbt_replay_ranges.proofs.Sound.FlusherTurn.{turn_task}

@@ -7,20 +7,10 @@ use Rattle.std.proofs.lemmas.List.Elements.{All-nil}
 use mathlib.Core.Logic.{dite}
 use native.Mathlib.Decide.{ℕ_discrete}
 use Rattle.wbt_num.specs.Limits.{IsLawful}
-use Rattle.wbt_counter.specs.declared.counter.Counter.{Counter}
-use Rattle.wbt_counter.specs.declared.counter.Counter.TheVariants.{Domain, Context}
-use Rattle.wbt_trace.specs.declared.trace.Trace.{Trace}
-use Rattle.wbt_journal.specs.Machine.{batch_of}
-use Rattle.wbt_replay_moves.specs.Definition.Cpu.{at_turn, own_of}
-use Rattle.wbt_replay_moves.specs.Definition.Perform.{begin_turn}
-use Rattle.wbt_replay_moves.specs.Definition.State.{State, cpu_of, task_of, flusher_of, no_limits}
-use Rattle.wbt_replay_moves.specs.declared.state.Cpu.{Cpu}
-use Rattle.wbt_replay_moves.specs.declared.state.Whose.{Whose}
+use Rattle.wbt_replay_order.proofs.Common.{Counter, Context, Trace, batch_of, at_turn, own_of, begin_turn, State, cpu_of, task_of, flusher_of, Cpu, Whose, after, Facts, IsFlusherOn, Sound, HasRoom, IsWhose, Agrees, IsOpen, closes_in, settles_next}
+use Rattle.wbt_counter.specs.declared.counter.Counter.TheVariants.{Domain}
+use Rattle.wbt_replay_moves.specs.Definition.State.{no_limits}
 use Rattle.wbt_replay_moves.specs.declared.state.Whose.TheVariants as whose
-use Rattle.wbt_replay_order.specs.Definition.Order.{after}
-use Rattle.wbt_replay_order.specs.Kept.Facts.{Facts, IsFlusherOn}
-use Rattle.wbt_replay_order.specs.Kept.Sound.{Sound, HasRoom, IsWhose}
-use Rattle.wbt_replay_order.specs.Kept.Turns.{Agrees, IsOpen, closes_in, settles_next}
 use Rattle.wbt_replay_ranges.proofs.Sound.BeginFlushers.{flusher_begins}
 use Rattle.wbt_replay_ranges.proofs.Sound.BeginTasks.{task_begins}
 use Rattle.wbt_replay_ranges.proofs.Sound.Frames.{cpu_going}

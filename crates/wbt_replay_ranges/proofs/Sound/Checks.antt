@@ -4,31 +4,18 @@ use Rattle.std.specs.List.{sum_by}
 use Rattle.std.proofs.Math.ListN.{set}
 use Rattle.std.proofs.lemmas.List.{length-set}
 use Rattle.std.proofs.lemmas.List.Elements.{All-set, All-get_or}
-use Rattle.wbt_counter.specs.History.{at_least_zero}
-use Rattle.wbt_journal.specs.declared.entry.CheckEntry.{CheckEntry}
+use Rattle.wbt_replay_order.proofs.Common.{at_least_zero, CheckEntry, Decision, Reads, is_strict, context_at, device_at, decision_for, new_writer, checked_writer, Writer, Trace, writer_in, writer_of, global_line, check_of, told_task, decide_so, decide_for, State, cpu_of, task_of, writeback_of, ReplayTask, Facts, IsTaskOn, silent_ticks, IsClosed, IsTask, WriterFits, dirtied_of, dirtied_by}
 use Rattle.wbt_journal.specs.declared.entry.Entry.TheVariants as entry
 use Rattle.wbt_pause.proofs.Deciding.{longest_within_200}
-use Rattle.wbt_pause.specs.declared.decision.Decision.{Decision}
 use Rattle.wbt_pause.specs.declared.decision.Kind.{Kind}
 use Rattle.wbt_pause.specs.declared.decision.Kind.TheVariants.{Exempt, Free as IsFree, Go, Wait}
-use Rattle.wbt_pause.specs.declared.reads.Reads.{Reads}
 use Rattle.wbt_rules.proofs.Parts.{part_is_within}
-use Rattle.wbt_rules.specs.Strict.{is_strict}
-use Rattle.wbt_rules.specs.Things.{context_at, device_at}
 use Rattle.wbt_strict.proofs.Deciding.{counts_no_more, leaves_within_cap, pauses_within_longest}
-use Rattle.wbt_strict.specs.Decision.{decision_for}
-use Rattle.wbt_task.specs.History.{new_writer, checked_writer, due_again}
+use Rattle.wbt_task.specs.History.{due_again}
 use Rattle.wbt_task.specs.declared.allowance.Due.TheVariants as due
-use Rattle.wbt_task.specs.declared.history.Writer.{Writer}
 use Rattle.wbt_trace.specs.Sofar.{least_shares}
-use Rattle.wbt_trace.specs.declared.trace.Trace.{Trace}
-use Rattle.wbt_replay_moves.specs.Definition.Check.{writer_in, writer_of, global_line, reads_of, check_of, told_task, decide_so, decide_for}
-use Rattle.wbt_replay_moves.specs.Definition.State.{State, cpu_of, task_of, writeback_of}
-use Rattle.wbt_replay_moves.specs.declared.state.ReplayTask.{ReplayTask}
+use Rattle.wbt_replay_moves.specs.Definition.Check.{reads_of}
 use Rattle.wbt_replay_moves.specs.declared.state.Whose.TheVariants as whose
-use Rattle.wbt_replay_order.specs.Kept.Facts.{Facts, IsTaskOn}
-use Rattle.wbt_replay_order.specs.Kept.Horizon.{silent_ticks}
-use Rattle.wbt_replay_order.specs.Kept.Sound.{IsClosed, IsTask, WriterFits, dirtied_of, dirtied_by}
 use Rattle.wbt_replay_ranges.proofs.Sound.Allowances.{allowance_small}
 use Rattle.wbt_replay_ranges.proofs.Sound.FlusherTurn.{turn_task}
 use Rattle.wbt_replay_ranges.proofs.Sound.Going.{Going}

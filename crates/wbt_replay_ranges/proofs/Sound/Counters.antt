@@ -7,43 +7,16 @@ use Rattle.std.proofs.lemmas.List.{length-set, get_or-set_same, get_or-set_other
 use Rattle.std.proofs.lemmas.List.Elements.{All-cons}
 use Rattle.std.proofs.lemmas.Bool.{cases_Bool}
 use Rattle.std.proofs.lemmas.Bool.Decides.{nat_tests}
-use Rattle.wbt_counter.specs.Batch.{domain_batch, context_batch}
-use Rattle.wbt_counter.specs.Counters.{is_same}
-use Rattle.wbt_counter.specs.declared.counter.Count.{Count}
-use Rattle.wbt_counter.specs.declared.counter.Counter.{Counter}
-use Rattle.wbt_counter.specs.declared.counter.Counter.TheVariants.{Domain, Context}
-use Rattle.wbt_counter.proofs.Debts.{is_same-true}
+use Rattle.wbt_replay_order.proofs.Common.{domain_batch, context_batch, is_same, Count, Counter, Context, is_same-true, StepKind, CheckEntry, Entry, EstEntry, StepEntry, CpuLocal, MOST_COUNT, Trace, add, fold, clear, counted, fold_of, word_of, held_after, limits_kept, load_first, load_middle, load_limits, count_kept, load_count, batch_of, own_of, with_own, State, no_held, cpu_of, task_of, flusher_of, domain_of, writeback_of, count_of, Cpu, Flusher, Held, ReplayTask, ReplayTurn, Whose, Todo, setting_of, Facts, IsFlusherOn, credit_in, silent_ticks, IsClosed, IsRoom, IsCount, IsTurn, IsWhose, most_counted, IsCounter, ItemFits, AreInOrder, AreOthers, Settles, settles_next, Agrees, TaskAgrees, FlusherAgrees, IsOpen, closes_in}
+use Rattle.wbt_counter.specs.declared.counter.Counter.TheVariants.{Domain}
 use Rattle.wbt_grant.proofs.Ranges.{batch_fits}
-use Rattle.wbt_grant.specs.declared.who.StepKind.{StepKind}
 use Rattle.wbt_grant.specs.declared.who.StepKind.TheVariants as kind
-use Rattle.wbt_journal.specs.declared.entry.CheckEntry.{CheckEntry}
-use Rattle.wbt_journal.specs.declared.entry.Entry.{Entry}
-use Rattle.wbt_journal.specs.declared.entry.EstEntry.{EstEntry}
-use Rattle.wbt_journal.specs.declared.step.StepEntry.{StepEntry}
-use Rattle.wbt_task.specs.declared.allowance.CpuLocal.{CpuLocal}
 use Rattle.wbt_num.specs.Limits.{IsLawful}
-use Rattle.wbt_trace.specs.declared.ranges.TheConstants.{MOST_COUNT}
-use Rattle.wbt_trace.specs.declared.trace.Trace.{Trace}
-use Rattle.wbt_replay_moves.specs.Definition.Counters.{add, fold, clear, counted, fold_of, word_of, is_whole, held_after, limits_kept, load_first, load_middle, load_limits, count_kept, load_count}
-use Rattle.wbt_journal.specs.Machine.{batch_of}
-use Rattle.wbt_replay_moves.specs.Definition.Cpu.{own_of, with_own}
-use Rattle.wbt_replay_moves.specs.Definition.State.{State, no_held, cpu_of, task_of, flusher_of, domain_of, writeback_of, count_of}
-use Rattle.wbt_replay_moves.specs.declared.state.Cpu.{Cpu}
-use Rattle.wbt_replay_moves.specs.declared.state.Flusher.{Flusher}
-use Rattle.wbt_replay_moves.specs.declared.state.Held.{Held}
-use Rattle.wbt_replay_moves.specs.declared.state.ReplayTask.{ReplayTask}
-use Rattle.wbt_replay_moves.specs.declared.state.ReplayTurn.{ReplayTurn}
-use Rattle.wbt_replay_moves.specs.declared.state.Whose.{Whose}
+use Rattle.wbt_replay_moves.specs.Definition.Counters.{is_whole}
 use Rattle.wbt_replay_moves.specs.declared.state.Whose.TheVariants as whose
 use Rattle.wbt_replay_moves.specs.declared.todo.Silent.TheVariants as silent
 use Rattle.wbt_replay_moves.specs.declared.todo.Step.TheVariants as step
-use Rattle.wbt_replay_moves.specs.declared.todo.Todo.{Todo}
 use Rattle.wbt_replay_moves.specs.declared.todo.Todo.TheVariants as todo
-use Rattle.wbt_replay_order.specs.Claims.Setting.{setting_of}
-use Rattle.wbt_replay_order.specs.Kept.Facts.{Facts, IsFlusherOn}
-use Rattle.wbt_replay_order.specs.Kept.Horizon.{credit_in, silent_ticks}
-use Rattle.wbt_replay_order.specs.Kept.Sound.{IsClosed, IsRoom, IsCount, IsTurn, IsWhose, most_counted}
-use Rattle.wbt_replay_order.specs.Kept.Turns.{IsCounter, ItemFits, AreInOrder, AreOthers, Settles, settles_next, Agrees, TaskAgrees, FlusherAgrees, IsOpen, closes_in}
 use Rattle.wbt_replay_order.proofs.Facts.Lists.{either}
 use Rattle.wbt_replay_ranges.proofs.Sound.Frames.{cpu_going}
 use Rattle.wbt_replay_ranges.proofs.Sound.Going.{Going, spare_going}

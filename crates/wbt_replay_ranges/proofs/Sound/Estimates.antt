@@ -3,22 +3,13 @@ use Rattle.std.proofs.Common.{◌≡◌, ℕ, ◌-◌, ◌^◌, ◌<◌, ◌≤�
 use Rattle.std.specs.Prelude.{unwrap_or}
 use Rattle.std.proofs.Math.ListN.{set}
 use Rattle.std.proofs.lemmas.List.Elements.{All-nil, All-cons}
-use Rattle.wbt_counter.specs.History.{at_least_zero}
-use Rattle.wbt_estimate.specs.Estimate.{IsSound, IsInRange, update_of, updated, estimate_after, elapsed_since}
-use Rattle.wbt_estimate.specs.declared.estimate.Estimate.{Estimate}
+use Rattle.wbt_replay_order.proofs.Common.{at_least_zero, update_of, updated, Estimate, EstEntry, position_ratio, Trace, sample_of, estimate_to, estimate, State, cpu_of, writeback_of, no_context, ReplayTurn, Writeback, Facts, IsClosed, most_counted, written_of}
+use Rattle.wbt_estimate.specs.Estimate.{IsSound, IsInRange, estimate_after, elapsed_since}
 use Rattle.wbt_estimate.specs.declared.estimate.Sample.{Sample}
 use Rattle.wbt_estimate.proofs.Folding.{stays_sound}
 use Rattle.wbt_journal.specs.declared.entry.Entry.TheVariants as entry
-use Rattle.wbt_journal.specs.declared.entry.EstEntry.{EstEntry}
-use Rattle.wbt_position.specs.Position.{position_ratio}
 use Rattle.wbt_position.specs.declared.ratio.DomainRead.{DomainRead}
-use Rattle.wbt_trace.specs.declared.trace.Trace.{Trace}
-use Rattle.wbt_replay_moves.specs.Definition.Estimates.{global_read, sample_of, estimate_to, estimate}
-use Rattle.wbt_replay_moves.specs.Definition.State.{State, cpu_of, writeback_of, no_context}
-use Rattle.wbt_replay_moves.specs.declared.state.ReplayTurn.{ReplayTurn}
-use Rattle.wbt_replay_moves.specs.declared.state.Writeback.{Writeback}
-use Rattle.wbt_replay_order.specs.Kept.Facts.{Facts}
-use Rattle.wbt_replay_order.specs.Kept.Sound.{IsClosed, most_counted, written_of}
+use Rattle.wbt_replay_moves.specs.Definition.Estimates.{global_read}
 use Rattle.wbt_replay_ranges.proofs.Sound.Going.{Going}
 use Rattle.wbt_replay_order.proofs.Lists.Numbered.{sum_part}
 use Rattle.wbt_replay_ranges.proofs.Sound.Own.{Free, Done, done_free, logged_going, logged_free, is_set}

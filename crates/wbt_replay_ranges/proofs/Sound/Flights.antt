@@ -6,33 +6,16 @@ use Rattle.std.proofs.lemmas.Bool.Decides.{nat_tests}
 use Rattle.std.proofs.lemmas.Nat.{shr_le}
 use Rattle.std.proofs.lemmas.List.{nil_from_length, get_or-set_same, get_or-set_other}
 use Rattle.std.proofs.lemmas.List.Elements.{All-tail}
-use Rattle.wbt_book.specs.Book.{Book, bits_after}
+use Rattle.wbt_replay_order.proofs.Common.{Book, bits_after, put, aged, fraction_of, may_be_added, Half, domains, Entry, StepEntry, Trace, complete_first, complete_in, share, share_now, share_group, landed, land_in, State, cpu_of, flusher_of, domain_of, writeback_of, no_flusher, no_domain, no_context, context_of, group_of, max_share, Domain, Flusher, ReplayPhase, Writeback, is_finished, Facts, IsFlusherOn, IsPageOf, silent_ticks, IsAt, written_of, flown_of, IsFlying, IsOpen, IsOpenAt}
 use Rattle.wbt_book.specs.declared.event.Event.TheVariants as event
-use Rattle.wbt_counter.specs.Sums.{put}
-use Rattle.wbt_flex.specs.Proportions.{added, aged, fraction_of, may_be_added}
-use Rattle.wbt_flex.specs.declared.half.Half.{Half}
+use Rattle.wbt_flex.specs.Proportions.{added}
 use Rattle.wbt_grant.specs.declared.who.StepKind.TheVariants as kind
-use Rattle.wbt_journal.specs.Machine.{domains}
-use Rattle.wbt_journal.specs.declared.entry.Entry.{Entry}
 use Rattle.wbt_journal.specs.declared.entry.Entry.TheVariants as entry
-use Rattle.wbt_journal.specs.declared.step.StepEntry.{StepEntry}
-use Rattle.wbt_trace.specs.declared.trace.Trace.{Trace}
-use Rattle.wbt_replay_moves.specs.Definition.Flight.{complete_first, complete_in, share, share_now, share_group, landed, land_in}
-use Rattle.wbt_replay_moves.specs.Definition.State.{State, cpu_of, flusher_of, domain_of, writeback_of, no_flusher, no_domain, no_context}
-use Rattle.wbt_rules.specs.Things.{context_of, group_of, max_share}
-use Rattle.wbt_replay_moves.specs.declared.state.Domain.{Domain}
-use Rattle.wbt_replay_moves.specs.declared.state.Flusher.{Flusher}
-use Rattle.wbt_replay_moves.specs.declared.state.ReplayPhase.{ReplayPhase}
 use Rattle.wbt_replay_moves.specs.declared.state.ReplayPhase.TheVariants as phase
 use Rattle.wbt_replay_moves.specs.declared.state.Whose.TheVariants as whose
-use Rattle.wbt_replay_moves.specs.declared.state.Writeback.{Writeback}
 use Rattle.wbt_replay_moves.specs.declared.todo.Silent.TheVariants as silent
 use Rattle.wbt_replay_moves.specs.declared.todo.Todo.TheVariants as todo
-use Rattle.wbt_replay_order.specs.Definition.Order.{is_finished}
-use Rattle.wbt_replay_order.specs.Kept.Facts.{Facts, IsFlusherOn, IsPageOf}
-use Rattle.wbt_replay_order.specs.Kept.Horizon.{silent_ticks}
-use Rattle.wbt_replay_order.specs.Kept.Sound.{IsAt, IsFlightOf, written_of, flown_of}
-use Rattle.wbt_replay_order.specs.Kept.Turns.{IsFlying, IsOpen, IsOpenAt}
+use Rattle.wbt_replay_order.specs.Kept.Sound.{IsFlightOf}
 use Rattle.wbt_replay_order.proofs.Facts.Lists.{either}
 use Rattle.wbt_replay_ranges.proofs.Sound.Counters.{Ready, with_step}
 use Rattle.wbt_replay_ranges.proofs.Sound.FlusherTurn.{turn_flusher}

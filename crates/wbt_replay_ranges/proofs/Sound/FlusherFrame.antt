@@ -4,17 +4,8 @@ use Rattle.std.proofs.Math.ListN.{set}
 use Rattle.std.proofs.lemmas.List.{length-set, get_or-set_same, get_or-set_other}
 use mathlib.Core.Logic.{dite}
 use native.Mathlib.Decide.{ℕ_discrete}
-use Rattle.wbt_trace.specs.declared.trace.Trace.{Trace}
-use Rattle.wbt_replay_moves.specs.Definition.State.{State, cpu_of, flusher_of, no_flusher}
-use Rattle.wbt_rules.specs.Things.{flusher_cpu}
-use Rattle.wbt_replay_moves.specs.declared.state.Flusher.{Flusher}
-use Rattle.wbt_replay_moves.specs.declared.state.Whose.{Whose}
+use Rattle.wbt_replay_order.proofs.Common.{Trace, State, cpu_of, flusher_of, no_flusher, flusher_cpu, Flusher, Whose, Todo, Facts, IsFlusherOn, latest, reserve, until_of, IsWhose, IsAgreed, IsFlusher, flown_of, Agrees, FlusherAgrees, IsOpen}
 use Rattle.wbt_replay_moves.specs.declared.state.Whose.TheVariants as whose
-use Rattle.wbt_replay_moves.specs.declared.todo.Todo.{Todo}
-use Rattle.wbt_replay_order.specs.Kept.Facts.{Facts, IsFlusherOn}
-use Rattle.wbt_replay_order.specs.Kept.Horizon.{latest, reserve, until_of}
-use Rattle.wbt_replay_order.specs.Kept.Sound.{IsWhose, IsAgreed, IsFlusher, flown_of}
-use Rattle.wbt_replay_order.specs.Kept.Turns.{Agrees, FlusherAgrees, IsOpen}
 use Rattle.wbt_replay_ranges.proofs.Sound.Going.{Going}
 use Rattle.wbt_replay_order.proofs.Lists.Numbered.{one_if, set_all, sum_set}
 use Rattle.wbt_replay_ranges.proofs.Sound.Working.{works, working_set}

@@ -2,20 +2,11 @@
 use Rattle.std.proofs.Common.{◌≡◌, ℕ, zero, suc, ◌+◌, ◌<◌, ◌≤◌, Bool, not, max, List, [], ◌∷◌, length, get_or, All, refl, sym, ◌∙◌, ap, subst, arith}
 use Rattle.std.proofs.Math.ListN.{set}
 use Rattle.std.proofs.lemmas.List.{get_or-set_same}
-use Rattle.wbt_trace.specs.declared.trace.Trace.{Trace}
-use Rattle.wbt_replay_moves.specs.Definition.State.{State, cpu_of, task_of, flusher_of, no_flusher, no_task}
-use Rattle.wbt_replay_moves.specs.declared.state.Flusher.{Flusher}
-use Rattle.wbt_replay_moves.specs.declared.state.ReplayTask.{ReplayTask}
-use Rattle.wbt_replay_moves.specs.declared.state.Whose.{Whose}
+use Rattle.wbt_replay_order.proofs.Common.{Trace, State, cpu_of, task_of, flusher_of, no_flusher, no_task, Flusher, ReplayTask, Whose, Todo, Facts, IsFlusherOn, IsTaskOn, credit_in, until_of, rests_of, IsFlusher, IsTask, AreDirtied, flown_of, dirtied_of, is_running, AreFrom, rank_of, Agrees, TaskAgrees, FlusherAgrees}
 use Rattle.wbt_replay_moves.specs.declared.state.Whose.TheVariants as whose
 use Rattle.wbt_replay_moves.specs.declared.todo.Silent.TheVariants as silent
 use Rattle.wbt_replay_moves.specs.declared.todo.Step.TheVariants as step
-use Rattle.wbt_replay_moves.specs.declared.todo.Todo.{Todo}
 use Rattle.wbt_replay_moves.specs.declared.todo.Todo.TheVariants as todo
-use Rattle.wbt_replay_order.specs.Kept.Facts.{Facts, IsFlusherOn, IsTaskOn}
-use Rattle.wbt_replay_order.specs.Kept.Horizon.{credit_in, until_of, rests_of}
-use Rattle.wbt_replay_order.specs.Kept.Sound.{IsFlusher, IsTask, AreDirtied, flown_of, dirtied_of, is_running}
-use Rattle.wbt_replay_order.specs.Kept.Turns.{AreFrom, rank_of, Agrees, TaskAgrees, FlusherAgrees}
 use Rattle.wbt_replay_ranges.proofs.Sound.FlusherFrame.{flusher_going}
 use Rattle.wbt_replay_ranges.proofs.Sound.Frames.{task_going, task_frame}
 use Rattle.wbt_replay_ranges.proofs.Sound.Going.{Going}

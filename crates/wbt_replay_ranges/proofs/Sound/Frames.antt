@@ -5,18 +5,8 @@ use Rattle.std.specs.List.{count_by}
 use Rattle.std.proofs.lemmas.List.{length-set, get_or-set_same, get_or-set_other}
 use mathlib.Core.Logic.{dite}
 use native.Mathlib.Decide.{ℕ_discrete}
-use Rattle.wbt_trace.specs.declared.trace.Trace.{Trace}
-use Rattle.wbt_replay_moves.specs.Definition.State.{State, cpu_of, task_of, no_cpu, no_task}
-use Rattle.wbt_replay_moves.specs.declared.state.Cpu.{Cpu}
-use Rattle.wbt_replay_moves.specs.declared.state.ReplayJob.{ReplayJob}
-use Rattle.wbt_replay_moves.specs.declared.state.ReplayTask.{ReplayTask}
-use Rattle.wbt_replay_moves.specs.declared.state.Whose.{Whose}
+use Rattle.wbt_replay_order.proofs.Common.{Trace, State, cpu_of, task_of, no_cpu, no_task, Cpu, ReplayJob, ReplayTask, Whose, Todo, Facts, IsTaskOn, latest, reserve, credit_of, rests_of, IsClosed, IsRoom, IsTask, IsCpu, IsWhose, IsAgreed, AreDirtied, dirtied_of, leaks_of, is_running, is_at_work, working_on, is_stopped, Agrees, TaskAgrees}
 use Rattle.wbt_replay_moves.specs.declared.state.Whose.TheVariants as whose
-use Rattle.wbt_replay_moves.specs.declared.todo.Todo.{Todo}
-use Rattle.wbt_replay_order.specs.Kept.Facts.{Facts, IsTaskOn}
-use Rattle.wbt_replay_order.specs.Kept.Horizon.{latest, reserve, credit_of, rests_of}
-use Rattle.wbt_replay_order.specs.Kept.Sound.{IsClosed, IsRoom, IsTask, IsCpu, IsWhose, IsAgreed, AreDirtied, dirtied_of, leaks_of, is_running, is_at_work, working_on, is_stopped}
-use Rattle.wbt_replay_order.specs.Kept.Turns.{Agrees, TaskAgrees}
 use Rattle.wbt_replay_order.proofs.Facts.Lists.{set_each}
 use Rattle.wbt_replay_ranges.proofs.Sound.Going.{Going}
 use Rattle.wbt_replay_order.proofs.Lists.Numbered.{one_if, set_all, sum_set, count_set}

@@ -1,18 +1,7 @@
 -- A state in the midst of a CPU's move: what the move suspends of that CPU is left out; what one more step makes of it.
 use Rattle.std.proofs.Common.{◌≡◌, ◌≢◌, ℕ, false, ◌+◌, ◌<◌, ◌≤◌, List, length, get_or, arith}
 use Rattle.std.proofs.lemmas.List.Elements.{All-weaker}
-use Rattle.wbt_counter.specs.declared.counter.Count.{Count}
-use Rattle.wbt_journal.specs.declared.step.StepEntry.{StepEntry}
-use Rattle.wbt_task.specs.declared.history.Writer.{Writer}
-use Rattle.wbt_trace.specs.declared.trace.Trace.{Trace}
-use Rattle.wbt_replay_moves.specs.Definition.State.{State, cpu_of, no_cpu, no_task, no_domain, no_context}
-use Rattle.wbt_replay_moves.specs.declared.state.Cpu.{Cpu}
-use Rattle.wbt_replay_moves.specs.declared.state.Domain.{Domain}
-use Rattle.wbt_replay_moves.specs.declared.state.ReplayTask.{ReplayTask}
-use Rattle.wbt_replay_moves.specs.declared.state.ReplayTurn.{ReplayTurn}
-use Rattle.wbt_replay_moves.specs.declared.state.Writeback.{Writeback}
-use Rattle.wbt_replay_order.specs.Kept.Horizon.{step_ticks}
-use Rattle.wbt_replay_order.specs.Kept.Sound.{Holds, IsClosed, IsRoom, IsCount, AreDomains, AreContexts, WriterFits, AreTasks, IsTurn, AreCpus}
+use Rattle.wbt_replay_order.proofs.Common.{Count, StepEntry, Writer, Trace, State, cpu_of, no_cpu, no_task, no_domain, no_context, Cpu, Domain, ReplayTask, ReplayTurn, Writeback, step_ticks, Holds, IsClosed, IsRoom, IsCount, AreDomains, AreContexts, WriterFits, AreTasks, IsTurn, AreCpus}
 
 -- ---- the midst of a move of the CPU i
 

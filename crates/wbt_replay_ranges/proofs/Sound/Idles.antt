@@ -4,26 +4,14 @@ use Rattle.std.proofs.Math.ListN.{set}
 use Rattle.std.proofs.lemmas.List.{length-set}
 use Rattle.std.proofs.lemmas.List.Elements.{All-nil}
 use Rattle.wbt_grant.specs.declared.who.StepKind.TheVariants as kind
-use Rattle.wbt_num.specs.declared.limits.TheConstants.{MAX_LIMIT}
-use Rattle.wbt_trace.specs.declared.trace.Device.{Device}
-use Rattle.wbt_trace.specs.declared.trace.Trace.{Trace}
-use Rattle.wbt_replay_moves.specs.Definition.Idle.{finish, rest_until, take, take_or_finish, take_or_rest, with_hard, start_of, scan_of, unmark_of, unmark_in, take_now, with_pairs, take_last, told_by, waits, note, noticed, age, tested_by}
-use Rattle.wbt_rules.specs.declared.moments.TheConstants.{FLUSHER_REST}
-use Rattle.wbt_replay_moves.specs.Definition.State.{State, cpu_of, flusher_of, queue_of, writeback_of, no_waiting, waiting_of, with_waiting, with_queue}
-use Rattle.wbt_rules.specs.Things.{inode_of, context_of, device_at, flusher_device}
+use Rattle.wbt_replay_order.proofs.Common.{MAX_LIMIT, Device, Trace, finish, rest_until, take_or_finish, take_or_rest, with_hard, scan_of, unmark_of, unmark_in, take_now, with_pairs, take_last, told_by, waits, note, noticed, age, tested_by, FLUSHER_REST, State, cpu_of, flusher_of, queue_of, writeback_of, no_waiting, waiting_of, with_waiting, with_queue, inode_of, context_of, device_at, flusher_device, Flusher, ReplayPhase, ReplayTurn, is_finished, Facts, IsFlusherOn, IsPageOf, silent_ticks, IsAt, AreQueued, WheelFits, IsIdle, IsTaken, IsOpen, each_put, due_after, log_at, Entry}
+use Rattle.wbt_replay_moves.specs.Definition.Idle.{take, start_of}
 use Rattle.wbt_rules.proofs.Quotas.{quota_some, quota_within}
-use Rattle.wbt_replay_moves.specs.declared.state.Flusher.{Flusher}
-use Rattle.wbt_replay_moves.specs.declared.state.ReplayPhase.{ReplayPhase}
 use Rattle.wbt_replay_moves.specs.declared.state.ReplayPhase.TheVariants as phase
-use Rattle.wbt_replay_moves.specs.declared.state.ReplayTurn.{ReplayTurn}
 use Rattle.wbt_replay_moves.specs.declared.state.Whose.TheVariants as whose
 use Rattle.wbt_replay_moves.specs.declared.todo.Step.TheVariants as step
 use Rattle.wbt_replay_moves.specs.declared.todo.Todo.TheVariants as todo
-use Rattle.wbt_replay_order.specs.Definition.Order.{is_finished}
-use Rattle.wbt_replay_order.specs.Kept.Facts.{Facts, IsFlusherOn, IsPageOf}
-use Rattle.wbt_replay_order.specs.Kept.Horizon.{silent_ticks}
-use Rattle.wbt_replay_order.specs.Kept.Sound.{IsAt, AreQueued, IsListOf, WheelFits}
-use Rattle.wbt_replay_order.specs.Kept.Turns.{IsIdle, IsTaken, IsOpen}
+use Rattle.wbt_replay_order.specs.Kept.Sound.{IsListOf}
 use Rattle.wbt_replay_order.proofs.Facts.Lists.{either}
 use Rattle.wbt_replay_ranges.proofs.Sound.Counters.{Ready, with_step, plain_entry}
 use Rattle.wbt_replay_ranges.proofs.Sound.FlusherTurn.{turn_flusher}
@@ -35,11 +23,7 @@ use Rattle.wbt_replay_ranges.proofs.Sound.Things.{inodes_going}
 use Rattle.wbt_replay_ranges.proofs.Sound.Working.{works, working_set}
 use Rattle.wbt_expiry.specs.Waiting.{Waiting as Wheel, Each}
 use Rattle.wbt_expiry.specs.declared.due.Due.{Due}
-use Rattle.wbt_expiry.proofs.Sorting.{each_put}
-use Rattle.wbt_rules.specs.Age.{due_after}
-use Rattle.wbt_replay_moves.specs.Definition.Cpu.{log_at}
 use Rattle.wbt_replay_order.proofs.Facts.Ages.{noticed_kept, aged_kept}
-use Rattle.wbt_journal.specs.declared.entry.Entry.{Entry}
 use Rattle.wbt_journal.specs.declared.entry.Entry.TheVariants as entry
 
 module _ (trace : Trace) (facts : Facts trace) (i : ℕ) (less : i < trace.cpus) (s : State) (f : ℕ) (on : IsFlusherOn trace i f) (turn : (cpu_of i s).turn.whose ≡ whose.Flusher f) where

@@ -1,30 +1,13 @@
 -- Each item of a CPU's turn keeps the state sound.
 use Rattle.std.proofs.Common.{◌≡◌, ℕ, ◌+◌, ◌<◌, ◌≤◌, false, List, [], ◌∷◌, length, refl, sym, subst, arith}
 use Rattle.std.proofs.Math.ListN.{set}
-use Rattle.wbt_counter.specs.Counters.{is_same}
-use Rattle.wbt_counter.specs.declared.counter.Counter.{Counter}
-use Rattle.wbt_counter.specs.declared.counter.Counter.TheVariants.{Domain, Context}
-use Rattle.wbt_trace.specs.declared.trace.Trace.{Trace}
-use Rattle.wbt_replay_moves.specs.Definition.Check.{decide_by}
-use Rattle.wbt_replay_moves.specs.Definition.Flight.{complete_by, land_by}
-use Rattle.wbt_replay_moves.specs.Definition.Idle.{test_by, unmark_by}
-use Rattle.wbt_replay_moves.specs.Definition.Perform.{make_step, make_move}
-use Rattle.wbt_replay_moves.specs.Definition.Scan.{look_by, claim_by, close_by, hand_over_by}
-use Rattle.wbt_replay_moves.specs.Definition.State.{State, cpu_of, task_of, flusher_of, count_of}
-use Rattle.wbt_replay_moves.specs.Definition.Writer.{dirty_by, end_by}
-use Rattle.wbt_replay_moves.specs.declared.state.Cpu.{Cpu}
-use Rattle.wbt_replay_moves.specs.declared.state.Whose.{Whose}
+use Rattle.wbt_replay_order.proofs.Common.{is_same, Counter, Context, Trace, decide_by, complete_by, land_by, test_by, unmark_by, make_step, make_move, look_by, claim_by, close_by, hand_over_by, State, cpu_of, task_of, flusher_of, count_of, dirty_by, end_by, Cpu, Whose, Silent, Step, Todo, Facts, silent_ticks, credit_in, Sound, HasRoom, IsClosed, IsCount, IsWhose, IsCounter, AreFrom, AreOthers, Settles, settles_next, is_settling, floor_of, Agrees}
+use Rattle.wbt_counter.specs.declared.counter.Counter.TheVariants.{Domain}
 use Rattle.wbt_replay_moves.specs.declared.state.Whose.TheVariants as whose
-use Rattle.wbt_replay_moves.specs.declared.todo.Silent.{Silent}
 use Rattle.wbt_replay_moves.specs.declared.todo.Silent.TheVariants as silent
-use Rattle.wbt_replay_moves.specs.declared.todo.Step.{Step}
 use Rattle.wbt_replay_moves.specs.declared.todo.Step.TheVariants as step
-use Rattle.wbt_replay_moves.specs.declared.todo.Todo.{Todo}
 use Rattle.wbt_replay_moves.specs.declared.todo.Todo.TheVariants as todo
-use Rattle.wbt_replay_order.specs.Kept.Facts.{Facts}
-use Rattle.wbt_replay_order.specs.Kept.Horizon.{silent_ticks, credit_in}
-use Rattle.wbt_replay_order.specs.Kept.Sound.{Sound, HasRoom, IsClosed, IsCount, IsWhose}
-use Rattle.wbt_replay_order.specs.Kept.Turns.{IsCounter, StepFits, AreFrom, AreOthers, Settles, Clears, settles_next, is_settling, floor_of, Agrees}
+use Rattle.wbt_replay_order.specs.Kept.Turns.{StepFits, Clears}
 use Rattle.wbt_replay_ranges.proofs.Sound.Checks.{decide_done}
 use Rattle.wbt_replay_ranges.proofs.Sound.Counters.{Ready, ReadyToWrite, credit_few, add_done, fold_done, clear_done, first_done, middle_done, limits_done, count_done}
 use Rattle.wbt_replay_ranges.proofs.Sound.Estimates.{estimate_done}

@@ -5,27 +5,12 @@ use Rattle.std.proofs.Math.ListN.{set}
 use Rattle.std.proofs.lemmas.Bool.Decides.{nat_tests}
 use Rattle.std.proofs.lemmas.List.{length-set}
 use Rattle.std.specs.Prelude.{unsigned_abs}
-use Rattle.wbt_counter.specs.declared.counter.Counter.{Counter}
-use Rattle.wbt_counter.specs.declared.counter.Counter.TheVariants.{Domain, Context}
-use Rattle.wbt_trace.specs.declared.trace.Trace.{Trace}
-use Rattle.wbt_journal.specs.Machine.{batch_of}
-use Rattle.wbt_replay_moves.specs.Definition.Cpu.{own_of}
-use Rattle.wbt_replay_moves.specs.Definition.Perform.{make_step, make_move, make_timer_step}
-use Rattle.wbt_replay_moves.specs.Definition.State.{State, cpu_of, no_cpu}
-use Rattle.wbt_replay_moves.specs.declared.state.Actor.{Actor}
+use Rattle.wbt_replay_order.proofs.Common.{Counter, Context, Trace, batch_of, own_of, make_step, make_move, make_timer_step, State, cpu_of, no_cpu, Actor, Cpu, Step, TimerStep, TimerTodo, Todo, is_full, is_halted, spend, stop, step_or_stop, cpu_on, timer_on, go_on, Facts, Sound, HasRoom, IsClosed, IsRoom, IsCpu, IsAgreed, leaks_of, working_on, is_at_work, is_stopped, credit_of, settles_next}
+use Rattle.wbt_counter.specs.declared.counter.Counter.TheVariants.{Domain}
 use Rattle.wbt_replay_moves.specs.declared.state.Actor.TheVariants as who
-use Rattle.wbt_replay_moves.specs.declared.state.Cpu.{Cpu}
-use Rattle.wbt_replay_moves.specs.declared.todo.Step.{Step}
-use Rattle.wbt_replay_moves.specs.declared.todo.TimerStep.{TimerStep}
-use Rattle.wbt_replay_moves.specs.declared.todo.TimerTodo.{TimerTodo}
 use Rattle.wbt_replay_moves.specs.declared.todo.TimerTodo.TheVariants as timer_todo
-use Rattle.wbt_replay_moves.specs.declared.todo.Todo.{Todo}
 use Rattle.wbt_replay_moves.specs.declared.todo.Todo.TheVariants as todo
-use Rattle.wbt_replay_order.specs.Definition.Order.{is_full, is_halted, spend, stop, step_or_stop, cpu_on, timer_step_or_end, timer_on, go_on}
-use Rattle.wbt_replay_order.specs.Kept.Facts.{Facts}
-use Rattle.wbt_replay_order.specs.Kept.Sound.{Sound, HasRoom, IsClosed, IsRoom, IsCpu, IsAgreed, leaks_of, working_on, is_at_work, is_stopped}
-use Rattle.wbt_replay_order.specs.Kept.Horizon.{credit_of}
-use Rattle.wbt_replay_order.specs.Kept.Turns.{settles_next}
+use Rattle.wbt_replay_order.specs.Definition.Order.{timer_step_or_end}
 use Rattle.wbt_replay_order.proofs.Facts.Lists.{either, set_each}
 use Rattle.wbt_replay_ranges.proofs.Sound.Clock.{spend_kept}
 use Rattle.wbt_replay_ranges.proofs.Sound.Items.{step_done, silent_done}

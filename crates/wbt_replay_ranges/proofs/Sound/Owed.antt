@@ -1,20 +1,10 @@
 -- A page's events are added to its counters next.
 use Rattle.std.proofs.Common.{◌≡◌, ℕ, ◌<◌, false, eqb, ℤ, unsigned_abs, List, [], ◌∷◌, length, refl, arith}
-use Rattle.wbt_counter.specs.declared.counter.Counter.{Counter}
-use Rattle.wbt_counter.specs.declared.counter.Counter.TheVariants.{Domain, Context}
-use Rattle.wbt_journal.specs.Machine.{domains}
-use Rattle.wbt_trace.specs.declared.trace.Trace.{Trace}
-use Rattle.wbt_replay_moves.specs.Definition.Cpu.{then_do, owed_to}
-use Rattle.wbt_replay_moves.specs.Definition.State.{State, cpu_of, flusher_of}
-use Rattle.wbt_replay_moves.specs.declared.state.Flusher.{Flusher}
-use Rattle.wbt_replay_moves.specs.declared.state.ReplayTask.{ReplayTask}
-use Rattle.wbt_replay_moves.specs.declared.state.Whose.{Whose}
+use Rattle.wbt_replay_order.proofs.Common.{Counter, Context, domains, Trace, then_do, owed_to, State, cpu_of, flusher_of, Flusher, ReplayTask, Whose, Todo, Facts, IsFlusherOn, IsCounter, Agrees, IsOpen, closes_in}
+use Rattle.wbt_counter.specs.declared.counter.Counter.TheVariants.{Domain}
 use Rattle.wbt_replay_moves.specs.declared.state.Whose.TheVariants as whose
 use Rattle.wbt_replay_moves.specs.declared.todo.Step.TheVariants as step
-use Rattle.wbt_replay_moves.specs.declared.todo.Todo.{Todo}
 use Rattle.wbt_replay_moves.specs.declared.todo.Todo.TheVariants as todo
-use Rattle.wbt_replay_order.specs.Kept.Facts.{Facts, IsFlusherOn}
-use Rattle.wbt_replay_order.specs.Kept.Turns.{IsCounter, Agrees, IsOpen, closes_in}
 use Rattle.wbt_replay_order.proofs.Facts.Lists.{either}
 use Rattle.wbt_replay_ranges.proofs.Sound.Going.{Going}
 use Rattle.wbt_replay_ranges.proofs.Sound.Own.{Fits, Free, Done, push, do_done}

@@ -5,20 +5,11 @@ use Rattle.std.proofs.lemmas.List.Elements.{All-head, All-tail}
 use mathlib.Core.Logic.{dite}
 use native.Mathlib.Decide.{ℕ_discrete}
 use Rattle.std.specs.Prelude.{unsigned_abs}
-use Rattle.wbt_counter.specs.declared.counter.Counter.{Counter}
-use Rattle.wbt_counter.specs.declared.counter.Counter.TheVariants.{Domain, Context}
-use Rattle.wbt_trace.specs.declared.trace.Trace.{Trace}
-use Rattle.wbt_journal.specs.Machine.{batch_of}
-use Rattle.wbt_replay_moves.specs.Definition.Cpu.{own_of}
-use Rattle.wbt_replay_moves.specs.Definition.State.{State, cpu_of}
-use Rattle.wbt_replay_moves.specs.declared.state.Cpu.{Cpu}
+use Rattle.wbt_replay_order.proofs.Common.{Counter, Context, Trace, batch_of, own_of, State, cpu_of, Cpu, Todo, Facts, silent_ticks, step_ticks, credit_in, Sound, HasRoom, IsClosed, IsRoom, IsWhose, ItemFits, AreInOrder, AreOthers, Settles, settles_next, is_settling, floor_of, Agrees, closes_in}
+use Rattle.wbt_counter.specs.declared.counter.Counter.TheVariants.{Domain}
 use Rattle.wbt_replay_moves.specs.declared.todo.Step.TheVariants as step
-use Rattle.wbt_replay_moves.specs.declared.todo.Todo.{Todo}
 use Rattle.wbt_replay_moves.specs.declared.todo.Todo.TheVariants as todo
-use Rattle.wbt_replay_order.specs.Kept.Facts.{Facts}
-use Rattle.wbt_replay_order.specs.Kept.Horizon.{silent_ticks, step_ticks, credit_in}
-use Rattle.wbt_replay_order.specs.Kept.Sound.{Sound, HasRoom, IsClosed, IsRoom, IsWhose}
-use Rattle.wbt_replay_order.specs.Kept.Turns.{ItemFits, AreInOrder, AreOthers, Settles, settles_next, is_settling, floor_of, Agrees, closes, closes_in}
+use Rattle.wbt_replay_order.specs.Kept.Turns.{closes}
 use Rattle.wbt_replay_ranges.proofs.Sound.Counters.{Ready, ReadyToWrite, write_ticks, with_step, credit_few}
 use Rattle.wbt_replay_ranges.proofs.Sound.Frames.{cpu_going}
 use Rattle.wbt_replay_ranges.proofs.Sound.Going.{Going, step_going, spare_going}

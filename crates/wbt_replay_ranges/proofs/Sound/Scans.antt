@@ -6,39 +6,18 @@ use Rattle.std.proofs.lemmas.Nat.{mul-le}
 use Rattle.std.proofs.lemmas.Bool.Decides.{nat_tests}
 use Rattle.std.proofs.lemmas.List.{nil_from_length, length-set}
 use Rattle.std.proofs.lemmas.List.Elements.{All-push}
-use Rattle.wbt_book.specs.Book.{is_claimable}
-use Rattle.wbt_book.specs.PageWords.{shared_word}
+use Rattle.wbt_replay_order.proofs.Common.{is_claimable, shared_word, put, Book, bits_after, Entry, pages_in, Trace, StepEntry, then_do, FLUSHER_REST, look_in, claim_now, claim_in, close_items, is_scan_over, places_after, close_in, fly, land_empty, hand_over_in, done_at, State, cpu_of, flusher_of, in_phase, page_of, device_at, inode_of, flusher_device, Scan, Flusher, ReplayPhase, Whose, Todo, is_finished, Facts, IsFlusherOn, IsPageOf, silent_ticks, IsAt, flown_of, Agrees, FlusherAgrees, IsScanning, IsOpen, IsOpenAt}
 use Rattle.wbt_book.specs.declared.event.Event.TheVariants as event
-use Rattle.wbt_counter.specs.Sums.{put}
-use Rattle.wbt_book.specs.Book.{Book, bits_after}
 use Rattle.wbt_grant.specs.declared.who.StepKind.TheVariants as kind
-use Rattle.wbt_journal.specs.declared.entry.Entry.{Entry}
 use Rattle.wbt_journal.specs.declared.entry.Entry.TheVariants as entry
-use Rattle.wbt_trace.specs.Sofar.{pages_in}
-use Rattle.wbt_trace.specs.declared.trace.Trace.{Trace}
-use Rattle.wbt_journal.specs.declared.step.StepEntry.{StepEntry}
-use Rattle.wbt_replay_moves.specs.Definition.Cpu.{then_do}
-use Rattle.wbt_rules.specs.declared.moments.TheConstants.{FLUSHER_REST}
-use Rattle.wbt_replay_moves.specs.Definition.Scan.{look_in, claim_now, claim_in, close_items, is_scan_over, places_after, close_in, fly, land_empty, hand_over_in}
-use Rattle.wbt_io.specs.Moments.{done_at}
-use Rattle.wbt_replay_moves.specs.Definition.State.{State, cpu_of, flusher_of, in_phase}
-use Rattle.wbt_rules.specs.Places.{place_after, page_of}
-use Rattle.wbt_rules.specs.Things.{device_at, inode_of, flusher_device, rate_of}
-use Rattle.wbt_rules.specs.declared.scan.Scan.{Scan}
-use Rattle.wbt_replay_moves.specs.declared.state.Flusher.{Flusher}
-use Rattle.wbt_replay_moves.specs.declared.state.ReplayPhase.{ReplayPhase}
+use Rattle.wbt_rules.specs.Places.{place_after}
+use Rattle.wbt_rules.specs.Things.{rate_of}
 use Rattle.wbt_replay_moves.specs.declared.state.ReplayPhase.TheVariants as phase
-use Rattle.wbt_replay_moves.specs.declared.state.Whose.{Whose}
 use Rattle.wbt_replay_moves.specs.declared.state.Whose.TheVariants as whose
 use Rattle.wbt_replay_moves.specs.declared.todo.Silent.TheVariants as silent
 use Rattle.wbt_replay_moves.specs.declared.todo.Step.TheVariants as step
-use Rattle.wbt_replay_moves.specs.declared.todo.Todo.{Todo}
 use Rattle.wbt_replay_moves.specs.declared.todo.Todo.TheVariants as todo
-use Rattle.wbt_replay_order.specs.Definition.Order.{is_finished}
-use Rattle.wbt_replay_order.specs.Kept.Facts.{Facts, IsFlusherOn, IsPageOf}
-use Rattle.wbt_replay_order.specs.Kept.Horizon.{silent_ticks}
-use Rattle.wbt_replay_order.specs.Kept.Sound.{IsAt, IsScanAt, IsQuotaOf, ArePlaces, flown_of}
-use Rattle.wbt_replay_order.specs.Kept.Turns.{Agrees, FlusherAgrees, IsScanning, IsOpen, IsOpenAt}
+use Rattle.wbt_replay_order.specs.Kept.Sound.{IsScanAt, IsQuotaOf, ArePlaces}
 use Rattle.wbt_rules.proofs.Places.{place_below}
 use Rattle.wbt_replay_order.proofs.Facts.Lists.{either}
 use Rattle.wbt_replay_order.proofs.Facts.Scans.{scan_page}

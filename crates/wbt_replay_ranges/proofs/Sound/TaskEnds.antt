@@ -6,22 +6,8 @@ use Rattle.std.proofs.lemmas.List.{length-set}
 use Rattle.std.proofs.lemmas.List.Elements.{All-push}
 use Rattle.std.proofs.lemmas.List.Sums.{sum_by-cons}
 use Rattle.wbt_grant.specs.declared.who.StepKind.TheVariants as kind
-use Rattle.wbt_task.specs.Allowance.{ended}
-use Rattle.wbt_task.specs.declared.allowance.CpuLocal.{CpuLocal}
-use Rattle.wbt_task.specs.declared.allowance.Due.{Due}
-use Rattle.wbt_task.specs.declared.history.Writer.{Writer}
-use Rattle.wbt_trace.specs.declared.trace.Trace.{Trace}
-use Rattle.wbt_replay_moves.specs.Definition.Check.{writer_of}
-use Rattle.wbt_replay_moves.specs.Definition.State.{State, cpu_of, task_of, queue_of, no_task, no_cpu}
-use Rattle.wbt_rules.specs.Things.{device_of}
-use Rattle.wbt_replay_moves.specs.Definition.Writer.{leaked, end_now, has_nothing, end_by, mark}
-use Rattle.wbt_replay_moves.specs.declared.state.Cpu.{Cpu}
-use Rattle.wbt_replay_moves.specs.declared.state.ReplayTask.{ReplayTask}
+use Rattle.wbt_replay_order.proofs.Common.{ended, CpuLocal, Due, Writer, Trace, writer_of, State, cpu_of, task_of, queue_of, no_task, no_cpu, device_of, leaked, end_now, has_nothing, end_by, mark, Cpu, ReplayTask, ReplayWork, Facts, IsTaskOn, silent_ticks, IsClosed, AreQueued, dirtied_of, dirtied_by, leaks_of, is_running}
 use Rattle.wbt_replay_moves.specs.declared.state.Whose.TheVariants as whose
-use Rattle.wbt_replay_moves.specs.declared.state.ReplayWork.{ReplayWork}
-use Rattle.wbt_replay_order.specs.Kept.Facts.{Facts, IsTaskOn}
-use Rattle.wbt_replay_order.specs.Kept.Horizon.{silent_ticks}
-use Rattle.wbt_replay_order.specs.Kept.Sound.{IsClosed, AreQueued, dirtied_of, dirtied_by, leaks_of, is_running}
 use Rattle.wbt_replay_order.proofs.Facts.Lists.{either}
 use Rattle.wbt_replay_ranges.proofs.Sound.Checks.{task_closed}
 use Rattle.wbt_replay_ranges.proofs.Sound.Counters.{Ready, with_step, plain_entry}

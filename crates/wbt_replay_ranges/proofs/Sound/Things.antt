@@ -3,20 +3,10 @@ use Rattle.std.proofs.Common.{◌≡◌, ℕ, ◌+◌, ◌<◌, ◌≤◌, Bool,
 use Rattle.std.proofs.Math.ListN.{set}
 use Rattle.std.specs.List.{sum_by}
 use Rattle.std.proofs.lemmas.List.{length-set}
-use Rattle.wbt_book.specs.Book.{Book}
-use Rattle.wbt_trace.specs.declared.trace.Trace.{Trace}
-use Rattle.wbt_replay_moves.specs.Definition.State.{State, domain_of, writeback_of, no_domain, no_context}
-use Rattle.wbt_rules.specs.Things.{group_of}
-use Rattle.wbt_replay_moves.specs.declared.state.Actor.{Actor}
-use Rattle.wbt_replay_moves.specs.declared.state.Domain.{Domain}
-use Rattle.wbt_replay_moves.specs.declared.state.Stretch.{Stretch}
-use Rattle.wbt_replay_moves.specs.declared.state.Timer.{Timer}
-use Rattle.wbt_replay_moves.specs.declared.state.Writeback.{Writeback}
-use Rattle.wbt_replay_moves.specs.declared.todo.TimerTodo.{TimerTodo}
+use Rattle.wbt_replay_order.proofs.Common.{Book, Trace, State, domain_of, writeback_of, no_domain, no_context, group_of, Actor, Domain, Stretch, Timer, Writeback, TimerTodo, latest, reserve, timer_credit, IsDomain, IsContext, AreWritten, AreQueued, PublishesNext, IsStretch, written_of}
 use Rattle.wbt_replay_moves.specs.declared.todo.TimerTodo.TheVariants as timer_todo
 use Rattle.wbt_replay_moves.specs.declared.todo.TimerStep.TheVariants as timer_step
-use Rattle.wbt_replay_order.specs.Kept.Horizon.{latest, reserve, timer_credit}
-use Rattle.wbt_replay_order.specs.Kept.Sound.{IsDomain, IsContext, AreWritten, AreQueued, IsTimer, PublishesNext, IsStretch, written_of}
+use Rattle.wbt_replay_order.specs.Kept.Sound.{IsTimer}
 use Rattle.wbt_replay_order.proofs.Facts.Lists.{set_each}
 use Rattle.wbt_replay_ranges.proofs.Sound.Going.{Going, contexts_more, cpus_more}
 use Rattle.wbt_replay_order.proofs.Lists.Numbered.{set_all, sum_set}

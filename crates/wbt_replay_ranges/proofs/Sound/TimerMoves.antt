@@ -5,26 +5,15 @@ use Rattle.std.proofs.lemmas.Bool.Decides.{nat_tests}
 use Rattle.std.proofs.lemmas.Nat.{shr_le}
 use Rattle.std.proofs.lemmas.List.Elements.{All-nil, All-cons}
 use Rattle.wbt_flex.specs.declared.half.TheConstants.{LAST_PERIOD}
-use Rattle.wbt_flex.specs.Proportions.{after_period, may_age}
-use Rattle.wbt_flex.specs.declared.half.Half.{Half}
-use Rattle.wbt_journal.specs.Machine.{domains}
-use Rattle.wbt_journal.specs.declared.timer.TimerEntry.{TimerEntry}
+use Rattle.wbt_replay_order.proofs.Common.{after_period, Half, domains, TimerEntry, Trace, make_timer_move, State, domain_of, no_domain, with_timer, is_time, periods, period_to, period, rest, domain_turns, domain_periods, turn_items, begin_timer, Domain, Timer, TimerSilent, TimerTodo, Facts, silent_ticks, timer_credit, Sound, HasRoom, TimerItemFits, PublishesNext}
+use Rattle.wbt_flex.specs.Proportions.{may_age}
 use Rattle.wbt_journal.specs.declared.timer.TimerEntry.TheVariants as entry
-use Rattle.wbt_trace.specs.declared.trace.Trace.{Trace}
-use Rattle.wbt_replay_moves.specs.Definition.Perform.{make_timer_move}
-use Rattle.wbt_replay_moves.specs.Definition.State.{State, domain_of, no_domain}
-use Rattle.wbt_replay_moves.specs.Definition.Timer.{with_timer, is_time, periods, period_to, period, rested, rest, domain_turns, domain_periods, turn_items, begin_timer}
+use Rattle.wbt_replay_moves.specs.Definition.Timer.{rested}
 use Rattle.wbt_rules.specs.declared.moments.TheConstants.{PERIOD_TICKS}
-use Rattle.wbt_replay_moves.specs.declared.state.Domain.{Domain}
-use Rattle.wbt_replay_moves.specs.declared.state.Timer.{Timer}
-use Rattle.wbt_replay_moves.specs.declared.todo.TimerSilent.{TimerSilent}
 use Rattle.wbt_replay_moves.specs.declared.todo.TimerSilent.TheVariants as silent
 use Rattle.wbt_replay_moves.specs.declared.todo.TimerStep.TheVariants as step
-use Rattle.wbt_replay_moves.specs.declared.todo.TimerTodo.{TimerTodo}
 use Rattle.wbt_replay_moves.specs.declared.todo.TimerTodo.TheVariants as todo
-use Rattle.wbt_replay_order.specs.Kept.Facts.{Facts}
-use Rattle.wbt_replay_order.specs.Kept.Horizon.{silent_ticks, timer_credit}
-use Rattle.wbt_replay_order.specs.Kept.Sound.{Sound, HasRoom, IsTimer, TimerItemFits, AreTimerItems, PublishesNext}
+use Rattle.wbt_replay_order.specs.Kept.Sound.{IsTimer, AreTimerItems}
 use Rattle.wbt_replay_order.proofs.Facts.Lists.{either}
 use Rattle.wbt_replay_ranges.proofs.Sound.Going.{Going}
 use Rattle.wbt_replay_ranges.proofs.Sound.Things.{domain_going, timer_going}

@@ -4,29 +4,16 @@ use Rattle.std.proofs.Math.ListN.{set}
 use Rattle.std.proofs.lemmas.List.{get_or-set_same, get_or_past}
 use Rattle.std.proofs.lemmas.List.Elements.{All-head, All-tail}
 use Rattle.wbt_num.specs.Limits.{IsLawful}
-use Rattle.wbt_num.specs.declared.limits.Limits.{Limits}
-use Rattle.wbt_num.specs.declared.limits.TheConstants.{MAX_LIMIT}
-use Rattle.wbt_counter.specs.History.{at_least_zero}
+use Rattle.wbt_replay_order.proofs.Common.{Limits, MAX_LIMIT, at_least_zero, StepEntry, thresholds_of, Trace, make_timer_step, State, domain_of, no_cpu, no_domain, with_timer, load, peak, unseal, thresh, publish, Cpu, Domain, Timer, TimerStep, TimerTodo, Facts, silent_ticks, step_ticks, timer_credit, Sound, HasRoom, TimerItemFits, PublishesNext}
 use Rattle.wbt_grant.specs.declared.who.StepKind.TheVariants as kind
-use Rattle.wbt_journal.specs.declared.step.StepEntry.{StepEntry}
 use Rattle.wbt_journal.specs.declared.timer.TimerEntry.TheVariants as entry
 use Rattle.wbt_limits.proofs.Rising.{limits_are_lawful, following_stays_in_range}
-use Rattle.wbt_limits.specs.Thresholds.{thresholds_of, followed_limit}
-use Rattle.wbt_trace.specs.declared.trace.Trace.{Trace}
-use Rattle.wbt_replay_moves.specs.Definition.Perform.{make_timer_step}
-use Rattle.wbt_replay_moves.specs.Definition.State.{State, domain_of, no_cpu, no_domain}
-use Rattle.wbt_replay_moves.specs.Definition.Timer.{with_timer, reads_global, finds, load, peak, unseal, thresh, timer_logged, publish}
+use Rattle.wbt_limits.specs.Thresholds.{followed_limit}
+use Rattle.wbt_replay_moves.specs.Definition.Timer.{reads_global, finds, timer_logged}
 use Rattle.wbt_rules.specs.Thresholds.{limits_after}
-use Rattle.wbt_replay_moves.specs.declared.state.Cpu.{Cpu}
-use Rattle.wbt_replay_moves.specs.declared.state.Domain.{Domain}
-use Rattle.wbt_replay_moves.specs.declared.state.Timer.{Timer}
-use Rattle.wbt_replay_moves.specs.declared.todo.TimerStep.{TimerStep}
 use Rattle.wbt_replay_moves.specs.declared.todo.TimerStep.TheVariants as step
-use Rattle.wbt_replay_moves.specs.declared.todo.TimerTodo.{TimerTodo}
 use Rattle.wbt_replay_moves.specs.declared.todo.TimerTodo.TheVariants as todo
-use Rattle.wbt_replay_order.specs.Kept.Facts.{Facts}
-use Rattle.wbt_replay_order.specs.Kept.Horizon.{silent_ticks, step_ticks, timer_credit}
-use Rattle.wbt_replay_order.specs.Kept.Sound.{Sound, HasRoom, TimerItemFits, AreTimerItems, PublishesNext}
+use Rattle.wbt_replay_order.specs.Kept.Sound.{AreTimerItems}
 use Rattle.wbt_replay_ranges.proofs.Sound.Counters.{with_step, plain_entry}
 use Rattle.wbt_replay_ranges.proofs.Sound.Going.{Going, step_going, spare_going}
 use Rattle.wbt_replay_ranges.proofs.Sound.Things.{domain_going, timer_going}

@@ -1,12 +1,6 @@
 -- A context is weighed: of the CPU its turn alone changes.
 use Rattle.std.proofs.Common.{ℕ, ◌<◌, ◌||◌, refl, arith}
-use Rattle.wbt_trace.specs.declared.trace.Trace.{Trace}
-use Rattle.wbt_replay_moves.specs.Definition.State.{State, cpu_of}
-use Rattle.wbt_replay_moves.specs.Definition.Weigh.{weighed_by, is_over_by_itself, weigh}
-use Rattle.wbt_replay_moves.specs.declared.state.Cpu.{Cpu}
-use Rattle.wbt_replay_moves.specs.declared.state.ReplayTurn.{ReplayTurn}
-use Rattle.wbt_replay_order.specs.Kept.Facts.{Facts}
-use Rattle.wbt_replay_order.specs.Kept.Sound.{IsClosed}
+use Rattle.wbt_replay_order.proofs.Common.{Trace, State, cpu_of, weighed_by, is_over_by_itself, weigh, Cpu, ReplayTurn, Facts, IsClosed}
 use Rattle.wbt_replay_ranges.proofs.Sound.Counters.{changed_done, room_as}
 use Rattle.wbt_replay_ranges.proofs.Sound.Going.{Going}
 use Rattle.wbt_replay_ranges.proofs.Sound.Own.{Free, Done, room_free}

@@ -5,17 +5,9 @@ use Rattle.std.specs.List.{sum_by, count_by}
 use Rattle.std.proofs.lemmas.List.{get_or-set_same, get_or-set_other}
 use mathlib.Core.Logic.{dite}
 use native.Mathlib.Decide.{ℕ_discrete}
-use Rattle.wbt_trace.specs.declared.trace.Trace.{Trace}
-use Rattle.wbt_replay_moves.specs.Definition.State.{no_cpu, no_flusher}
-use Rattle.wbt_rules.specs.Things.{flusher_cpu}
-use Rattle.wbt_replay_moves.specs.declared.state.Cpu.{Cpu}
-use Rattle.wbt_replay_moves.specs.declared.state.Flusher.{Flusher}
-use Rattle.wbt_replay_moves.specs.declared.state.ReplayJob.{ReplayJob}
+use Rattle.wbt_replay_order.proofs.Common.{Trace, no_cpu, no_flusher, flusher_cpu, Cpu, Flusher, ReplayJob, first_cpu, is_finished, Facts, IsFlusherOn, IsJobOn, AreCpus, is_at_work, working_on}
 use Rattle.wbt_replay_moves.specs.declared.state.ReplayJob.TheVariants as job
-use Rattle.wbt_replay_order.specs.Definition.Opening.{first_cpu}
-use Rattle.wbt_replay_order.specs.Definition.Order.{is_finished}
-use Rattle.wbt_replay_order.specs.Kept.Facts.{Facts, IsFlusherOn, IsJobOn, is_job_of}
-use Rattle.wbt_replay_order.specs.Kept.Sound.{AreCpus, is_at_work, working_on}
+use Rattle.wbt_replay_order.specs.Kept.Facts.{is_job_of}
 use Rattle.wbt_replay_order.proofs.Lists.Numbered.{one_if, all_rest, count_cons, sum_but}
 
 abbrev pub works : Flusher → Bool

@@ -6,36 +6,17 @@ use Rattle.std.proofs.lemmas.Bool.Decides.{nat_tests}
 use Rattle.std.proofs.lemmas.List.{length-set, get_or-set_same}
 use Rattle.std.proofs.lemmas.List.Elements.{All-set, All-get_or, All-cons}
 use Rattle.std.proofs.lemmas.List.Sums.{sum_by-cons}
-use Rattle.wbt_book.specs.Book.{Book, bits_after}
+use Rattle.wbt_replay_order.proofs.Common.{Book, bits_after, put, StepEntry, page_after, new_writer, wrote_page, wrote_writer, CpuLocal, Writer, MOST_COUNT, Trace, writer_in, writer_of, do_next, logged, owed_to, State, cpu_of, task_of, with_task, no_task, no_cpu, context_of, group_of, without_page, passed_page, pause_in, counted_page, counted_local, dirty_fresh, dirty_page, dirty_next, Cpu, ReplayTask, Whose, ReplayWork, Facts, IsTaskOn, silent_ticks, rests_of, rest_of, IsTask, WorkFits, WriterFits, AreDirtied, dirtied_of, dirtied_by, leaks_of, rests_at_end, Agrees, WritesNext}
 use Rattle.wbt_book.specs.declared.event.Event.TheVariants as event
-use Rattle.wbt_counter.specs.Sums.{put}
 use Rattle.wbt_grant.specs.declared.who.StepKind.TheVariants as kind
 use Rattle.wbt_journal.specs.declared.entry.Entry.TheVariants as entry
-use Rattle.wbt_journal.specs.declared.step.StepEntry.{StepEntry}
-use Rattle.wbt_task.specs.Allowance.{page_after, limit_after, moved_at, allowance_of}
-use Rattle.wbt_task.specs.History.{new_writer, wrote_page, wrote_writer}
-use Rattle.wbt_task.specs.declared.allowance.CpuLocal.{CpuLocal}
+use Rattle.wbt_task.specs.Allowance.{limit_after, moved_at, allowance_of}
 use Rattle.wbt_task.specs.declared.allowance.Due.TheVariants as due
-use Rattle.wbt_task.specs.declared.history.Writer.{Writer}
-use Rattle.wbt_trace.specs.declared.ranges.TheConstants.{MOST_COUNT}
-use Rattle.wbt_trace.specs.declared.trace.Trace.{Trace}
-use Rattle.wbt_replay_moves.specs.Definition.Check.{writer_in, writer_of}
-use Rattle.wbt_replay_moves.specs.Definition.Cpu.{do_next, logged, owed_to}
-use Rattle.wbt_replay_moves.specs.Definition.State.{State, cpu_of, task_of, with_task, no_task, no_cpu}
-use Rattle.wbt_rules.specs.Things.{context_of, group_of}
-use Rattle.wbt_replay_moves.specs.Definition.Writer.{without_page, passed_page, pause_in, counted_page, counted_local, dirty_fresh, dirty_page, dirty_next}
-use Rattle.wbt_replay_moves.specs.declared.state.Cpu.{Cpu}
-use Rattle.wbt_replay_moves.specs.declared.state.ReplayTask.{ReplayTask}
-use Rattle.wbt_replay_moves.specs.declared.state.Whose.{Whose}
 use Rattle.wbt_replay_moves.specs.declared.state.Whose.TheVariants as whose
-use Rattle.wbt_replay_moves.specs.declared.state.ReplayWork.{ReplayWork}
 use Rattle.wbt_replay_moves.specs.declared.state.ReplayWork.TheVariants as work
 use Rattle.wbt_replay_moves.specs.declared.todo.Step.TheVariants as step
 use Rattle.wbt_replay_moves.specs.declared.todo.Todo.TheVariants as todo
-use Rattle.wbt_replay_order.specs.Kept.Facts.{Facts, IsTaskOn}
-use Rattle.wbt_replay_order.specs.Kept.Horizon.{silent_ticks, rests_of, rest_of}
-use Rattle.wbt_replay_order.specs.Kept.Sound.{IsTask, IsWriteOf, WorkFits, WriterFits, AreDirtied, dirtied_of, dirtied_by, leaks_of, rests_at_end}
-use Rattle.wbt_replay_order.specs.Kept.Turns.{Agrees, WritesNext}
+use Rattle.wbt_replay_order.specs.Kept.Sound.{IsWriteOf}
 use Rattle.wbt_replay_order.proofs.Facts.Lists.{either, twice}
 use Rattle.wbt_replay_order.proofs.Facts.Paces.{since_fits, pause_more}
 use Rattle.wbt_replay_ranges.proofs.Sound.Checks.{task_closed}

@@ -1,38 +1,17 @@
 -- The items of turns leave the clock, the order lines and the rotation alone, and those of CPUs the timer.
 use Rattle.std.proofs.Common.{◌≡◌, ℕ, Bool, cond, List, [], ◌∷◌, Option, Some, None, refl, ◌∙◌}
 use Rattle.wbt_counter.specs.declared.counter.Counter.TheVariants.{Domain as ofDomain, Context as ofContext}
-use Rattle.wbt_estimate.specs.Estimate.{update_of}
-use Rattle.wbt_estimate.specs.declared.estimate.Estimate.{Estimate}
-use Rattle.wbt_flex.specs.Proportions.{after_period}
-use Rattle.wbt_flex.specs.declared.half.Half.{Half}
-use Rattle.wbt_trace.specs.declared.trace.Trace.{Trace}
-use Rattle.wbt_replay_moves.specs.Definition.Check.{decide_by}
-use Rattle.wbt_replay_moves.specs.Definition.Estimates.{estimate_to, sample_of}
-use Rattle.wbt_replay_moves.specs.Definition.Perform.{make_step, make_move, make_timer_step, make_timer_move, begin_turn}
-use Rattle.wbt_replay_moves.specs.Definition.State.{State, cpu_of, task_of, with_task, domain_of, writeback_of}
-use Rattle.wbt_replay_moves.specs.Definition.Timer.{period_to, is_time, periods}
-use Rattle.wbt_replay_moves.specs.Definition.Writer.{passed_page, dirty_by, dirty_next, dirty_page, dirty_fresh}
-use Rattle.wbt_replay_moves.specs.declared.state.Actor.{Actor}
-use Rattle.wbt_replay_moves.specs.declared.state.ReplayWork.{ReplayWork}
+use Rattle.wbt_replay_order.proofs.Common.{update_of, Estimate, after_period, Half, Trace, decide_by, estimate_to, sample_of, make_step, make_move, make_timer_step, make_timer_move, begin_turn, State, cpu_of, task_of, with_task, domain_of, writeback_of, period_to, is_time, periods, passed_page, dirty_by, dirty_next, dirty_page, dirty_fresh, Actor, ReplayWork, Stretch, Timer, Whose, Silent, Step, TimerSilent, TimerStep, apply, Change, turn_keeps, move_keeps, uncounted}
 use Rattle.wbt_replay_moves.specs.declared.state.ReplayWork.TheVariants as work
-use Rattle.wbt_replay_moves.specs.declared.state.Stretch.{Stretch}
-use Rattle.wbt_replay_moves.specs.declared.state.Timer.{Timer}
-use Rattle.wbt_replay_moves.specs.declared.state.Whose.{Whose}
 use Rattle.wbt_replay_moves.specs.declared.state.Whose.TheVariants as whose
-use Rattle.wbt_replay_moves.specs.declared.todo.Silent.{Silent}
 use Rattle.wbt_replay_moves.specs.declared.todo.Silent.TheVariants as silent
-use Rattle.wbt_replay_moves.specs.declared.todo.Step.{Step}
 use Rattle.wbt_replay_moves.specs.declared.todo.Step.TheVariants as step
-use Rattle.wbt_replay_moves.specs.declared.todo.TimerSilent.{TimerSilent}
 use Rattle.wbt_replay_moves.specs.declared.todo.TimerSilent.TheVariants as timer_silent
-use Rattle.wbt_replay_moves.specs.declared.todo.TimerStep.{TimerStep}
 use Rattle.wbt_replay_moves.specs.declared.todo.TimerStep.TheVariants as timer_step
-use Rattle.wbt_replay_changes.specs.Apply.{apply}
-use Rattle.wbt_replay_changes.specs.Change.{Change}
 use Rattle.wbt_replay_changes.specs.Change as change
 use Rattle.wbt_replay_changes.specs.Plain.{IsPlain, IsSilent}
-use Rattle.wbt_replay_changes.proofs.Keeping.{turn_keeps, step_keeps, move_keeps}
-use Rattle.wbt_replay_changes.proofs.Plain.{plain, uncounted}
+use Rattle.wbt_replay_changes.proofs.Keeping.{step_keeps}
+use Rattle.wbt_replay_changes.proofs.Plain.{plain}
 use Rattle.wbt_replay_order.proofs.Facts.Lists.{either}
 
 -- what belongs to the run's order, and to no turn

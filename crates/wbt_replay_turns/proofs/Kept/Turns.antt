@@ -1,14 +1,9 @@
 -- The beginning of a CPU's turn leaves the clock, the order lines, the rotation and the timer alone.
 use Rattle.std.proofs.Common.{ℕ, length, get_or, refl, ap}
-use Rattle.wbt_trace.specs.declared.trace.Trace.{Trace}
-use Rattle.wbt_replay_moves.specs.Definition.State.{State, cpu_of, with_cpu}
-use Rattle.wbt_replay_moves.specs.declared.state.Actor.{Actor}
+use Rattle.wbt_replay_order.proofs.Common.{Trace, State, cpu_of, with_cpu, Actor, Cpu, ReplayJob, after, job_at, begin_job, begin}
 use Rattle.wbt_replay_moves.specs.declared.state.Actor.TheVariants as who
-use Rattle.wbt_replay_moves.specs.declared.state.Cpu.{Cpu}
-use Rattle.wbt_replay_moves.specs.declared.state.ReplayJob.{ReplayJob}
 use Rattle.wbt_replay_moves.specs.declared.state.ReplayJob.TheVariants as job
 use Rattle.wbt_replay_moves.specs.declared.state.Whose.TheVariants as whose
-use Rattle.wbt_replay_order.specs.Definition.Order.{after, job_at, begin_job, begin}
 use Rattle.wbt_replay_turns.proofs.Kept.Items.{Outside, Kept, Apart, apart_turn}
 
 apart_job : (trace : Trace) (cpu place : ℕ) (j : ReplayJob) (c : Cpu) (s : State) → Apart s (begin_job trace cpu place j c s)

@@ -1,14 +1,8 @@
 -- A move leaves the order lines as they are, takes the first one away, or makes it ask for one step less.
 use Rattle.std.proofs.Common.{◌≡◌, ℕ, zero, suc, ◌+◌, List, [], ◌∷◌, Option, Some, None, ⊎_elim, refl, sym, ◌∙◌, ap, subst}
 use Rattle.std.proofs.lemmas.Bool.{cases_Bool}
-use Rattle.wbt_trace.specs.declared.trace.Trace.{Trace}
-use Rattle.wbt_replay_moves.specs.Definition.State.{State}
-use Rattle.wbt_replay_moves.specs.declared.state.Actor.{Actor}
-use Rattle.wbt_replay_moves.specs.declared.state.Stretch.{Stretch}
+use Rattle.wbt_replay_order.proofs.Common.{Trace, State, Actor, Stretch, opening, ahead_of, chance_of, turn_at, go_on, begin, with_orders, begin_or_drop, follow, next_moment, at_moment, next_turn, finish_turn, rotate_from, place_after, advance_by, advance, is_ended, state_at}
 use Rattle.wbt_replay_moves.specs.declared.state.Stretch.TheVariants as stretch
-use Rattle.wbt_replay_order.specs.Definition.Opening.{opening}
-use Rattle.wbt_replay_order.specs.Definition.Order.{ahead_of, chance_of, turn_at, go_on, begin, with_orders, begin_or_drop, follow, next_moment, at_moment, next_turn, finish_turn, rotate_from, place_after, advance_by, advance, is_ended}
-use Rattle.wbt_replay_order.specs.Definition.Run.{state_at}
 use Rattle.wbt_replay_order.specs.declared.chance.Ahead.{Ahead}
 use Rattle.wbt_replay_order.specs.declared.chance.Ahead.TheVariants as ahead
 use Rattle.wbt_replay_order.specs.declared.chance.Chance.{Chance}

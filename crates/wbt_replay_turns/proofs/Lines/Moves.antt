@@ -1,20 +1,10 @@
 -- What a move does of the first order line, where it asks for steps.
 use Rattle.std.proofs.Common.{◌≡◌, ℕ, zero, suc, Bool, true, false, not, ◌&&◌, cond, leb, List, [], ◌∷◌, ◌++◌, length, get_or, refl, sym, ◌∙◌, ap, subst}
-use Rattle.wbt_journal.specs.declared.step.StepEntry.{StepEntry}
-use Rattle.wbt_trace.specs.declared.trace.Trace.{Trace}
-use Rattle.wbt_replay_moves.specs.Definition.Cpu.{at_turn}
-use Rattle.wbt_replay_moves.specs.Definition.State.{State, cpu_of, with_cpu, task_of, flusher_of, is_drained}
-use Rattle.wbt_replay_moves.specs.declared.state.Actor.{Actor}
+use Rattle.wbt_replay_order.proofs.Common.{StepEntry, Trace, at_turn, State, cpu_of, with_cpu, task_of, flusher_of, is_drained, Actor, Cpu, ReplayJob, Stretch, may_step, after, is_task_ready, is_phase_ready, task_turn, job_turn, job_at, is_nothing, seek_job, turn_at, ahead_of, chance_by, chance_of, go_on, begin_job, begin, with_orders, begin_or_drop, follow, advance_by, advance, Ending}
 use Rattle.wbt_replay_moves.specs.declared.state.Actor.TheVariants as who
-use Rattle.wbt_replay_moves.specs.declared.state.Cpu.{Cpu}
-use Rattle.wbt_replay_moves.specs.declared.state.ReplayJob.{ReplayJob}
 use Rattle.wbt_replay_moves.specs.declared.state.ReplayJob.TheVariants as job
-use Rattle.wbt_replay_moves.specs.declared.state.Stretch.{Stretch}
 use Rattle.wbt_replay_moves.specs.declared.state.Stretch.TheVariants as stretch
 use Rattle.wbt_replay_moves.specs.declared.state.Whose.TheVariants as whose
-use Rattle.wbt_replay_order.specs.Claims.Ending.{may_step}
-use Rattle.wbt_replay_order.specs.Definition.Order.{after, is_task_ready, is_phase_ready, task_turn, job_turn, job_at, is_nothing, seek_job, turn_at, ahead_of, chance_by, chance_of, go_on, begin_job, begin, with_orders, begin_or_drop, follow, advance_by, advance}
-use Rattle.wbt_replay_order.specs.Kept.Ending.{Ending}
 use Rattle.wbt_replay_order.specs.declared.chance.Ahead.{Ahead}
 use Rattle.wbt_replay_order.specs.declared.chance.Ahead.TheVariants as ahead
 use Rattle.wbt_replay_order.specs.declared.chance.Chance.{Chance}

@@ -3,28 +3,12 @@ use Rattle.std.proofs.Common.{◌≡◌, ℕ, ◌+◌, ◌<◌, Bool, true, fals
 use Rattle.std.specs.List.{count_by}
 use Rattle.std.proofs.lemmas.Bool.{cond-true}
 use Rattle.std.proofs.lemmas.List.{get_or-set_same, length-set}
-use Rattle.wbt_flex.specs.Proportions.{after_period}
-use Rattle.wbt_flex.specs.declared.half.Half.{Half}
-use Rattle.wbt_journal.specs.declared.step.StepEntry.{StepEntry}
-use Rattle.wbt_trace.specs.declared.trace.Trace.{Trace}
-use Rattle.wbt_replay_moves.specs.Definition.Perform.{make_step, make_timer_step, make_timer_move}
-use Rattle.wbt_replay_moves.specs.Definition.State.{State, no_cpu, cpu_of, with_cpu, domain_of, is_drained}
-use Rattle.wbt_replay_moves.specs.Definition.Timer.{with_timer, period_to, is_time, periods}
-use Rattle.wbt_replay_moves.specs.declared.state.Actor.{Actor}
+use Rattle.wbt_replay_order.proofs.Common.{after_period, Half, StepEntry, Trace, make_step, make_timer_step, make_timer_move, State, no_cpu, cpu_of, with_cpu, domain_of, is_drained, with_timer, period_to, is_time, periods, Actor, Cpu, Step, TimerSilent, TimerStep, TimerTodo, Todo, is_made_by, may_step, todo_ahead, timer_todo_ahead, cpu_ahead, timer_ahead, ahead_of, chance_by, chance_of, is_full, is_halted, spend, stop, cpu_on, timer_on, go_on, seek_job, Ending, ArePaced}
 use Rattle.wbt_replay_moves.specs.declared.state.Actor.TheVariants as who
-use Rattle.wbt_replay_moves.specs.declared.state.Cpu.{Cpu}
-use Rattle.wbt_replay_moves.specs.declared.todo.Step.{Step}
-use Rattle.wbt_replay_moves.specs.declared.todo.TimerSilent.{TimerSilent}
 use Rattle.wbt_replay_moves.specs.declared.todo.TimerSilent.TheVariants as timer_silent
-use Rattle.wbt_replay_moves.specs.declared.todo.TimerStep.{TimerStep}
 use Rattle.wbt_replay_moves.specs.declared.todo.TimerStep.TheVariants as timer_step
-use Rattle.wbt_replay_moves.specs.declared.todo.TimerTodo.{TimerTodo}
 use Rattle.wbt_replay_moves.specs.declared.todo.TimerTodo.TheVariants as timer_todo
-use Rattle.wbt_replay_moves.specs.declared.todo.Todo.{Todo}
 use Rattle.wbt_replay_moves.specs.declared.todo.Todo.TheVariants as todo
-use Rattle.wbt_replay_order.specs.Claims.Ending.{is_made_by, may_step}
-use Rattle.wbt_replay_order.specs.Definition.Order.{todo_ahead, timer_todo_ahead, cpu_ahead, timer_ahead, ahead_of, chance_by, chance_of, is_full, is_halted, spend, stop, cpu_on, timer_on, go_on, seek_job}
-use Rattle.wbt_replay_order.specs.Kept.Ending.{Ending, ArePaced}
 use Rattle.wbt_replay_order.specs.declared.chance.Ahead.{Ahead}
 use Rattle.wbt_replay_order.specs.declared.chance.Ahead.TheVariants as ahead
 use Rattle.wbt_replay_order.specs.declared.chance.Chance.TheVariants as chance

@@ -1,27 +1,12 @@
 -- What moves of actors keep, each move of a run keeps, and so it holds at each moment.
 use Rattle.std.proofs.Common.{◌≡◌, ℕ, zero, suc, ◌+◌, ◌<◌, Bool, true, false, not, ◌&&◌, cond, leb, List, [], ◌∷◌, length, Option, Some, None, ⊎_elim, refl, sym, ◌∙◌, subst, arith}
 use Rattle.std.proofs.lemmas.Bool.{cases_Bool, and_parts, not-true, cond-false}
-use Rattle.wbt_journal.specs.Machine.{domains}
-use Rattle.wbt_journal.specs.declared.step.StepEntry.{StepEntry}
-use Rattle.wbt_trace.specs.declared.trace.Trace.{Trace}
-use Rattle.wbt_replay_moves.specs.Definition.State.{State, cpu_of, is_drained}
-use Rattle.wbt_replay_moves.specs.Definition.Timer.{begin_timer}
-use Rattle.wbt_replay_moves.specs.declared.state.Actor.{Actor}
+use Rattle.wbt_replay_order.proofs.Common.{domains, StepEntry, Trace, State, cpu_of, is_drained, begin_timer, Actor, Cpu, Domain, Stretch, TimerTodo, Todo, opening, todo_ahead, timer_todo_ahead, ahead_of, turn_at, chance_by, chance_of, go_on, begin, with_orders, begin_or_drop, follow, next_moment, at_moment, next_turn, finish_turn, rotate_from, place_after, actor_at, seek_job, advance_by, advance, is_ended, state_at, Ending, ArePaced, StaysInRange}
 use Rattle.wbt_replay_moves.specs.declared.state.Actor.TheVariants as who
-use Rattle.wbt_replay_moves.specs.declared.state.Cpu.{Cpu}
-use Rattle.wbt_replay_moves.specs.declared.state.Domain.{Domain}
-use Rattle.wbt_replay_moves.specs.declared.state.Stretch.{Stretch}
 use Rattle.wbt_replay_moves.specs.declared.state.Stretch.TheVariants as stretch
-use Rattle.wbt_replay_moves.specs.declared.todo.TimerTodo.{TimerTodo}
 use Rattle.wbt_replay_moves.specs.declared.todo.TimerTodo.TheVariants as timer_todo
-use Rattle.wbt_replay_moves.specs.declared.todo.Todo.{Todo}
 use Rattle.wbt_replay_moves.specs.declared.todo.Todo.TheVariants as todo
-use Rattle.wbt_replay_order.specs.Definition.Opening.{opening}
 use Rattle.wbt_replay_order.specs.Definition.Order as order
-use Rattle.wbt_replay_order.specs.Definition.Order.{todo_ahead, timer_todo_ahead, ahead_of, turn_at, chance_by, chance_of, go_on, begin, with_orders, begin_or_drop, follow, next_moment, at_moment, next_turn, finish_turn, rotate_from, place_after, actor_at, seek_job, advance_by, advance, is_ended}
-use Rattle.wbt_replay_order.specs.Definition.Run.{state_at}
-use Rattle.wbt_replay_order.specs.Kept.Ending.{Ending, ArePaced}
-use Rattle.wbt_replay_order.specs.Kept.InRange.{StaysInRange}
 use Rattle.wbt_replay_order.specs.declared.chance.Ahead.{Ahead}
 use Rattle.wbt_replay_order.specs.declared.chance.Ahead.TheVariants as ahead
 use Rattle.wbt_replay_order.specs.declared.chance.Chance.{Chance}

@@ -2,33 +2,18 @@
 use Rattle.std.proofs.Common.{◌≡◌, ℕ, ◌+◌, ◌<◌, List, [], ◌∷◌, ◌++◌, length, get_or, refl, sym, subst, Option, None, Some}
 use Rattle.std.proofs.lemmas.List.{append-nil}
 use Rattle.wbt_expiry.specs.declared.due.Due.{Due}
-use Rattle.wbt_journal.specs.Machine.{domains}
+use Rattle.wbt_replay_order.proofs.Common.{domains, group_of, flusher_device, Trace, writer_of, at_turn, then_do, do_last_at, log_at, take_last, take_or_finish, finish, begin_test, domain_loads, measures_of, weighs_of, with_pairs, begin_turn, begin_for, begin_phase, State, cpu_of, with_cpu, flusher_of, task_of, with_task, queue_of, with_queue, in_phase, is_drained, waiting_of, begin_due, pause_in, begin_page, begin_work, check_items, Cpu, ReplayJob, ReplayPhase, ReplayWork, Whose, Todo, after, job_at, begin_job, begin}
 use Rattle.wbt_journal.specs.declared.entry.Entry.TheVariants as entry
-use Rattle.wbt_rules.specs.Things.{group_of, flusher_device}
 use Rattle.wbt_task.specs.declared.allowance.Due.{Due as IsDue}
 use Rattle.wbt_task.specs.declared.allowance.Due.TheVariants as due
-use Rattle.wbt_trace.specs.declared.trace.Trace.{Trace}
-use Rattle.wbt_replay_moves.specs.Definition.Check.{writer_of}
-use Rattle.wbt_replay_moves.specs.Definition.Cpu.{at_turn, then_do, do_last_at, log_at}
-use Rattle.wbt_replay_moves.specs.Definition.Idle.{take_last, take_or_finish, finish, begin_test, domain_loads, measures_of, weighs_of, with_pairs}
-use Rattle.wbt_replay_moves.specs.Definition.Perform.{begin_turn, begin_for, begin_phase}
-use Rattle.wbt_replay_moves.specs.Definition.State.{State, cpu_of, with_cpu, flusher_of, task_of, with_task, queue_of, with_queue, in_phase, is_drained, waiting_of}
-use Rattle.wbt_replay_moves.specs.Definition.Writer.{begin_due, pause_in, begin_page, begin_work, check_items}
 use Rattle.wbt_replay_moves.specs.declared.state.Actor.TheVariants as who
-use Rattle.wbt_replay_moves.specs.declared.state.Cpu.{Cpu}
-use Rattle.wbt_replay_moves.specs.declared.state.ReplayJob.{ReplayJob}
 use Rattle.wbt_replay_moves.specs.declared.state.ReplayJob.TheVariants as job
-use Rattle.wbt_replay_moves.specs.declared.state.ReplayPhase.{ReplayPhase}
 use Rattle.wbt_replay_moves.specs.declared.state.ReplayPhase.TheVariants as phase
-use Rattle.wbt_replay_moves.specs.declared.state.ReplayWork.{ReplayWork}
 use Rattle.wbt_replay_moves.specs.declared.state.ReplayWork.TheVariants as work
-use Rattle.wbt_replay_moves.specs.declared.state.Whose.{Whose}
 use Rattle.wbt_replay_moves.specs.declared.state.Whose.TheVariants as whose
 use Rattle.wbt_replay_moves.specs.declared.todo.Silent.TheVariants as silent
 use Rattle.wbt_replay_moves.specs.declared.todo.Step.TheVariants as step
-use Rattle.wbt_replay_moves.specs.declared.todo.Todo.{Todo}
 use Rattle.wbt_replay_moves.specs.declared.todo.Todo.TheVariants as todo
-use Rattle.wbt_replay_order.specs.Definition.Order.{after, job_at, begin_job, begin}
 use Rattle.wbt_replay_order.proofs.Facts.Lists.{either}
 use Rattle.wbt_replay_turns.proofs.Words.Fits.{Fits, fits_none, fits_end, fits_check, fits_write, fits_unmark, fits_look, fits_complete, fits_test}
 use Rattle.wbt_replay_turns.proofs.Words.Todos.{Todos, as_before, then_next, then_last, then_log, then_quiet}

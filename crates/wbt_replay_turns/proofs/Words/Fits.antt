@@ -1,20 +1,11 @@
 -- The items that a turn begins with come to the steps of a turn.
 use Rattle.std.proofs.Common.{◌≡◌, inl, inr, ℕ, zero, suc, ◌+◌, leb, List, [], ◌∷◌, ◌++◌, refl, ◌∙◌, ap, ⊎_elim, arith}
 use Rattle.std.proofs.lemmas.List.{append-nil, append_assoc}
-use Rattle.wbt_counter.specs.declared.counter.Counter.{Counter}
-use Rattle.wbt_counter.specs.declared.counter.Counter.TheVariants.{Domain, Context}
-use Rattle.wbt_grant.specs.declared.who.StepKind.{StepKind}
+use Rattle.wbt_replay_order.proofs.Common.{Counter, Context, StepKind, domains, ESTIMATE_AGE, Trace, domain_loads, measure, measures_of, weighs_of, State, writeback_of, check_items, Silent, Todo}
+use Rattle.wbt_counter.specs.declared.counter.Counter.TheVariants.{Domain}
 use Rattle.wbt_grant.specs.declared.who.StepKind.TheVariants as kind
-use Rattle.wbt_journal.specs.Machine.{domains}
-use Rattle.wbt_rules.specs.declared.moments.TheConstants.{ESTIMATE_AGE}
-use Rattle.wbt_trace.specs.declared.trace.Trace.{Trace}
-use Rattle.wbt_replay_moves.specs.Definition.Idle.{domain_loads, measure, measures_of, weighs_of}
-use Rattle.wbt_replay_moves.specs.Definition.State.{State, writeback_of}
-use Rattle.wbt_replay_moves.specs.Definition.Writer.{check_items}
-use Rattle.wbt_replay_moves.specs.declared.todo.Silent.{Silent}
 use Rattle.wbt_replay_moves.specs.declared.todo.Silent.TheVariants as silent
 use Rattle.wbt_replay_moves.specs.declared.todo.Step.TheVariants as step
-use Rattle.wbt_replay_moves.specs.declared.todo.Todo.{Todo}
 use Rattle.wbt_replay_moves.specs.declared.todo.Todo.TheVariants as todo
 use Rattle.wbt_replay_order.proofs.Facts.Lists.{either}
 use Rattle.wbt_turns.specs.Words.{checks, completes, counts, loads, looks, rests, tests, writes, writes_again}

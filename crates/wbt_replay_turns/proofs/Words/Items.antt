@@ -1,38 +1,16 @@
 -- Each step of a CPU's turn: its kind, and what it puts down.
 use Rattle.std.proofs.Common.{◌≡◌, inl, inr, ℕ, ◌<◌, true, false, eqb, ℤ, pos, negsuc, ◌+ℤ◌, unsigned_abs, List, [], ◌∷◌, ◌++◌, length, get_or, refl, ◌∙◌, ap, ⊎_elim}
 use Rattle.std.proofs.lemmas.List.{append-nil}
-use Rattle.wbt_book.specs.Book.{is_claimable}
-use Rattle.wbt_book.specs.PageWords.{shared_word}
+use Rattle.wbt_replay_order.proofs.Common.{is_claimable, shared_word, Counter, StepKind, batch_of, StepEntry, page_of, context_of, group_of, Trace, add, fold, clear, own_of, with_own, do_next, log_at, owed_to, complete_by, complete_in, complete_first, unmark_by, unmark_in, make_step, look_by, look_in, claim_by, claim_in, claim_now, State, cpu_of, with_cpu, flusher_of, task_of, with_event, with_task, plain_step, passed_page, count_page, dirty_by, dirty_next, dirty_page, dirty_fresh, mark, Cpu, ReplayPhase, ReplayWork, Whose, Step, Todo}
 use Rattle.wbt_book.specs.declared.event.Event.TheVariants as event
-use Rattle.wbt_counter.specs.declared.counter.Counter.{Counter}
 use Rattle.wbt_counter.specs.declared.counter.Counter.TheVariants.{Domain as ofDomain, Context as ofContext}
-use Rattle.wbt_grant.specs.declared.who.StepKind.{StepKind}
 use Rattle.wbt_grant.specs.declared.who.StepKind.TheVariants as kind
-use Rattle.wbt_journal.specs.Machine.{batch_of}
 use Rattle.wbt_journal.specs.declared.entry.Entry.TheVariants as entry
-use Rattle.wbt_journal.specs.declared.step.StepEntry.{StepEntry}
-use Rattle.wbt_rules.specs.Places.{page_of}
-use Rattle.wbt_rules.specs.Things.{context_of, group_of}
-use Rattle.wbt_trace.specs.declared.trace.Trace.{Trace}
-use Rattle.wbt_replay_moves.specs.Definition.Counters.{add, fold, clear}
-use Rattle.wbt_replay_moves.specs.Definition.Cpu.{own_of, with_own, do_next, log_at, owed_to}
-use Rattle.wbt_replay_moves.specs.Definition.Flight.{complete_by, complete_in, complete_first}
-use Rattle.wbt_replay_moves.specs.Definition.Idle.{unmark_by, unmark_in}
-use Rattle.wbt_replay_moves.specs.Definition.Perform.{make_step}
-use Rattle.wbt_replay_moves.specs.Definition.Scan.{look_by, look_in, claim_by, claim_in, claim_now}
-use Rattle.wbt_replay_moves.specs.Definition.State.{State, cpu_of, with_cpu, flusher_of, task_of, with_event, with_task, plain_step}
-use Rattle.wbt_replay_moves.specs.Definition.Writer.{passed_page, count_page, dirty_by, dirty_next, dirty_page, dirty_fresh, mark}
-use Rattle.wbt_replay_moves.specs.declared.state.Cpu.{Cpu}
-use Rattle.wbt_replay_moves.specs.declared.state.ReplayPhase.{ReplayPhase}
 use Rattle.wbt_replay_moves.specs.declared.state.ReplayPhase.TheVariants as phase
-use Rattle.wbt_replay_moves.specs.declared.state.ReplayWork.{ReplayWork}
 use Rattle.wbt_replay_moves.specs.declared.state.ReplayWork.TheVariants as work
-use Rattle.wbt_replay_moves.specs.declared.state.Whose.{Whose}
 use Rattle.wbt_replay_moves.specs.declared.state.Whose.TheVariants as whose
 use Rattle.wbt_replay_moves.specs.declared.todo.Silent.TheVariants as silent
-use Rattle.wbt_replay_moves.specs.declared.todo.Step.{Step}
 use Rattle.wbt_replay_moves.specs.declared.todo.Step.TheVariants as step
-use Rattle.wbt_replay_moves.specs.declared.todo.Todo.{Todo}
 use Rattle.wbt_replay_moves.specs.declared.todo.Todo.TheVariants as todo
 use Rattle.wbt_replay_order.proofs.Facts.Lists.{either}
 use Rattle.wbt_replay_turns.proofs.Words.Language.{StepRuns, Runs, Yields, one_of, single, split_owed}

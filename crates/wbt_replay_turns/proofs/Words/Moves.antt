@@ -5,32 +5,12 @@ use Rattle.std.proofs.lemmas.List.{append-nil, length-set, length-append, get_or
 use Rattle.std.proofs.lemmas.List.Elements.{All-nil, All-get_or}
 use mathlib.Core.Logic.{dite}
 use native.Mathlib.Decide.{ℕ_discrete}
-use Rattle.wbt_flex.specs.Proportions.{after_period}
-use Rattle.wbt_flex.specs.declared.half.Half.{Half}
-use Rattle.wbt_grant.specs.declared.who.StepKind.{StepKind}
-use Rattle.wbt_journal.specs.declared.step.StepEntry.{StepEntry}
-use Rattle.wbt_trace.specs.declared.trace.Trace.{Trace}
-use Rattle.wbt_replay_moves.specs.Definition.Perform.{make_step, make_move, make_timer_step, make_timer_move}
-use Rattle.wbt_replay_moves.specs.Definition.State.{State, no_cpu, cpu_of, with_cpu, domain_of}
-use Rattle.wbt_replay_moves.specs.Definition.Timer.{with_timer, period_to, is_time, periods}
-use Rattle.wbt_replay_moves.specs.declared.state.Actor.{Actor}
+use Rattle.wbt_replay_order.proofs.Common.{after_period, Half, StepKind, StepEntry, Trace, make_step, make_move, make_timer_step, make_timer_move, State, no_cpu, cpu_of, with_cpu, domain_of, with_timer, period_to, is_time, periods, Actor, Cpu, Silent, Step, TimerSilent, TimerStep, TimerTodo, Todo, first_cpu, first_cpus, opening, is_full, is_halted, spend, stop, cpu_on, timer_on, go_on, begin, most_moves, last_state, journal_of, Ending, StaysInRange}
 use Rattle.wbt_replay_moves.specs.declared.state.Actor.TheVariants as who
-use Rattle.wbt_replay_moves.specs.declared.state.Cpu.{Cpu}
-use Rattle.wbt_replay_moves.specs.declared.todo.Silent.{Silent}
-use Rattle.wbt_replay_moves.specs.declared.todo.Step.{Step}
-use Rattle.wbt_replay_moves.specs.declared.todo.TimerSilent.{TimerSilent}
 use Rattle.wbt_replay_moves.specs.declared.todo.TimerSilent.TheVariants as timer_silent
-use Rattle.wbt_replay_moves.specs.declared.todo.TimerStep.{TimerStep}
 use Rattle.wbt_replay_moves.specs.declared.todo.TimerStep.TheVariants as timer_step
-use Rattle.wbt_replay_moves.specs.declared.todo.TimerTodo.{TimerTodo}
 use Rattle.wbt_replay_moves.specs.declared.todo.TimerTodo.TheVariants as timer_todo
-use Rattle.wbt_replay_moves.specs.declared.todo.Todo.{Todo}
 use Rattle.wbt_replay_moves.specs.declared.todo.Todo.TheVariants as todo
-use Rattle.wbt_replay_order.specs.Definition.Opening.{first_cpu, first_cpus, opening}
-use Rattle.wbt_replay_order.specs.Definition.Order.{is_full, is_halted, spend, stop, cpu_on, timer_on, go_on, begin}
-use Rattle.wbt_replay_order.specs.Definition.Run.{most_moves, last_state, journal_of}
-use Rattle.wbt_replay_order.specs.Kept.Ending.{Ending}
-use Rattle.wbt_replay_order.specs.Kept.InRange.{StaysInRange}
 use Rattle.wbt_replay_order.proofs.Facts.Lists.{either, all_push}
 use Rattle.wbt_replay_order.proofs.Growth.Growing.{silent_move}
 use Rattle.wbt_replay_turns.specs.Laws.{EndsWell}

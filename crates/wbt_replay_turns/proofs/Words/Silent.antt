@@ -1,33 +1,13 @@
 -- Each silent move of a CPU's turn: what it puts down.
 use Rattle.std.proofs.Common.{◌⊎◌, inl, inr, ℕ, zero, suc, ◌+◌, ◌<◌, ◌||◌, Bool, false, eqb, ltb, List, [], ◌∷◌, ◌++◌, length, Option, Some, None, refl, ◌∙◌, ap, ⊎_elim}
-use Rattle.wbt_estimate.specs.Estimate.{update_of}
-use Rattle.wbt_estimate.specs.declared.estimate.Estimate.{Estimate}
+use Rattle.wbt_replay_order.proofs.Common.{update_of, Estimate, fraction_of, may_be_added, StepKind, context_of, group_of, flusher_device, max_share, FLUSHER_REST, Trace, decide_by, writer_of, log_at, then_do, estimate_to, sample_of, land_by, land_in, landed, share, share_now, share_group, part_in, with_written, take_or_rest, rest_until, test_by, with_hard, noticed, age, tested_by, take_now, make_move, close_by, close_in, close_items, is_scan_over, keep_place, hand_over_by, hand_over_in, land_empty, State, cpu_of, flusher_of, task_of, domain_of, writeback_of, queue_of, in_phase, end_by, end_now, has_nothing, ReplayPhase, ReplayTurn, Whose, Silent, Todo}
 use Rattle.wbt_expiry.specs.Waiting.{Waiting as Wheel}
-use Rattle.wbt_flex.specs.Proportions.{fraction_of, may_be_added}
-use Rattle.wbt_grant.specs.declared.who.StepKind.{StepKind}
 use Rattle.wbt_grant.specs.declared.who.StepKind.TheVariants as kind
 use Rattle.wbt_journal.specs.declared.entry.Entry.TheVariants as entry
-use Rattle.wbt_rules.specs.Things.{context_of, group_of, flusher_device, max_share}
-use Rattle.wbt_rules.specs.declared.moments.TheConstants.{FLUSHER_REST}
-use Rattle.wbt_trace.specs.declared.trace.Trace.{Trace}
-use Rattle.wbt_replay_moves.specs.Definition.Check.{decide_by, writer_of}
-use Rattle.wbt_replay_moves.specs.Definition.Cpu.{log_at, then_do}
-use Rattle.wbt_replay_moves.specs.Definition.Estimates.{estimate_to, sample_of}
-use Rattle.wbt_replay_moves.specs.Definition.Flight.{land_by, land_in, landed, share, share_now, share_group, part_in, with_written}
-use Rattle.wbt_replay_moves.specs.Definition.Idle.{take_or_rest, rest_until, test_by, with_hard, noticed, age, tested_by, take_now}
-use Rattle.wbt_replay_moves.specs.Definition.Perform.{make_move}
-use Rattle.wbt_replay_moves.specs.Definition.Scan.{close_by, close_in, close_items, is_scan_over, keep_place, hand_over_by, hand_over_in, land_empty}
-use Rattle.wbt_replay_moves.specs.Definition.State.{State, cpu_of, flusher_of, task_of, domain_of, writeback_of, queue_of, in_phase}
-use Rattle.wbt_replay_moves.specs.Definition.Writer.{end_by, end_now, has_nothing}
-use Rattle.wbt_replay_moves.specs.declared.state.ReplayPhase.{ReplayPhase}
 use Rattle.wbt_replay_moves.specs.declared.state.ReplayPhase.TheVariants as phase
-use Rattle.wbt_replay_moves.specs.declared.state.ReplayTurn.{ReplayTurn}
-use Rattle.wbt_replay_moves.specs.declared.state.Whose.{Whose}
 use Rattle.wbt_replay_moves.specs.declared.state.Whose.TheVariants as whose
-use Rattle.wbt_replay_moves.specs.declared.todo.Silent.{Silent}
 use Rattle.wbt_replay_moves.specs.declared.todo.Silent.TheVariants as silent
 use Rattle.wbt_replay_moves.specs.declared.todo.Step.TheVariants as step
-use Rattle.wbt_replay_moves.specs.declared.todo.Todo.{Todo}
 use Rattle.wbt_replay_moves.specs.declared.todo.Todo.TheVariants as todo
 use Rattle.wbt_replay_order.proofs.Facts.Ages.{noticed_kept, aged_kept}
 use Rattle.wbt_replay_order.proofs.Facts.Lists.{either}

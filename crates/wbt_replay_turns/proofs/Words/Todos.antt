@@ -1,11 +1,7 @@
 -- What CPUs have to do after a change: one has these items, and the others what they had.
 use Rattle.std.proofs.Common.{◌≡◌, ◌≢◌, ℕ, ◌<◌, List, ◌++◌, length, get_or, refl, ◌∙◌, ap, arith}
 use Rattle.std.proofs.lemmas.List.{length-set, get_or-set_same, get_or-set_other}
-use Rattle.wbt_journal.specs.declared.entry.Entry.{Entry}
-use Rattle.wbt_replay_moves.specs.Definition.Cpu.{do_next, do_last, logged, then_do, do_last_at, log_at}
-use Rattle.wbt_replay_moves.specs.Definition.State.{State, no_cpu, cpu_of, with_cpu}
-use Rattle.wbt_replay_moves.specs.declared.state.Cpu.{Cpu}
-use Rattle.wbt_replay_moves.specs.declared.todo.Todo.{Todo}
+use Rattle.wbt_replay_order.proofs.Common.{Entry, do_next, do_last, logged, then_do, do_last_at, log_at, State, no_cpu, cpu_of, with_cpu, Cpu, Todo}
 
 pub record Becomes (i : ℕ) (todos : List Todo) (cpus more : List Cpu) : Type 0 where
   pub many : length more ≡ length cpus

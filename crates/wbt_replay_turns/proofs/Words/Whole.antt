@@ -1,6 +1,5 @@
 -- The steps of each CPU and of the timer are those of turns.
-use Rattle.wbt_trace.specs.declared.trace.Trace.{Trace}
-use Rattle.wbt_replay_order.specs.Kept.InRange.{StaysInRange}
+use Rattle.wbt_replay_order.proofs.Common.{Trace, StaysInRange}
 use Rattle.wbt_replay_turns.specs.Laws.{EndsWell}
 use Rattle.wbt_replay_turns.specs.Words.{TakesTurns}
 use Rattle.wbt_replay_turns.proofs.Words.Moves.{takes_turns}

@@ -1,5 +1,5 @@
 use Rattle.std.proofs.Common.{ℕ, ◌≡◌, ◌+◌, ◌<◌, ◌==◌, count_by, drop, get_or, length}
-use Rattle.wbt_trace.specs.declared.trace.TaskLine.{TaskLine}
+use Rattle.wbt_audit_walk.proofs.Common.{TaskLine}
 use Rattle.wbt_audit.specs.Audited.{tasks_on}
 use Rattle.wbt_audit.proofs.unsettled.count_tasks.Given as goal
 

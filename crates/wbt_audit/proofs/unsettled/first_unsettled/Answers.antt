@@ -1,5 +1,5 @@
 use Rattle.std.proofs.Common.{◌<◌, true, false, get_or, length, ap, arith}
-use Rattle.wbt_journal.specs.Machine.{rests_last}
+use Rattle.wbt_audit_walk.proofs.Common.{rests_last}
 use Rattle.wbt_audit.specs.Audited.{tasks_on, unsettled_task}
 use Rattle.wbt_audit.proofs.Resting.{cpu_low, no_line, same_test, unsettled_on}
 use Rattle.wbt_audit.proofs.unsettled.first_unsettled.Goals as goal

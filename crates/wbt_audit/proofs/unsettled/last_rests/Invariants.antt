@@ -1,5 +1,5 @@
 use Rattle.std.proofs.Common.{ℕ, ◌≡◌, ◌<◌, false, drop, get_or, length}
-use Rattle.wbt_journal.specs.Machine.{rests_after, rests_last}
+use Rattle.wbt_audit_walk.proofs.Common.{rests_after, rests_last}
 use Rattle.wbt_audit.proofs.unsettled.last_rests.Given as goal
 
 abbrev pub invariant-loop-action : goal.invariant-loop-action

@@ -1,7 +1,6 @@
 use Rattle.std.proofs.Common.{[], Some, ap, ◌∙◌}
-use Rattle.wbt_journal.specs.Counts.{count_fault, folds_in, versions_after}
-use Rattle.wbt_journal.specs.Items.{all_told, items_of}
-use Rattle.wbt_journal.specs.Verdict.{counts_fault, first_cpu_line}
+use Rattle.wbt_audit_walk.proofs.Common.{count_fault, folds_in, versions_after, all_told, items_of, first_cpu_line}
+use Rattle.wbt_journal.specs.Verdict.{counts_fault}
 use Rattle.wbt_audit_reads.specs.Counting.{KeepsCounts}
 use Rattle.wbt_audit_walk.proofs.Walking.{begins_walk, step_on, stops_at, ends_walk, nearer}
 use Rattle.wbt_audit_reads.proofs.counts.counts_fault.Goals as goal

@@ -1,11 +1,8 @@
 -- So far no check was at fault.
 use Rattle.std.proofs.Common.{length}
-use Rattle.wbt_journal.specs.Counts.{count_fault, folds_in, versions_after}
-use Rattle.wbt_journal.specs.Items.{all_told}
+use Rattle.wbt_audit_walk.proofs.Common.{count_fault, folds_in, versions_after, all_told, Goes, rest}
 use Rattle.wbt_journal.specs.Verdict.{counts_fault}
 use Rattle.wbt_audit_reads.specs.Counting.{KeepsCounts}
-use Rattle.wbt_audit_walk.specs.Walking.{Goes}
-use Rattle.wbt_audit_walk.specs.Walks.{rest}
 use Rattle.wbt_audit_reads.proofs.counts.counts_fault.Given as goal
 
 abbrev pub invariant-steps : goal.invariant-steps

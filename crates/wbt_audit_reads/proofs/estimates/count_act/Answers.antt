@@ -1,4 +1,4 @@
-use Rattle.wbt_audit_walk.specs.Acts.{told_of}
+use Rattle.wbt_audit_walk.proofs.Common.{told_of}
 use Rattle.wbt_audit_reads.proofs.Estimated.{counted_none, counted_on}
 use Rattle.wbt_audit_reads.proofs.estimates.count_act.Goals as goal
 

@@ -1,7 +1,6 @@
 -- The estimates of the entries so far are counted.
 use Rattle.std.proofs.Common.{length}
-use Rattle.wbt_journal.specs.Items.{all_told}
-use Rattle.wbt_audit_walk.specs.Walks.{rest}
+use Rattle.wbt_audit_walk.proofs.Common.{all_told, rest}
 use Rattle.wbt_audit_reads.specs.Estimating.{CountsSome}
 use Rattle.wbt_audit_reads.proofs.estimates.counts_of.Given as goal
 

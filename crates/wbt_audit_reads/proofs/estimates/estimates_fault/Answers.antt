@@ -1,7 +1,7 @@
 use Rattle.std.proofs.Common.{Some, ap, ◌∙◌}
-use Rattle.wbt_journal.specs.Estimates.{estimate_fault, no_sight, opened_at, sight_after}
-use Rattle.wbt_journal.specs.Items.{all_told, items_of}
-use Rattle.wbt_journal.specs.Verdict.{estimates_fault, first_cpu_line}
+use Rattle.wbt_audit_walk.proofs.Common.{estimate_fault, opened_at, sight_after, all_told, items_of, first_cpu_line}
+use Rattle.wbt_journal.specs.Estimates.{no_sight}
+use Rattle.wbt_journal.specs.Verdict.{estimates_fault}
 use Rattle.wbt_audit_reads.specs.Estimating.{KeepsEstimates}
 use Rattle.wbt_audit_walk.proofs.Walking.{begins_walk, step_on, stops_at, ends_walk, nearer}
 use Rattle.wbt_audit_reads.proofs.estimates.estimates_fault.Goals as goal

@@ -1,11 +1,8 @@
 -- So far no line was at fault.
 use Rattle.std.proofs.Common.{length}
-use Rattle.wbt_journal.specs.Estimates.{estimate_fault, opened_at, sight_after}
-use Rattle.wbt_journal.specs.Items.{all_told}
+use Rattle.wbt_audit_walk.proofs.Common.{estimate_fault, opened_at, sight_after, all_told, Goes, rest}
 use Rattle.wbt_journal.specs.Verdict.{estimates_fault}
 use Rattle.wbt_audit_reads.specs.Estimating.{KeepsEstimates}
-use Rattle.wbt_audit_walk.specs.Walking.{Goes}
-use Rattle.wbt_audit_walk.specs.Walks.{rest}
 use Rattle.wbt_audit_reads.proofs.estimates.estimates_fault.Given as goal
 
 abbrev pub invariant-steps : goal.invariant-steps

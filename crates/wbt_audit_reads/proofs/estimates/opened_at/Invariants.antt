@@ -1,6 +1,6 @@
 -- None of the entries so far told limits.
 use Rattle.std.proofs.Common.{◌≡◌, drop}
-use Rattle.wbt_journal.specs.Estimates.{opened_at}
+use Rattle.wbt_audit_walk.proofs.Common.{opened_at}
 use Rattle.wbt_audit_reads.proofs.estimates.opened_at.Given as goal
 
 abbrev pub invariant-loop-entry : goal.invariant-loop-entry

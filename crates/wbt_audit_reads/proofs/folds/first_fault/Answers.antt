@@ -1,7 +1,5 @@
 use Rattle.std.proofs.Common.{[], Some, ap, ◌∙◌}
-use Rattle.wbt_journal.specs.Counts.{fold_fault, folds_after, folds_in}
-use Rattle.wbt_journal.specs.Items.{all_told, items_of}
-use Rattle.wbt_journal.specs.Verdict.{first_cpu_line}
+use Rattle.wbt_audit_walk.proofs.Common.{fold_fault, folds_after, folds_in, all_told, items_of, first_cpu_line}
 use Rattle.wbt_audit_reads.specs.Folding.{KeepsSeen, first_fold_fault}
 use Rattle.wbt_audit_walk.proofs.Walking.{begins_walk, step_on, stops_at, ends_walk, nearer}
 use Rattle.wbt_audit_reads.proofs.folds.first_fault.Goals as goal

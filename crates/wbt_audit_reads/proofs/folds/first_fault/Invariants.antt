@@ -1,10 +1,7 @@
 -- So far no fold was at fault.
 use Rattle.std.proofs.Common.{length}
-use Rattle.wbt_journal.specs.Counts.{fold_fault, folds_after, folds_in}
-use Rattle.wbt_journal.specs.Items.{all_told}
+use Rattle.wbt_audit_walk.proofs.Common.{fold_fault, folds_after, folds_in, all_told, Goes, rest}
 use Rattle.wbt_audit_reads.specs.Folding.{KeepsSeen, first_fold_fault}
-use Rattle.wbt_audit_walk.specs.Walking.{Goes}
-use Rattle.wbt_audit_walk.specs.Walks.{rest}
 use Rattle.wbt_audit_reads.proofs.folds.first_fault.Given as goal
 
 abbrev pub invariant-steps : goal.invariant-steps

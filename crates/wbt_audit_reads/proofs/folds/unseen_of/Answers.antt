@@ -1,7 +1,6 @@
 use Rattle.std.proofs.Common.{◌+◌, Bool, false, List, [], replicate, length, ◌∙◌, ap}
 use Rattle.std.proofs.lemmas.List.{length-replicate, take_all}
-use Rattle.wbt_journal.specs.Counts.{of_counter}
-use Rattle.wbt_audit_walk.specs.Rows.{row_of}
+use Rattle.wbt_audit_walk.proofs.Common.{of_counter, row_of}
 use Rattle.wbt_audit_reads.proofs.Folded.{none_made, made_on}
 use Rattle.wbt_audit_reads.proofs.folds.unseen_of.Goals as goal
 

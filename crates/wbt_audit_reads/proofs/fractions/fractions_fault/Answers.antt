@@ -1,9 +1,6 @@
 use Rattle.std.proofs.Common.{[], Some, ap, sym, subst, ◌∙◌}
-use Rattle.wbt_journal.specs.Counts.{CountsAreSums, folds_in}
-use Rattle.wbt_journal.specs.Each.{Each}
-use Rattle.wbt_journal.specs.Items.{all_told, items_of}
-use Rattle.wbt_journal.specs.Reads.{fraction_fault, periods_after}
-use Rattle.wbt_journal.specs.Verdict.{first_cpu_line, fractions_fault}
+use Rattle.wbt_audit_walk.proofs.Common.{CountsAreSums, folds_in, Each, all_told, items_of, fraction_fault, periods_after, first_cpu_line}
+use Rattle.wbt_journal.specs.Verdict.{fractions_fault}
 use Rattle.wbt_journal.proofs.Verdicts.{each_is_right}
 use Rattle.wbt_audit_reads.specs.Fractioning.{KeepsFractions}
 use Rattle.wbt_audit_reads.proofs.Fractioned.{rises}

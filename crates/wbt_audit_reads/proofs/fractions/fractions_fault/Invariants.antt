@@ -1,13 +1,8 @@
 -- So far no line was at fault, and of what is still to come all counts are sums.
 use Rattle.std.proofs.Common.{length}
-use Rattle.wbt_journal.specs.Counts.{CountsAreSums, folds_in}
-use Rattle.wbt_journal.specs.Each.{Each}
-use Rattle.wbt_journal.specs.Items.{all_told}
-use Rattle.wbt_journal.specs.Reads.{fraction_fault, periods_after}
+use Rattle.wbt_audit_walk.proofs.Common.{CountsAreSums, folds_in, Each, all_told, fraction_fault, periods_after, Goes, rest}
 use Rattle.wbt_journal.specs.Verdict.{fractions_fault}
 use Rattle.wbt_audit_reads.specs.Fractioning.{KeepsFractions}
-use Rattle.wbt_audit_walk.specs.Walking.{Goes}
-use Rattle.wbt_audit_walk.specs.Walks.{rest}
 use Rattle.wbt_audit_reads.proofs.fractions.fractions_fault.Given as goal
 
 abbrev pub invariant-steps : goal.invariant-steps

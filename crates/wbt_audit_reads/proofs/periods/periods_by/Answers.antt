@@ -1,7 +1,6 @@
 use Rattle.std.proofs.Common.{ℕ, List, [], ◌∷◌, length, ◌∙◌, ap}
 use Rattle.std.proofs.lemmas.List.{length-replicate, take_all}
-use Rattle.wbt_journal.specs.Reads.{periods_from}
-use Rattle.wbt_audit_walk.specs.Rows.{row_of}
+use Rattle.wbt_audit_walk.proofs.Common.{periods_from, row_of}
 use Rattle.wbt_audit_reads.proofs.Perioded.{periods_first, periods_on}
 use Rattle.wbt_audit_reads.proofs.periods.periods_by.Goals as goal
 

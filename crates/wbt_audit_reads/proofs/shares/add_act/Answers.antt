@@ -1,4 +1,4 @@
-use Rattle.wbt_audit_walk.specs.Acts.{told_of}
+use Rattle.wbt_audit_walk.proofs.Common.{told_of}
 use Rattle.wbt_audit_reads.proofs.Shared.{added_none, added_on, on_ok}
 use Rattle.wbt_audit_reads.proofs.shares.add_act.Goals as goal
 

@@ -1,7 +1,6 @@
 use Rattle.std.proofs.Common.{[], ◌++◌, replicate, ap, sym, subst, ◌∙◌, append_assoc, append-nil}
-use Rattle.wbt_audit_walk.specs.Acts.{told_by}
+use Rattle.wbt_audit_walk.proofs.Common.{told_by, rest, told_in}
 use Rattle.wbt_audit_reads.specs.Sharing.{AreAdded}
-use Rattle.wbt_audit_walk.specs.Walks.{rest, told_in}
 use Rattle.wbt_audit_reads.proofs.Shared.{added_first}
 use Rattle.wbt_audit_walk.proofs.Gathered.{told_in-items, told_in-shown}
 use Rattle.wbt_audit_walk.proofs.Walking.{nearer}

@@ -1,8 +1,7 @@
 -- The shares of the entries so far are added.
 use Rattle.std.proofs.Common.{length}
-use Rattle.wbt_journal.specs.Items.{all_told}
+use Rattle.wbt_audit_walk.proofs.Common.{all_told, rest}
 use Rattle.wbt_audit_reads.specs.Sharing.{AddsSomeActs}
-use Rattle.wbt_audit_walk.specs.Walks.{rest}
 use Rattle.wbt_audit_reads.proofs.shares.added_by.Given as goal
 
 abbrev pub invariant-steps : goal.invariant-steps

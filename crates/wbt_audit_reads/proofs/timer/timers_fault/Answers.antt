@@ -1,5 +1,5 @@
 use Rattle.std.proofs.Common.{ap, sym, ◌∙◌, true, false, Some}
-use Rattle.wbt_journal.specs.Estimates.{opened_at}
+use Rattle.wbt_audit_walk.proofs.Common.{opened_at}
 use Rattle.wbt_audit_reads.proofs.Timed.{begin_entries, entry_on, entry_stops, stopped, ended}
 use Rattle.wbt_audit_reads.proofs.timer.timers_fault.Goals as goal
 

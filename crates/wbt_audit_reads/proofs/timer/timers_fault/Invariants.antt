@@ -1,5 +1,5 @@
 -- So far no entry was at fault.
-use Rattle.wbt_journal.specs.Estimates.{opened_at}
+use Rattle.wbt_audit_walk.proofs.Common.{opened_at}
 use Rattle.wbt_audit_reads.specs.Timing.{Goes}
 use Rattle.wbt_audit_reads.proofs.timer.timers_fault.Given as goal
 

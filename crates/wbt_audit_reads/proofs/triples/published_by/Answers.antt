@@ -1,8 +1,7 @@
 use Rattle.std.proofs.Common.{List, [], length, ◌∙◌, ap}
 use Rattle.std.proofs.lemmas.List.{length-replicate, take_all}
 use Rattle.wbt_journal.specs.Reads.{triples_of}
-use Rattle.wbt_num.specs.declared.limits.Limits.{Limits}
-use Rattle.wbt_audit_walk.specs.Rows.{row_of}
+use Rattle.wbt_audit_walk.proofs.Common.{Limits, row_of}
 use Rattle.wbt_audit_reads.proofs.Tripled.{none_published, published_on}
 use Rattle.wbt_audit_reads.proofs.triples.published_by.Goals as goal
 

@@ -1,9 +1,6 @@
 use Rattle.std.proofs.Common.{[], Some, ap, sym, subst, ◌∙◌}
-use Rattle.wbt_journal.specs.Counts.{CountsAreSums, folds_in}
-use Rattle.wbt_journal.specs.Each.{Each}
-use Rattle.wbt_journal.specs.Items.{all_told, items_of}
-use Rattle.wbt_journal.specs.Reads.{triple_fault, triples_after}
-use Rattle.wbt_journal.specs.Verdict.{first_cpu_line, triples_fault}
+use Rattle.wbt_audit_walk.proofs.Common.{CountsAreSums, folds_in, Each, all_told, items_of, triple_fault, triples_after, first_cpu_line}
+use Rattle.wbt_journal.specs.Verdict.{triples_fault}
 use Rattle.wbt_journal.proofs.Verdicts.{each_is_right}
 use Rattle.wbt_audit_reads.specs.Reading.{KeepsTriples}
 use Rattle.wbt_audit_walk.proofs.Walking.{begins_walk, step_on, stops_at, ends_walk, nearer}

@@ -1,5 +1,5 @@
 use Rattle.std.proofs.Common.{◌≡◌, true}
-use Rattle.wbt_journal.specs.Leaves.{is_bounded}
+use Rattle.wbt_audit_walk.proofs.Common.{is_bounded}
 use Rattle.wbt_audit_turns.proofs.bound.bound_fault.Given as goal
 
 abbrev pub invariant-loop-domain : goal.invariant-loop-domain

@@ -3,7 +3,7 @@ use Rattle.std.proofs.lemmas.List.Sums.{count_by-le-length}
 use Rattle.wbt_trace.specs.declared.writers.Writer.{Writer}
 use Rattle.wbt_journal.specs.Leaves.{is_inside}
 use Rattle.wbt_journal.specs.Machine.{context_domain}
-use Rattle.wbt_journal.specs.Side.{all_writers}
+use Rattle.wbt_audit_walk.proofs.Common.{all_writers}
 use Rattle.wbt_journal.proofs.Few.{few_writers}
 use Rattle.wbt_audit_turns.proofs.bound.fixed_part.Goals as goal
 

@@ -1,5 +1,5 @@
 use Rattle.std.proofs.Common.{◌∙◌, subst}
-use Rattle.wbt_trace.specs.declared.trace.Trace.{Trace}
+use Rattle.wbt_audit_walk.proofs.Common.{Trace}
 use Rattle.wbt_audit_turns.specs.Judging.{IsJudgeOf}
 use Rattle.wbt_audit_walk.proofs.Walking.{nearer}
 use Rattle.wbt_audit_turns.proofs.Checking.{begins_passed, goes_passed, stops_passed, ends_decided, ends_standing}

@@ -1,5 +1,5 @@
 use Rattle.std.proofs.Common.{◌≡◌, replicate}
-use Rattle.wbt_rules.specs.declared.moments.TheConstants.{MOST_FAULTS}
+use Rattle.wbt_audit_walk.proofs.Common.{MOST_FAULTS}
 use Rattle.wbt_audit_turns.proofs.ending.all_chances.Given as goal
 
 abbrev pub invariant-loop-flusher : goal.invariant-loop-flusher

@@ -1,10 +1,6 @@
 use Rattle.std.proofs.Common.{List, sym, ap, ◌∙◌}
 use Rattle.std.specs.List.{list_any}
-use Rattle.wbt_journal.specs.declared.entry.CpuJournal.{CpuJournal}
-use Rattle.wbt_journal.specs.declared.journal.Left.{Left}
-use Rattle.wbt_journal.specs.Items.{all_told, parts_of}
-use Rattle.wbt_journal.specs.Leaves.{has_all_steps, is_nothing}
-use Rattle.wbt_journal.specs.Told.{told}
+use Rattle.wbt_audit_walk.proofs.Common.{CpuJournal, Left, all_told, parts_of, has_all_steps, is_nothing, told}
 use Rattle.wbt_audit_turns.proofs.Working.{some_zero, all_zero, ends_failed, ends_done, ends_halted, ends_spent, ends_faulted, and_first, and_none}
 use Rattle.wbt_audit_turns.proofs.ending.ends.Goals as goal
 

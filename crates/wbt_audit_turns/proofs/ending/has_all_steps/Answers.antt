@@ -1,6 +1,6 @@
 use Rattle.std.proofs.Common.{ℕ, List, sym, ap, ◌∙◌, nat_le, count_by}
 use Rattle.wbt_num.specs.declared.most.TheConstants.{MOST_PAGE_STEPS}
-use Rattle.wbt_journal.specs.declared.entry.Entry.{Entry}
+use Rattle.wbt_audit_walk.proofs.Common.{Entry}
 use Rattle.wbt_audit_turns.specs.Worked.{is_step_entry}
 use Rattle.wbt_audit_turns.proofs.Working.{steps_of}
 use Rattle.wbt_audit_turns.proofs.ending.has_all_steps.Goals as goal

@@ -1,4 +1,4 @@
-use Rattle.wbt_audit_walk.specs.Acts.{told_of}
+use Rattle.wbt_audit_walk.proofs.Common.{told_of}
 use Rattle.wbt_audit_turns.proofs.Working.{page_written, disk_failed}
 use Rattle.wbt_audit_turns.proofs.ending.pass.Goals as goal
 

@@ -1,5 +1,5 @@
 use Rattle.std.proofs.Common.{ℕ, ◌≡◌, ◌+◌, ◌<◌, drop, flat_map, get_or, length}
-use Rattle.wbt_journal.specs.Machine.{pages_of_action, pages_of_task}
+use Rattle.wbt_audit_walk.proofs.Common.{pages_of_action, pages_of_task}
 use Rattle.wbt_audit_turns.proofs.ending.plan_all.Given as goal
 
 abbrev pub invariant-loop-action : goal.invariant-loop-action

@@ -1,7 +1,5 @@
 use Rattle.std.proofs.Common.{ap, sym, subst, List, ◌∙◌}
-use Rattle.wbt_journal.specs.Items.{Item, all_told}
-use Rattle.wbt_journal.specs.Told.{Told}
-use Rattle.wbt_audit_walk.specs.Walks.{rest, told_in}
+use Rattle.wbt_audit_walk.proofs.Common.{Item, all_told, Told, rest, told_in}
 use Rattle.wbt_audit_turns.specs.Worked.{AreLeft, HaveChances}
 use Rattle.wbt_audit_walk.proofs.Gathered.{told_in-items, told_in-shown}
 use Rattle.wbt_audit_walk.proofs.Walking.{nearer}

@@ -1,6 +1,5 @@
 use Rattle.std.proofs.Common.{length}
-use Rattle.wbt_journal.specs.Items.{all_told}
-use Rattle.wbt_audit_walk.specs.Walks.{rest, told_in}
+use Rattle.wbt_audit_walk.proofs.Common.{all_told, rest, told_in}
 use Rattle.wbt_audit_turns.specs.Worked.{AreLeft, HaveChances}
 use Rattle.wbt_audit_turns.proofs.ending.work.Given as goal
 

@@ -1,5 +1,5 @@
 use Rattle.std.proofs.Common.{◌≡◌, ◌++◌, map, take, drop}
-use Rattle.wbt_journal.specs.Flights.{ToldFlusher, new_flusher}
+use Rattle.wbt_audit_walk.proofs.Common.{ToldFlusher, new_flusher}
 use Rattle.wbt_audit_turns.proofs.flights.begin_all.Given as goal
 
 abbrev pub invariant-loop-flusher : goal.invariant-loop-flusher

@@ -1,9 +1,6 @@
 use Rattle.std.proofs.Common.{◌≡◌, ◌+◌, List, Some, sym, ap, ◌∙◌, arith}
-use Rattle.wbt_journal.specs.Flights.{ToldFlusher, first_flushers, flushers_after}
-use Rattle.wbt_journal.specs.Items.{items_of}
-use Rattle.wbt_journal.specs.Verdict.{first_cpu_line, flights_fault, turn_fault}
-use Rattle.wbt_journal.specs.Walk.{unless}
-use Rattle.wbt_audit_walk.specs.Walks.{item_of}
+use Rattle.wbt_audit_walk.proofs.Common.{ToldFlusher, first_flushers, flushers_after, items_of, first_cpu_line, turn_fault, unless, item_of}
+use Rattle.wbt_journal.specs.Verdict.{flights_fault}
 use Rattle.wbt_audit_turns.proofs.Flying.{none_flown, count_flown, judged}
 use Rattle.wbt_audit_walk.proofs.Walking.{begins_walk, step_on, stops_at, ends_walk, nearer}
 use Rattle.wbt_audit_turns.proofs.flights.walk_fault.Goals as goal

@@ -1,8 +1,6 @@
 use Rattle.std.proofs.Common.{◌≡◌, length, List}
-use Rattle.wbt_journal.specs.Flights.{ToldFlusher, flushers_after}
-use Rattle.wbt_journal.specs.Verdict.{flights_fault, turn_fault}
-use Rattle.wbt_audit_walk.specs.Walking.{Goes}
-use Rattle.wbt_audit_walk.specs.Walks.{rest}
+use Rattle.wbt_audit_walk.proofs.Common.{ToldFlusher, flushers_after, turn_fault, Goes, rest}
+use Rattle.wbt_journal.specs.Verdict.{flights_fault}
 use Rattle.wbt_audit_turns.proofs.flights.walk_fault.Given as goal
 
 abbrev pub invariant-steps : goal.invariant-steps

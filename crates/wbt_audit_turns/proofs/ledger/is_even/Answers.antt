@@ -1,10 +1,6 @@
 use Rattle.std.proofs.Common.{ap, subst, List, ◌∙◌, length}
-use Rattle.wbt_journal.specs.declared.journal.Left.{Left}
-use Rattle.wbt_journal.specs.Leaves.{is_even_below}
-use Rattle.wbt_journal.specs.Items.{Item, all_told}
-use Rattle.wbt_journal.specs.Told.{Told}
+use Rattle.wbt_audit_walk.proofs.Common.{Left, is_even_below, Item, all_told, Told, rest, told_in}
 use Rattle.wbt_audit_turns.specs.Balanced.{Tallied}
-use Rattle.wbt_audit_walk.specs.Walks.{rest, told_in}
 use Rattle.wbt_audit_turns.proofs.Balancing.{begun, even_at}
 use Rattle.wbt_audit_walk.proofs.Gathered.{told_in-items, told_in-shown}
 use Rattle.wbt_audit_walk.proofs.Walking.{nearer}

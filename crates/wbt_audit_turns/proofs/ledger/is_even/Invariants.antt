@@ -1,7 +1,6 @@
 use Rattle.std.proofs.Common.{length}
-use Rattle.wbt_journal.specs.Items.{all_told}
+use Rattle.wbt_audit_walk.proofs.Common.{all_told, rest, told_in}
 use Rattle.wbt_audit_turns.specs.Balanced.{Tallied}
-use Rattle.wbt_audit_walk.specs.Walks.{rest, told_in}
 use Rattle.wbt_audit_turns.proofs.ledger.is_even.Given as goal
 
 abbrev pub invariant-steps : goal.invariant-steps

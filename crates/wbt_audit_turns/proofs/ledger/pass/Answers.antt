@@ -1,4 +1,4 @@
-use Rattle.wbt_audit_walk.specs.Acts.{told_of}
+use Rattle.wbt_audit_walk.proofs.Common.{told_of}
 use Rattle.wbt_audit_turns.proofs.Balancing.{entered}
 use Rattle.wbt_audit_turns.proofs.ledger.pass.Goals as goal
 

@@ -1,6 +1,5 @@
 use Rattle.std.proofs.Common.{◌≡◌, ◌<◌, ◌+◌, ℕ, List, ◌∷◌, length, get_or, drop, sym, ap, ◌∙◌, refl, add-one, drop-cons}
-use Rattle.wbt_journal.specs.Estimates.{opened_at}
-use Rattle.wbt_journal.specs.declared.timer.TimerEntry.{TimerEntry}
+use Rattle.wbt_audit_walk.proofs.Common.{opened_at, TimerEntry}
 use Rattle.wbt_journal.specs.declared.timer.TimerEntry.TheVariants as timer
 use Rattle.wbt_audit_turns.proofs.machine.opened_at.Goals as goal
 

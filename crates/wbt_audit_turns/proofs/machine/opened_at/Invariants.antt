@@ -1,5 +1,5 @@
 use Rattle.std.proofs.Common.{◌≡◌, drop}
-use Rattle.wbt_journal.specs.Estimates.{opened_at}
+use Rattle.wbt_audit_walk.proofs.Common.{opened_at}
 use Rattle.wbt_audit_turns.proofs.machine.opened_at.Given as goal
 
 abbrev pub invariant-loop-entry : goal.invariant-loop-entry

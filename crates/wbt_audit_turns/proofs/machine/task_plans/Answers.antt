@@ -1,10 +1,8 @@
 use Rattle.std.proofs.Common.{◌≡◌, ◌<◌, ◌+◌, ℕ, List, ◌∷◌, length, get_or, set, drop, flat_map, sym, ap, ◌∙◌, subst, refl, add-one, drop-cons}
 use Rattle.std.proofs.lemmas.List.{length-set, get_or_read}
 use Rattle.wbt_trace.specs.Lawful.{IsAction}
-use Rattle.wbt_trace.specs.declared.trace.Action.{Action}
+use Rattle.wbt_audit_walk.proofs.Common.{Action, Inode, pages_of_action, rests_after}
 use Rattle.wbt_trace.specs.declared.trace.Action.TheVariants as action
-use Rattle.wbt_trace.specs.declared.trace.Inode.{Inode}
-use Rattle.wbt_journal.specs.Machine.{pages_of_action, rests_after}
 use Rattle.wbt_audit_turns.specs.Plans.{by_of, seen_more}
 use Rattle.wbt_audit_turns.specs.Sides.{no_plan}
 use Rattle.wbt_audit_turns.specs.declared.machine.TaskPlan.{TaskPlan}

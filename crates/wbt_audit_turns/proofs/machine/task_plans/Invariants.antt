@@ -1,5 +1,5 @@
 use Rattle.std.proofs.Common.{ℕ, ◌≡◌, ◌<◌, ◌+◌, length, get_or, drop, flat_map}
-use Rattle.wbt_journal.specs.Machine.{pages_of_action, pages_of_task, rests_after, rests_last}
+use Rattle.wbt_audit_walk.proofs.Common.{pages_of_action, pages_of_task, rests_after, rests_last}
 use Rattle.wbt_audit_turns.specs.Sides.{no_plan}
 use Rattle.wbt_audit_turns.proofs.machine.task_plans.Given as goal
 

@@ -1,5 +1,5 @@
 use Rattle.std.proofs.Common.{◌≡◌, ◌≤◌, length, ap, sym, ◌∙◌, subst, arith}
-use Rattle.wbt_journal.specs.Side.{all_writers}
+use Rattle.wbt_audit_walk.proofs.Common.{all_writers}
 use Rattle.wbt_audit_turns.specs.Naming.{AreInRange}
 use Rattle.wbt_journal.proofs.Few.{few_writers}
 use Rattle.wbt_audit_turns.proofs.Numbering.{in_range}

@@ -1,5 +1,5 @@
 use Rattle.std.proofs.Common.{ℕ, ◌+◌, ◌++◌, List, drop, sym, ap, ◌∙◌}
-use Rattle.wbt_journal.specs.Side.{numbers_from}
+use Rattle.wbt_audit_walk.proofs.Common.{numbers_from}
 use Rattle.wbt_audit_turns.proofs.Numbering.{with_number, without_number, no_number}
 use Rattle.wbt_audit_turns.proofs.numbers.numbers_of_task.Goals as goal
 use Rattle.wbt_audit_turns.proofs.numbers.numbers_of_task.Goals.{then-names-number+in_ok-push, else-names-number}

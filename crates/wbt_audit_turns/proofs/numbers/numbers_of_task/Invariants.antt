@@ -1,5 +1,5 @@
 use Rattle.std.proofs.Common.{◌≡◌, ◌++◌, drop}
-use Rattle.wbt_journal.specs.Side.{numbers_from}
+use Rattle.wbt_audit_walk.proofs.Common.{numbers_from}
 use Rattle.wbt_audit_turns.proofs.numbers.numbers_of_task.Given as goal
 
 abbrev pub invariant-loop-number : goal.invariant-loop-number

@@ -1,5 +1,5 @@
 use Rattle.std.proofs.Common.{ℕ, ◌≡◌, ◌<◌, [], length, get_or}
-use Rattle.wbt_journal.specs.Side.{numbers_from}
+use Rattle.wbt_audit_walk.proofs.Common.{numbers_from}
 use Rattle.wbt_audit_turns.proofs.numbers.numbers_of_tasks.Given as goal
 
 abbrev pub invariant-loop-task : goal.invariant-loop-task

@@ -1,7 +1,6 @@
 use Rattle.std.proofs.Common.{◌≡◌, ℕ, ◌+◌, ◌-◌, ◌*◌, length, drop, sym, ap, ◌∙◌, arith}
 use Rattle.std.proofs.lemmas.List.{length-set, drop_all}
-use Rattle.wbt_num.specs.declared.most.TheConstants.{MOST_CONTEXTS}
-use Rattle.wbt_journal.specs.Side.{number_from}
+use Rattle.wbt_audit_walk.proofs.Common.{MOST_CONTEXTS, number_from}
 use Rattle.wbt_audit_turns.proofs.Numbering.{numbered}
 use Rattle.wbt_audit_turns.proofs.numbers.table_of.Goals as goal
 

@@ -1,6 +1,6 @@
 use Rattle.std.proofs.Common.{ℕ, ◌≡◌, ◌<◌, ◌≤◌, ◌+◌, ◌*◌, length, get_or, drop}
-use Rattle.wbt_num.specs.declared.most.TheConstants.{MOST_CONTEXTS, MOST_TASKS}
-use Rattle.wbt_journal.specs.Side.{number_from}
+use Rattle.wbt_audit_walk.proofs.Common.{MOST_CONTEXTS, number_from}
+use Rattle.wbt_num.specs.declared.most.TheConstants.{MOST_TASKS}
 use Rattle.wbt_audit_turns.proofs.numbers.table_of.Given as goal
 
 abbrev pub invariant-loop-number : goal.invariant-loop-number

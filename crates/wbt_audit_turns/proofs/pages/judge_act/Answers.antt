@@ -1,5 +1,5 @@
 use Rattle.std.proofs.Common.{sym, ◌∙◌}
-use Rattle.wbt_audit_walk.specs.Acts.{told_of}
+use Rattle.wbt_audit_walk.proofs.Common.{told_of}
 use Rattle.wbt_audit_turns.specs.Written.{ShowsWritten}
 use Rattle.wbt_audit_turns.proofs.Planning.{check_passes, check_strange, none_else, other_judged}
 use Rattle.wbt_audit_turns.proofs.pages.judge_act.Goals as goal

@@ -1,10 +1,5 @@
 use Rattle.std.proofs.Common.{[], length}
-use Rattle.wbt_journal.specs.Items.{item_size, items_of}
-use Rattle.wbt_journal.specs.Pages.{page_fault, writes_after}
-use Rattle.wbt_journal.specs.Verdict.{first_cpu_line}
-use Rattle.wbt_journal.specs.Walk.{first_fault}
-use Rattle.wbt_audit_walk.specs.Walking.{Goes}
-use Rattle.wbt_audit_walk.specs.Walks.{rest}
+use Rattle.wbt_audit_walk.proofs.Common.{item_size, items_of, page_fault, writes_after, first_cpu_line, first_fault, Goes, rest}
 use Rattle.wbt_audit_turns.specs.Written.{ShowsWritten}
 use Rattle.wbt_audit_turns.proofs.pages.walk_fault.Given as goal
 

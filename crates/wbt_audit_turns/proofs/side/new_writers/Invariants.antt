@@ -1,5 +1,5 @@
 use Rattle.std.proofs.Common.{◌≡◌, replicate}
-use Rattle.wbt_task.specs.History.{new_writer}
+use Rattle.wbt_audit_walk.proofs.Common.{new_writer}
 use Rattle.wbt_audit_turns.proofs.side.new_writers.Given as goal
 
 abbrev pub invariant-loop-number : goal.invariant-loop-number

@@ -1,10 +1,8 @@
 use Rattle.std.proofs.Common.{rules, ◌≡◌, sym, ap, subst}
-use Rattle.wbt_journal.specs.Items.{items_of, parts_of}
-use Rattle.wbt_journal.specs.Verdict.{waits_fault, first_cpu_line}
-use Rattle.wbt_journal.specs.Waits.{first_lists, lists_after, wait_fault}
-use Rattle.wbt_journal.specs.Walk.{unless}
+use Rattle.wbt_audit_walk.proofs.Common.{items_of, parts_of, first_cpu_line, first_lists, lists_after, wait_fault, unless, Shows, rest}
+use Rattle.wbt_journal.specs.Verdict.{waits_fault}
 use Rattle.wbt_audit_turns.specs.Waited.{AreOf, Keep}
-use Rattle.wbt_audit_walk.specs.Walks.{Shows, Went, rest}
+use Rattle.wbt_audit_walk.specs.Walks.{Went}
 use Rattle.wbt_audit_turns.proofs.Waiting.{all_of, first_kept, next_of}
 use Rattle.wbt_audit_walk.proofs.Walking.{begins_walk, step_on, nearer}
 use Rattle.wbt_audit_turns.proofs.waits.waits_fault.Goals as goal

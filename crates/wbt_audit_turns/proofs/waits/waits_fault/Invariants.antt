@@ -1,9 +1,7 @@
 use Rattle.std.proofs.Common.{length}
-use Rattle.wbt_journal.specs.Waits.{lists_after, wait_fault}
+use Rattle.wbt_audit_walk.proofs.Common.{lists_after, wait_fault, Goes, rest}
 use Rattle.wbt_journal.specs.Verdict.{waits_fault}
 use Rattle.wbt_audit_turns.specs.Waited.{AreListsOf, AreOf, Keep}
-use Rattle.wbt_audit_walk.specs.Walking.{Goes}
-use Rattle.wbt_audit_walk.specs.Walks.{rest}
 use Rattle.wbt_audit_turns.proofs.waits.waits_fault.Given as goal
 
 abbrev pub invariant-loop-lists : goal.invariant-loop-lists

@@ -1,7 +1,5 @@
 use Rattle.std.proofs.Common.{◌∙◌, ap, flat_map}
-use Rattle.wbt_journal.specs.Counts.{fold_in, folds_in}
-use Rattle.wbt_journal.specs.Items.{all_told}
-use Rattle.wbt_audit_walk.specs.Walks.{rest, told_in}
+use Rattle.wbt_audit_walk.proofs.Common.{fold_in, folds_in, all_told, rest, told_in}
 use Rattle.wbt_audit_walk.proofs.Gathered.{told_in-items, gathered, all_gathered}
 use Rattle.wbt_audit_walk.proofs.Walking.{nearer}
 use Rattle.wbt_audit_walk.proofs.gather.folds_of.Goals as goal

@@ -1,8 +1,6 @@
 -- What has been gathered, with the folds of what is still to come, is all.
 use Rattle.std.proofs.Common.{◌≡◌, ◌++◌, flat_map, length}
-use Rattle.wbt_journal.specs.Counts.{fold_in, folds_in}
-use Rattle.wbt_journal.specs.Items.{all_told}
-use Rattle.wbt_audit_walk.specs.Walks.{rest, told_in}
+use Rattle.wbt_audit_walk.proofs.Common.{fold_in, folds_in, all_told, rest, told_in}
 use Rattle.wbt_audit_walk.proofs.gather.folds_of.Given as goal
 
 abbrev pub invariant-steps : goal.invariant-steps

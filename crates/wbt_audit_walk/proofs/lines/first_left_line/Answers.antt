@@ -1,8 +1,7 @@
 use Rattle.std.proofs.Common.{ℕ, ◌+◌, refl, sym, ap, ◌∙◌}
 use Rattle.std.specs.List.{sum_by}
-use Rattle.wbt_journal.specs.Items.{item_size}
+use Rattle.wbt_audit_walk.proofs.Common.{item_size, rest}
 use Rattle.wbt_journal.specs.Verdict as spec
-use Rattle.wbt_audit_walk.specs.Walks.{rest}
 use Rattle.wbt_audit_walk.proofs.Telling.{line_behind, line_end}
 use Rattle.wbt_audit_walk.proofs.lines.first_left_line.Goals as goal
 

@@ -1,8 +1,7 @@
 use Rattle.std.proofs.Common.{◌≡◌, ◌+◌, length}
 use Rattle.std.specs.List.{sum_by}
-use Rattle.wbt_journal.specs.Items.{item_size}
+use Rattle.wbt_audit_walk.proofs.Common.{item_size, rest}
 use Rattle.wbt_journal.specs.Verdict as spec
-use Rattle.wbt_audit_walk.specs.Walks.{rest}
 use Rattle.wbt_audit_walk.proofs.lines.first_left_line.Given as goal
 
 abbrev pub invariant-steps : goal.invariant-steps

@@ -1,6 +1,5 @@
 use Rattle.std.proofs.Common.{sym, ap, ◌∙◌}
-use Rattle.wbt_journal.specs.Told.{told_entry}
-use Rattle.wbt_audit_walk.specs.Acts.{told_of, told_by}
+use Rattle.wbt_audit_walk.proofs.Common.{told_entry, told_of, told_by}
 use Rattle.wbt_audit_walk.proofs.Picking.{first_told}
 use Rattle.wbt_audit_walk.proofs.walk.first_act.Goals as goal
 

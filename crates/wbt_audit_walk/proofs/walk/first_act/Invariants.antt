@@ -1,5 +1,5 @@
 use Rattle.std.proofs.Common.{◌≡◌, [], take, flat_map}
-use Rattle.wbt_journal.specs.Told.{told_entry}
+use Rattle.wbt_audit_walk.proofs.Common.{told_entry}
 use Rattle.wbt_audit_walk.proofs.walk.first_act.Given as goal
 
 -- the entries so far told nothing

@@ -1,7 +1,6 @@
 use Rattle.std.proofs.Common.{◌≡◌, List, length, sym, subst, arith}
-use Rattle.wbt_expiry.specs.Waiting.{AreInOrder, Each}
-use Rattle.wbt_expiry.specs.declared.due.Due.{Due}
-use Rattle.wbt_flusher.specs.Plans.{IsInode}
+use Rattle.wbt_flusher.proofs.Common.{AreInOrder, Due, IsInode}
+use Rattle.wbt_expiry.specs.Waiting.{Each}
 use Rattle.wbt_flusher.proofs.Ageing.{none_in_order}
 use Rattle.wbt_flusher.proofs.opening.make_wheel.Goals as goal
 

@@ -1,8 +1,7 @@
 use Rattle.std.proofs.Common.{◌≡◌, ◌+◌, ◌<◌, List, length, sym, ap, ◌∙◌, subst, arith, false}
 use Rattle.std.specs.Prelude.{None, slice_index_or}
-use Rattle.wbt_trace.specs.Sofar.{least_shares}
-use Rattle.wbt_trace.specs.declared.trace.Device.{Device}
-use Rattle.wbt_trace.specs.declared.trace.FlusherLine.{FlusherLine}
+use Rattle.wbt_flusher.proofs.Common.{Device, FlusherLine}
+use Rattle.wbt_kit.proofs.Common.{least_shares}
 use Rattle.wbt_flusher.proofs.Founding.{lawful_plan, traced_plan}
 use Rattle.wbt_flusher.proofs.opening.plan_of.Goals as goal
 

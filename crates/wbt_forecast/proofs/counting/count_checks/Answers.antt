@@ -1,10 +1,9 @@
 use Rattle.std.proofs.Common.{◌≡◌, ℕ, ◌+◌, List, length, take, get_or, sym, ◌∙◌, ap, ap₂, subst, arith}
 use Rattle.std.proofs.lemmas.List.{take_all}
-use Rattle.wbt_journal.specs.declared.entry.CheckEntry.{CheckEntry}
+use Rattle.wbt_replay_order.proofs.Common.{CheckEntry, Cpu}
 use Rattle.wbt_forecast_rows.specs.Small.{AreSmall}
 use Rattle.wbt_forecast_rows.specs.Tally.{Tallies, after_checks}
 use Rattle.wbt_forecast_rows.specs.declared.tally.TheConstants.{MOST_TOLD}
-use Rattle.wbt_replay_moves.specs.declared.state.Cpu.{Cpu}
 use Rattle.wbt_forecast.specs.Kept.{all_checks}
 use Rattle.wbt_forecast.proofs.Telling.Lists.{checks_at, checks_next, checks_none, checks_on, checks_part, small_less}
 use Rattle.wbt_forecast.proofs.counting.count_checks.Goals as goal

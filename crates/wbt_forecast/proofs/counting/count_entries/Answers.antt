@@ -1,10 +1,9 @@
 use Rattle.std.proofs.Common.{◌≡◌, ℕ, ◌+◌, List, length, take, get_or, sym, ◌∙◌, ap, ap₂, subst, arith}
 use Rattle.std.proofs.lemmas.List.{take_all}
-use Rattle.wbt_journal.specs.declared.entry.Entry.{Entry}
+use Rattle.wbt_replay_order.proofs.Common.{Entry, Cpu}
 use Rattle.wbt_forecast_rows.specs.Small.{AreSmall}
 use Rattle.wbt_forecast_rows.specs.Tally.{Tallies, after_entries}
 use Rattle.wbt_forecast_rows.specs.declared.tally.TheConstants.{MOST_TOLD}
-use Rattle.wbt_replay_moves.specs.declared.state.Cpu.{Cpu}
 use Rattle.wbt_forecast.specs.Kept.{all_entries}
 use Rattle.wbt_forecast.proofs.Telling.Lists.{entries_at, entries_next, entries_none, entries_on, entries_part, small_less}
 use Rattle.wbt_forecast.proofs.counting.count_entries.Goals as goal

@@ -1,11 +1,9 @@
 use Rattle.std.proofs.Common.{◌≡◌, ℕ, ◌+◌, ◌-◌, List, [], ◌∷◌, ◌++◌, length, take, drop, replicate, sym, ◌∙◌, ap, subst, arith, length-drop}
 use Rattle.std.proofs.lemmas.List.{take_all}
-use Rattle.wbt_journal.specs.declared.step.StepEntry.{StepEntry}
+use Rattle.wbt_replay_order.proofs.Common.{StepEntry, no_step, steps_of}
 use Rattle.wbt_forecast_rows.specs.Small.{AreSmall}
 use Rattle.wbt_forecast_rows.specs.Tally.{after_steps}
 use Rattle.wbt_forecast_rows.specs.declared.tally.TheConstants.{MOST_TOLD}
-use Rattle.wbt_replay_moves.specs.Definition.State.{no_step}
-use Rattle.wbt_replay_moves.specs.Steps.{steps_of}
 use Rattle.wbt_forecast.proofs.Telling.Lists.{first_steps, last_steps, one_more, small_less, steps_none, steps_on}
 use Rattle.wbt_forecast.proofs.counting.count_steps.Goals as goal
 

@@ -1,7 +1,7 @@
 use Rattle.std.proofs.Common.{◌≡◌, ℕ, ◌+◌, ◌-◌, length, replicate}
 use Rattle.wbt_forecast_rows.specs.Small.{AreSmall}
 use Rattle.wbt_forecast_rows.specs.Tally.{after_steps}
-use Rattle.wbt_replay_moves.specs.Definition.State.{no_step}
+use Rattle.wbt_replay_order.proofs.Common.{no_step}
 use Rattle.wbt_forecast.proofs.counting.count_steps.Given as goal
 
 abbrev pub invariant-loop-step : goal.invariant-loop-step

@@ -1,5 +1,5 @@
 use Rattle.std.proofs.Common.{◌-◌, ◌≤◌, length}
-use Rattle.wbt_replay_moves.specs.Steps.{steps_of}
+use Rattle.wbt_replay_order.proofs.Common.{steps_of}
 use Rattle.wbt_forecast.proofs.counting.made_steps.Given as goal
 
 abbrev pub invariant-counted : goal.invariant-counted

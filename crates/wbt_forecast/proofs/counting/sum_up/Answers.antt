@@ -1,9 +1,8 @@
 use Rattle.std.proofs.Common.{◌+◌, List, length, take, sym, ◌∙◌, ap, subst, arith}
-use Rattle.wbt_journal.specs.declared.entry.Entry.{Entry}
+use Rattle.wbt_replay_order.proofs.Common.{Entry, Cpu}
 use Rattle.wbt_forecast_rows.specs.Small.{AreSmallTotals}
 use Rattle.wbt_forecast_rows.specs.Tally.{totals_after}
 use Rattle.wbt_forecast_rows.specs.declared.tally.TheConstants.{MOST_TOLD}
-use Rattle.wbt_replay_moves.specs.declared.state.Cpu.{Cpu}
 use Rattle.wbt_forecast.specs.Kept.{all_entries}
 use Rattle.wbt_forecast.proofs.Telling.Lists.{entries_at, entries_part, totals_grow, totals_less}
 use Rattle.wbt_forecast.proofs.counting.sum_up.Goals as goal

@@ -1,5 +1,5 @@
 use Rattle.std.proofs.Common.{arith}
-use Rattle.wbt_replay_moves.specs.Seen.{seen}
+use Rattle.wbt_replay_order.proofs.Common.{seen}
 use Rattle.wbt_forecast.proofs.Moments.{soon_enough}
 use Rattle.wbt_forecast.proofs.further.moments_fit.Goals as goal
 

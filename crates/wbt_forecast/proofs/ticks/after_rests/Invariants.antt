@@ -1,5 +1,5 @@
 use Rattle.std.proofs.Common.{◌≡◌, drop}
-use Rattle.wbt_replay_order.specs.Kept.Further.{after_rests}
+use Rattle.wbt_replay_order.proofs.Common.{after_rests}
 use Rattle.wbt_forecast.proofs.ticks.after_rests.Given as goal
 
 abbrev pub invariant-loop-task : goal.invariant-loop-task

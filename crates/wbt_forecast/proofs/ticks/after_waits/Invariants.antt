@@ -1,5 +1,5 @@
 use Rattle.std.proofs.Common.{◌≡◌, drop}
-use Rattle.wbt_replay_order.specs.Kept.Further.{after_waits}
+use Rattle.wbt_replay_order.proofs.Common.{after_waits}
 use Rattle.wbt_forecast.proofs.ticks.after_waits.Given as goal
 
 abbrev pub invariant-loop-flusher : goal.invariant-loop-flusher

@@ -1,5 +1,5 @@
 use Rattle.std.proofs.Common.{sym, ◌∙◌, ap, arith}
-use Rattle.wbt_replay_order.specs.Kept.Horizon.{credit_of}
+use Rattle.wbt_replay_order.proofs.Common.{credit_of}
 use Rattle.wbt_forecast.specs.Ticks.{credit_at}
 use Rattle.wbt_forecast.proofs.Turning.{credit_first, sum_next, sum_to}
 use Rattle.wbt_forecast.proofs.ticks.credits_of.Goals as goal

@@ -1,7 +1,6 @@
 use Rattle.std.proofs.Common.{◌+◌, ◌<◌, ◌++◌, length, take, drop, get_or, refl, ◌∙◌, arith}
-use Rattle.wbt_replay_moves.specs.declared.state.Stretch.{Stretch}
+use Rattle.wbt_replay_order.proofs.Common.{Stretch, ticks_of}
 use Rattle.wbt_replay_moves.specs.declared.state.Stretch.TheVariants as stretch
-use Rattle.wbt_replay_order.specs.Kept.Horizon.{ticks_of}
 use Rattle.wbt_forecast.proofs.Turning.{sum_all, sum_next, sum_to, turned_all, turned_first, turned_more, turned_none}
 use Rattle.wbt_forecast.proofs.ticks.orders_left.Goals as goal
 

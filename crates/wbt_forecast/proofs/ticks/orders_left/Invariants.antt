@@ -1,6 +1,6 @@
 use Rattle.std.proofs.Common.{◌≡◌, take}
 use Rattle.std.specs.List.{sum_by}
-use Rattle.wbt_replay_order.specs.Kept.Horizon.{ticks_of}
+use Rattle.wbt_replay_order.proofs.Common.{ticks_of}
 use Rattle.wbt_forecast.proofs.Turning.{turned}
 use Rattle.wbt_forecast.proofs.ticks.orders_left.Given as goal
 

@@ -1,8 +1,7 @@
 use Rattle.std.proofs.Common.{◌<◌, List, length, get_or, ◌∙◌, ap, arith}
 use Rattle.std.proofs.Math.ListN.{set}
 use Rattle.std.proofs.lemmas.List.{set-get_or}
-use Rattle.wbt_replay_moves.specs.declared.state.ReplayTask.{ReplayTask}
-use Rattle.wbt_replay_order.specs.Kept.Horizon.{rests_of}
+use Rattle.wbt_replay_order.proofs.Common.{ReplayTask, rests_of}
 use Rattle.wbt_forecast.proofs.Turning.{sum_all, sum_next, sum_to}
 use Rattle.wbt_forecast.proofs.ticks.rests_left.Goals as goal
 

@@ -1,6 +1,6 @@
 use Rattle.std.proofs.Common.{◌≡◌, take}
 use Rattle.std.specs.List.{sum_by}
-use Rattle.wbt_replay_order.specs.Kept.Horizon.{rests_of}
+use Rattle.wbt_replay_order.proofs.Common.{rests_of}
 use Rattle.wbt_forecast.proofs.ticks.rests_left.Given as goal
 
 abbrev pub invariant-loop-task : goal.invariant-loop-task

@@ -1,7 +1,6 @@
 use Rattle.std.proofs.Common.{◌+◌, ◌<◌, ◌++◌, length, take, drop, get_or, refl, ◌∙◌, arith}
-use Rattle.wbt_replay_moves.specs.declared.state.ReplayWork.{ReplayWork}
+use Rattle.wbt_replay_order.proofs.Common.{ReplayWork, rest_of}
 use Rattle.wbt_replay_moves.specs.declared.state.ReplayWork.TheVariants as work
-use Rattle.wbt_replay_order.specs.Kept.Horizon.{rest_of}
 use Rattle.wbt_forecast.proofs.Turning.{sum_all, sum_next, sum_to, turned_all, turned_first, turned_more, turned_none}
 use Rattle.wbt_forecast.proofs.ticks.works_left.Goals as goal
 

@@ -1,7 +1,6 @@
 use Rattle.std.proofs.Common.{rules, of_calls, ◌∙◌, sym, subst, ap}
 use Rattle.std.proofs.lemmas.Fn.{always_returns_same}
-use Rattle.wbt_journal.specs.Machine.{context_among}
-use Rattle.wbt_trace.specs.Lawful.{AreFirsts}
+use Rattle.wbt_replay_order.proofs.Common.{context_among, AreFirsts}
 use Rattle.wbt_forecast_rows.proofs.Paging.{are_parted, ends_by, found_none, found_some}
 use Rattle.wbt_forecast_rows.proofs.pages.context_of_page.Goals as goal
 

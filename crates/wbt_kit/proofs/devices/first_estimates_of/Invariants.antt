@@ -1,6 +1,6 @@
 use Rattle.std.proofs.Common.{◌≡◌, map, take}
 use Rattle.wbt_rules.specs.First.{first_by}
-use Rattle.wbt_trace.specs.declared.trace.Context.{Context}
+use Rattle.wbt_kit.proofs.Common.{Context}
 use Rattle.wbt_kit.proofs.devices.first_estimates_of.Given as goal
 
 abbrev pub invariant-loop-context : goal.invariant-loop-context

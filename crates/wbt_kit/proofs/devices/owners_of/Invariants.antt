@@ -1,5 +1,5 @@
 use Rattle.std.proofs.Common.{◌≡◌, map, take}
-use Rattle.wbt_trace.specs.declared.trace.Context.{Context}
+use Rattle.wbt_kit.proofs.Common.{Context}
 use Rattle.wbt_kit.specs.Opening as spec
 use Rattle.wbt_kit.proofs.devices.owners_of.Given as goal
 

@@ -1,5 +1,5 @@
 use Rattle.std.proofs.Common.{All, List, sym, subst}
-use Rattle.wbt_estimate.specs.declared.estimate.Estimate.{Estimate}
+use Rattle.wbt_kit.proofs.Common.{Estimate}
 use Rattle.wbt_published.specs.Known.{IsFirst}
 use Rattle.wbt_kit.proofs.Laid.{firsts_fit}
 use Rattle.wbt_kit.proofs.kit.make_published.Goals as goal

@@ -1,6 +1,6 @@
 use Rattle.std.proofs.Common.{◌<◌, ◌≤◌, ℕ, All, List, length, sym, ◌∙◌, subst}
 use Rattle.wbt_num.specs.declared.most.TheConstants.{MOST_CONTEXTS}
-use Rattle.wbt_kit.specs.Opening.{homes_of}
+use Rattle.wbt_kit.proofs.Common.{homes_of}
 use Rattle.wbt_kit.proofs.Laid.{homes_fit}
 use Rattle.wbt_kit.proofs.kit.make_shares.Goals as goal
 

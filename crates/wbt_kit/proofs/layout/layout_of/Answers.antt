@@ -1,7 +1,6 @@
 use Rattle.std.proofs.Common.{sym, ap, ◌∙◌, map, List, subst}
-use Rattle.wbt_trace.specs.declared.trace.Inode.{Inode}
+use Rattle.wbt_kit.proofs.Common.{Inode, place_of}
 use Rattle.wbt_table.specs.Layout.{IsLayout}
-use Rattle.wbt_kit.specs.Opening.{place_of}
 use Rattle.wbt_kit.proofs.Laid.{is_layout}
 use Rattle.wbt_kit.proofs.layout.layout_of.Goals as goal
 

@@ -1,8 +1,6 @@
 use Rattle.std.proofs.Common.{◌≡◌, ◌<◌, Bool, eqb, List, get_or, set, length, ◌∙◌, ap, arith}
 use Rattle.std.proofs.lemmas.List.{get_or_default}
-use Rattle.wbt_replay_moves.specs.Definition.State.{no_task}
-use Rattle.wbt_replay_moves.specs.declared.state.ReplayTask.{ReplayTask}
-use Rattle.wbt_replay_order.specs.Kept.Opens.{ended_idle}
+use Rattle.wbt_replay_order.proofs.Common.{no_task, ReplayTask, ended_idle}
 use Rattle.wbt_replay.proofs.Ordering.Opened.{many_done, next_done, next_here}
 use Rattle.wbt_replay.proofs.opening.end_idle.Goals as goal
 

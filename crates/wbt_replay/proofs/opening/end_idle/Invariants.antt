@@ -1,5 +1,5 @@
 use Rattle.std.proofs.Common.{◌≡◌, ◌++◌, take, drop, map}
-use Rattle.wbt_replay_order.specs.Kept.Opens.{ended_idle}
+use Rattle.wbt_replay_order.proofs.Common.{ended_idle}
 use Rattle.wbt_replay.proofs.opening.end_idle.Given as goal
 
 abbrev pub invariant-loop-task : goal.invariant-loop-task

@@ -1,9 +1,7 @@
 use Rattle.std.proofs.Common.{◌≡◌, ◌<◌, List, length, map, take, get_or, sym, ◌∙◌, ap, arith}
 use Rattle.std.proofs.lemmas.List.{get_or_default, take_more, take_all}
-use Rattle.wbt_trace.specs.declared.trace.Action.{Action}
-use Rattle.wbt_trace.specs.declared.trace.Action.TheVariants.{Rest}
-use Rattle.wbt_replay_moves.specs.declared.state.ReplayTask.{ReplayTask}
-use Rattle.wbt_replay_order.specs.Kept.Opens.{ended_idle, put_work}
+use Rattle.wbt_replay_order.proofs.Common.{Action, Rest, ReplayTask, ended_idle}
+use Rattle.wbt_replay_order.specs.Kept.Opens.{put_work}
 use Rattle.wbt_replay.proofs.Ordering.Opened.{doing_nothing, ended_are_first, many_doing, put_more, tasks_doing}
 use Rattle.wbt_replay.proofs.opening.first_tasks.Goals as goal
 

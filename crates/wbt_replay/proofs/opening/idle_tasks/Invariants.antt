@@ -1,5 +1,5 @@
 use Rattle.std.proofs.Common.{◌≡◌, [], map, take}
-use Rattle.wbt_trace.specs.declared.trace.TaskLine.{TaskLine}
+use Rattle.wbt_replay_order.proofs.Common.{TaskLine}
 use Rattle.wbt_replay_order.specs.Kept.Opens.{task_with}
 use Rattle.wbt_replay.proofs.opening.idle_tasks.Given as goal
 

@@ -1,12 +1,7 @@
 use Rattle.std.proofs.Common.{List, length, replicate, false, [], refl, ◌∙◌, ap}
 use Rattle.wbt_limits.specs.Thresholds.{ratelimit_pages_of}
 use Rattle.wbt_limits.specs.declared.domain.Pair.{Pair}
-use Rattle.wbt_trace.specs.Sofar.{pages_in}
-use Rattle.wbt_trace.specs.declared.trace.Device.{Device}
-use Rattle.wbt_trace.specs.declared.trace.FlusherLine.{FlusherLine}
-use Rattle.wbt_trace.specs.declared.trace.Inode.{Inode}
-use Rattle.wbt_replay_moves.specs.declared.state.ReplayTask.{ReplayTask}
-use Rattle.wbt_replay_moves.specs.Steps.{steps_of}
+use Rattle.wbt_replay_order.proofs.Common.{pages_in, Device, FlusherLine, Inode, ReplayTask, steps_of}
 use Rattle.wbt_replay_order.specs.Definition.Opening.{running_of}
 use Rattle.wbt_replay.proofs.Ordering.Firsts.{opening_is}
 use Rattle.wbt_replay.proofs.opening.machine_of.Goals as goal

@@ -1,5 +1,5 @@
 use Rattle.std.proofs.Common.{◌≡◌, ◌+◌, drop}
-use Rattle.wbt_trace.specs.Sofar.{pages_in}
+use Rattle.wbt_replay_order.proofs.Common.{pages_in}
 use Rattle.wbt_replay.proofs.opening.pages_of.Given as goal
 
 abbrev pub invariant-loop-inode : goal.invariant-loop-inode

@@ -1,5 +1,5 @@
 use Rattle.std.proofs.Common.{sym, ◌∙◌}
-use Rattle.wbt_replay_moves.specs.Seen.{seen}
+use Rattle.wbt_replay_order.proofs.Common.{seen}
 use Rattle.wbt_replay.proofs.Ordering.Seeking.{turn_begins}
 use Rattle.wbt_replay.proofs.order.begin_or_drop.Goals as goal
 

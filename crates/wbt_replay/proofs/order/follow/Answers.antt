@@ -1,9 +1,6 @@
 use Rattle.std.proofs.Common.{◌≡◌, ◌-◌, ◌∷◌, List, sym, ◌∙◌, ap, subst}
-use Rattle.wbt_replay_moves.specs.Seen.{seen}
-use Rattle.wbt_replay_moves.specs.declared.state.Stretch.{Stretch}
+use Rattle.wbt_replay_order.proofs.Common.{seen, Stretch, advance, go_on, with_orders, Sound}
 use Rattle.wbt_replay_moves.specs.declared.state.Stretch.TheVariants as stretch
-use Rattle.wbt_replay_order.specs.Definition.Order.{advance, go_on, with_orders}
-use Rattle.wbt_replay_order.specs.Kept.Sound.{Sound}
 use Rattle.wbt_replay.proofs.Ordering.Lines.{fewer_sound, step_follows}
 use Rattle.wbt_replay.proofs.Ordering.Queues.{on_same, taken}
 use Rattle.wbt_replay.proofs.order.follow.Goals as goal

@@ -1,6 +1,5 @@
 use Rattle.std.proofs.Common.{◌+◌, length, Some, sym, ◌∙◌, ap}
-use Rattle.wbt_replay_moves.specs.Seen.{seen}
-use Rattle.wbt_replay_order.specs.Definition.Order.{next_turn, place_after}
+use Rattle.wbt_replay_order.proofs.Common.{seen, next_turn, place_after}
 use Rattle.wbt_replay.proofs.Ordering.Passing.{can_pass}
 use Rattle.wbt_replay.proofs.Ordering.Queues.{on_same}
 use Rattle.wbt_replay.proofs.Ordering.Seeking.{found_is, same_chance, turn_is, turn_with}

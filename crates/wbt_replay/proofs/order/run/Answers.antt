@@ -1,8 +1,5 @@
 use Rattle.std.proofs.Common.{◌≡◌, ◌+◌, ◌-◌, ◌^◌, false, sym, ◌∙◌, ap, subst, arith}
-use Rattle.wbt_replay_moves.specs.Definition.State.{State}
-use Rattle.wbt_replay_moves.specs.Seen.{seen}
-use Rattle.wbt_replay_order.specs.Definition.Order.{advance, is_ended, run}
-use Rattle.wbt_replay_order.specs.Kept.Sound.{HasRoom, Sound}
+use Rattle.wbt_replay_order.proofs.Common.{State, seen, advance, is_ended, run, HasRoom, Sound}
 use Rattle.wbt_replay_order.proofs.Growth.Runs.{run_ended, run_more, run_none}
 use Rattle.wbt_replay.proofs.Ordering.Keeping.{sound_kept}
 use Rattle.wbt_replay.proofs.order.run.Goals as goal

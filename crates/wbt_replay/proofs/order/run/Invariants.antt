@@ -1,7 +1,6 @@
 use Rattle.std.proofs.Common.{◌≡◌, ◌-◌, ◌^◌}
 use Rattle.wbt_replay_order.specs.Definition.Order as spec
-use Rattle.wbt_replay_order.specs.Kept.Sound.{Sound, HasRoom}
-use Rattle.wbt_replay_moves.specs.Seen.{seen}
+use Rattle.wbt_replay_order.proofs.Common.{Sound, HasRoom, seen}
 use Rattle.wbt_replay.proofs.order.run.Given as goal
 
 abbrev pub invariant-loop : goal.invariant-loop

@@ -1,5 +1,5 @@
 use Rattle.std.proofs.Common.{◌∙◌}
-use Rattle.wbt_replay_moves.specs.Seen.{seen}
+use Rattle.wbt_replay_order.proofs.Common.{seen}
 use Rattle.wbt_replay.proofs.Ordering.Seeking.{goes_on}
 use Rattle.wbt_replay.proofs.order.take.Goals as goal
 

@@ -1,12 +1,6 @@
 use Rattle.std.proofs.Common.{◌≡◌, ◌^◌, ◌≤◌, List, length, get_or, sym, ◌∙◌, ap, subst, arith}
-use Rattle.wbt_replay_moves.specs.Definition.State.{State, cpu_of, no_cpu}
-use Rattle.wbt_replay_moves.specs.declared.state.Cpu.{Cpu}
-use Rattle.wbt_num.specs.declared.most.TheConstants.{MOST_STEPS}
-use Rattle.wbt_replay_moves.specs.Seen.{seen}
+use Rattle.wbt_replay_order.proofs.Common.{State, cpu_of, no_cpu, Cpu, MOST_STEPS, seen, last_state, HasRoom, Sound, ChecksFit}
 use Rattle.wbt_replay_order.specs.Definition.Order as order
-use Rattle.wbt_replay_order.specs.Definition.Run.{last_state}
-use Rattle.wbt_replay_order.specs.Kept.Sound.{HasRoom, Sound}
-use Rattle.wbt_replay_order.specs.Kept.Strict.{ChecksFit}
 use Rattle.wbt_replay.proofs.Run as claims
 use Rattle.wbt_replay_order.proofs.Facts.Facts.{facts}
 use Rattle.wbt_replay.proofs.Ordering.Firsts.{opening_fits}

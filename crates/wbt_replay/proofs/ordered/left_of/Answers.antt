@@ -1,8 +1,7 @@
 use Rattle.std.proofs.Common.{◌≡◌, ◌+◌, ◌-◌, ◌<◌, List, ◌++◌, true, false, eqb, ◌∙◌, ap, arith}
 use Rattle.std.proofs.lemmas.Bool.Decides.{nat_tests}
-use Rattle.wbt_journal.specs.declared.journal.Left.{Left}
+use Rattle.wbt_replay_order.proofs.Common.{Left, left_from}
 use Rattle.wbt_replay_moves.specs.Pages.{book_of}
-use Rattle.wbt_replay_order.specs.Definition.Run.{left_from}
 use Rattle.wbt_replay_ends.proofs.Names.Left.{passed, pushed}
 use Rattle.wbt_replay.proofs.ordered.left_of.Goals as goal
 use Rattle.wbt_replay.proofs.ordered.left_of.Goals.{then-word-ne0+in_ok-push, else-word-ne0}

@@ -1,9 +1,7 @@
 use Rattle.std.proofs.Common.{◌≡◌, ℕ, ◌+◌, ◌-◌, true, false, slice_index_or, Some, sym, ◌∙◌, ap, arith}
-use Rattle.wbt_replay_moves.specs.Seen.{seen}
-use Rattle.wbt_replay_moves.specs.declared.state.Actor.{Actor}
-use Rattle.wbt_replay_order.specs.Definition.Order.{actor_at, after, chance_of, is_nothing}
+use Rattle.wbt_replay_order.proofs.Common.{seen, Actor, actor_at, after, chance_of, is_nothing, seek_actor}
 use Rattle.wbt_replay_order.specs.Kept.Round.{CanPass}
-use Rattle.wbt_replay_order.specs.Kept.Seeks.{found_at, seek_actor}
+use Rattle.wbt_replay_order.specs.Kept.Seeks.{found_at}
 use Rattle.wbt_replay_order.specs.declared.chance.Chance.{Chance}
 use Rattle.wbt_replay.proofs.Ordering.Passing.{passed_all, passed_to}
 use Rattle.wbt_replay.proofs.Ordering.Seeking.{actor_hit, actor_miss, actor_none, after_below}

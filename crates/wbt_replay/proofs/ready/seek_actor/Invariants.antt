@@ -1,6 +1,5 @@
 use Rattle.std.proofs.Common.{◌≡◌, ◌+◌, ◌<◌, ◌≤◌}
-use Rattle.wbt_replay_order.specs.Kept.Seeks.{seek_actor}
-use Rattle.wbt_replay_moves.specs.Seen.{seen}
+use Rattle.wbt_replay_order.proofs.Common.{seek_actor, seen}
 use Rattle.wbt_replay.proofs.ready.seek_actor.Given as goal
 
 abbrev pub invariant-loop : goal.invariant-loop

@@ -1,9 +1,7 @@
 use Rattle.std.proofs.Common.{◌≡◌, ℕ, List, ◌+◌, ◌-◌, ◌<◌, true, false, length, get_or, sym, ◌∙◌, ap, arith}
 use Rattle.std.proofs.lemmas.List.{get_or_default}
-use Rattle.wbt_replay_moves.specs.Seen.{seen}
-use Rattle.wbt_replay_moves.specs.declared.state.ReplayJob.{ReplayJob}
+use Rattle.wbt_replay_order.proofs.Common.{seen, ReplayJob, after, is_nothing, job_at, job_turn, seek_job}
 use Rattle.wbt_replay_moves.specs.declared.state.ReplayJob.TheVariants as job
-use Rattle.wbt_replay_order.specs.Definition.Order.{after, is_nothing, job_at, job_turn, seek_job}
 use Rattle.wbt_replay.proofs.Ordering.Seeking.{after_below, job_hit, job_miss, job_none}
 use Rattle.wbt_replay.proofs.ready.seek_job.Goals as goal
 

@@ -1,8 +1,6 @@
 use Rattle.std.proofs.Common.{◌≡◌, ℕ, List, ◌+◌, ◌-◌, ◌<◌, true, false, length, get_or, sym, ◌∙◌, ap, arith}
 use Rattle.std.proofs.lemmas.List.{get_or_default}
-use Rattle.wbt_replay_moves.specs.Definition.State.{task_of}
-use Rattle.wbt_replay_moves.specs.Seen.{seen}
-use Rattle.wbt_replay_order.specs.Definition.Order.{after, is_task_ready, task_turn}
+use Rattle.wbt_replay_order.proofs.Common.{task_of, seen, after, is_task_ready, task_turn}
 use Rattle.wbt_replay.proofs.Ordering.Seeking.{after_below, task_hit, task_miss, task_none}
 use Rattle.wbt_replay.proofs.ready.task_turn.Goals as goal
 

@@ -1,7 +1,5 @@
 use Rattle.std.proofs.Common.{sym, ◌∙◌, ap, arith}
-use Rattle.wbt_replay_moves.specs.Seen.{seen}
-use Rattle.wbt_replay_moves.specs.declared.state.Actor.{Actor}
-use Rattle.wbt_replay_order.specs.Definition.Order.{turn_at}
+use Rattle.wbt_replay_order.proofs.Common.{seen, Actor, turn_at}
 use Rattle.wbt_replay_order.proofs.Facts.Actors.{past_turn}
 use Rattle.wbt_replay.proofs.ready.turn_at.Goals as goal
 

@@ -1,5 +1,5 @@
 use Rattle.std.proofs.Common.{◌≡◌, ℕ, ◌<◌, ◌≤◌, []}
-use Rattle.wbt_replay_order.specs.Definition.Opening.{first_cpu}
+use Rattle.wbt_replay_order.proofs.Common.{first_cpu}
 use Rattle.wbt_replay.proofs.round.next_from.Given as goal
 
 abbrev pub invariant-loop-next : goal.invariant-loop-next

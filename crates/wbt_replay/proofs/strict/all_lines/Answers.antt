@@ -1,6 +1,6 @@
 use Rattle.std.proofs.Common.{sym, ◌∙◌, ap, arith}
 use Rattle.wbt_replay_order.specs.declared.tally.Tally.{Tally}
-use Rattle.wbt_replay_order.specs.Kept.Strict.{no_tally}
+use Rattle.wbt_replay_order.proofs.Common.{no_tally}
 use Rattle.wbt_replay.proofs.StrictLines.Lines.{told_next, untold_next}
 use Rattle.wbt_replay_order.proofs.Facts.Parts.{used_within}
 use Rattle.wbt_replay.proofs.strict.all_lines.Goals as goal

@@ -1,5 +1,5 @@
 use Rattle.std.proofs.Common.{◌≡◌, ◌<◌, ℕ, false}
-use Rattle.wbt_rules.specs.Strict.{is_strict}
+use Rattle.wbt_replay_order.proofs.Common.{is_strict}
 use Rattle.wbt_replay.proofs.strict.has_strict.Given as goal
 
 abbrev pub invariant-loop-context : goal.invariant-loop-context

@@ -1,5 +1,5 @@
 use Rattle.std.proofs.Common.{◌<◌, length, ◌∙◌, arith}
-use Rattle.wbt_replay_order.specs.Kept.Strict.{no_tally}
+use Rattle.wbt_replay_order.proofs.Common.{no_tally}
 use Rattle.wbt_replay.proofs.StrictLines.Tallies.{counted_next, passed_next}
 use Rattle.wbt_replay.proofs.strict.tallies_of.Goals as goal
 use Rattle.wbt_replay.proofs.strict.tallies_of.Goals.{then-step-contexts, else-step-contexts}

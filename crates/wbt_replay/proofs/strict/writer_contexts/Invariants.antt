@@ -1,5 +1,5 @@
 use Rattle.std.proofs.Common.{◌≡◌, drop, map}
-use Rattle.wbt_trace.specs.Lawful.{writers_after, writers_of}
+use Rattle.wbt_replay_order.proofs.Common.{writers_after, writers_of}
 use Rattle.wbt_replay.proofs.strict.writer_contexts.Given as goal
 
 abbrev pub invariant-loop-action : goal.invariant-loop-action

@@ -1,12 +1,8 @@
 use Rattle.std.proofs.Common.{◌≡◌, ◌<◌, length, sym, ◌∙◌, ap, subst, arith}
 use Rattle.std.proofs.lemmas.List.{length-set}
 use Rattle.std.specs.Prelude.{OnOk}
-use Rattle.wbt_replay_moves.specs.Definition.State.{State, cpu_of}
-use Rattle.wbt_replay_moves.specs.Seen.{seen}
-use Rattle.wbt_replay_moves.specs.declared.state.Actor.{Actor}
+use Rattle.wbt_replay_order.proofs.Common.{State, cpu_of, seen, Actor, ReplayJob, after, begin, turn_at}
 use Rattle.wbt_replay_moves.specs.declared.state.Actor.TheVariants as who
-use Rattle.wbt_replay_moves.specs.declared.state.ReplayJob.{ReplayJob}
-use Rattle.wbt_replay_order.specs.Definition.Order.{after, begin, turn_at}
 use Rattle.wbt_replay_order.specs.Kept.Seeks.{JobBegins}
 use Rattle.wbt_replay_order.specs.declared.chance.Chance.TheVariants as chance
 use Rattle.wbt_replay_order.proofs.Facts.Actors.{there_by_turn}

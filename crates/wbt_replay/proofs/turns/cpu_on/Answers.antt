@@ -1,13 +1,9 @@
 use Rattle.std.proofs.Common.{◌≡◌, ◌<◌, Some, List, [], ◌∷◌, length, sym, ◌∙◌, ap, subst, arith}
 use Rattle.std.proofs.lemmas.List.{get_or_default}
 use Rattle.wbt_num.specs.Front.{first}
-use Rattle.wbt_replay_moves.specs.Definition.State.{cpu_of, no_cpu, with_cpu}
+use Rattle.wbt_replay_order.proofs.Common.{cpu_of, no_cpu, with_cpu, seen, Cpu, Todo, cpu_on}
 use Rattle.wbt_replay_moves.specs.Kept.Fit.{CanMove}
-use Rattle.wbt_replay_moves.specs.Seen.{seen}
-use Rattle.wbt_replay_moves.specs.declared.state.Cpu.{Cpu}
-use Rattle.wbt_replay_moves.specs.declared.todo.Todo.{Todo}
 use Rattle.wbt_replay_moves.specs.declared.todo.Todo.TheVariants as todo
-use Rattle.wbt_replay_order.specs.Definition.Order.{cpu_on}
 use Rattle.wbt_replay.proofs.Ordering.Fitting.{move_fits}
 use Rattle.wbt_replay.proofs.Ordering.Queues.{is_empty, taken}
 use Rattle.wbt_replay.proofs.turns.cpu_on.Goals as goal

@@ -1,6 +1,6 @@
 use Rattle.std.proofs.Common.{◌≡◌, ◌+◌, ◌≤◌, drop, count_by}
 use Rattle.wbt_replay_order.specs.Definition.Order as spec
-use Rattle.wbt_replay_moves.specs.Seen.{seen}
+use Rattle.wbt_replay_order.proofs.Common.{seen}
 use Rattle.wbt_replay.proofs.turns.working_on.Given as goal
 
 abbrev pub invariant-loop-job : goal.invariant-loop-job

@@ -1,29 +1,6 @@
 use Rattle.std.proofs.Common.{refl}
 use Rattle.std.specs.Fmt.{digits}
-use Rattle.wbt_num.specs.Arithmetic.{log2, halvings}
-use Rattle.wbt_book.specs.PageWords.{packed_pages}
-use Rattle.wbt_limits.specs.Thresholds.{thresholds_of, threshold, global_threshold, background_below}
-use Rattle.wbt_counter.specs.Batch.{domain_batch, context_batch}
-use Rattle.wbt_estimate.specs.Estimate.{first_at, updated, update_of}
-use Rattle.wbt_position.specs.Polynom.{polynom_value}
-use Rattle.wbt_position.specs.Position.{position_ratio}
-use Rattle.wbt_pause.specs.Decision.{decided, rate_of, cut_decision, go_decision, throttled, decision_of}
-use Rattle.wbt_pause.specs.Pauses.{longest_pause, least_pause}
-use Rattle.wbt_strict.specs.Decision.{decision_for}
-use Rattle.wbt_task.specs.Allowance.{first, page_after, ended}
-use Rattle.wbt_task.specs.History.{new_writer}
-use Rattle.wbt_rules.specs.Age.{ages_in}
-use Rattle.wbt_rules.specs.First.{first_estimate}
-use Rattle.wbt_rules.specs.Flusher.{quota_of}
-use Rattle.wbt_rules.specs.Places.{page_at}
-use Rattle.wbt_rules.specs.Strict.{is_strict}
-use Rattle.wbt_replay_moves.specs.Definition.Idle.{domain_loads, measures_of, weighs_of}
-use Rattle.wbt_replay_moves.specs.Definition.Perform.{make_step, make_move, make_timer_step, make_timer_move}
-use Rattle.wbt_replay_moves.specs.Definition.Timer.{domain_turns, domain_periods}
-use Rattle.wbt_replay_order.specs.Definition.Opening.{opening}
-use Rattle.wbt_replay_order.specs.Definition.Order.{run, seek_turn, seek_job, task_turn, tasks_sooner, flushers_sooner}
-use Rattle.wbt_replay_order.specs.Definition.Run.{journal_of}
-use Rattle.wbt_journal.specs.Text.{journal_lines}
+use Rattle.wbt_replay_order.proofs.Common.{log2, halvings, packed_pages, thresholds_of, threshold, global_threshold, background_below, domain_batch, context_batch, first_at, updated, update_of, polynom_value, position_ratio, decided, rate_of, cut_decision, go_decision, throttled, decision_of, longest_pause, least_pause, decision_for, first, page_after, ended, new_writer, ages_in, first_estimate, quota_of, page_at, is_strict, domain_loads, measures_of, weighs_of, make_step, make_move, make_timer_step, make_timer_move, domain_turns, domain_periods, opening, run, seek_turn, seek_job, task_turn, tasks_sooner, flushers_sooner, journal_of, journal_lines}
 use Rattle.wbt_replay_worked.specs.WorkedEstimates.{AtSetpointRun}
 use Rattle.wbt_replay_worked.proofs.worked.at_setpoint_run.Goals as goal
 

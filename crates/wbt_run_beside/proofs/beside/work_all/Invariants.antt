@@ -1,7 +1,6 @@
 use Rattle.std.proofs.Common.{◌≡◌, length}
-use Rattle.wbt_run_worker.specs.Ticking.{MayTick, Ticks}
+use Rattle.wbt_run_worker.proofs.Common.{MayTick, Ticks, TimerSpeaks}
 use Rattle.wbt_run_worker.specs.TimerTurns.{HasTakenTurns}
-use Rattle.wbt_run_worker.specs.Voices.{TimerSpeaks}
 use Rattle.wbt_run_beside.specs.Beside.{AllHaveGone}
 use Rattle.wbt_run_beside.proofs.beside.work_all.Given as goal
 

@@ -1,13 +1,11 @@
 use Rattle.std.proofs.Common.{ℕ, ◌∙◌, List, ap, arith}
 use Rattle.wbt_journal.specs.Lawful.{DirtiedWereCompleted, FoundWereDirtied, IsLawful}
-use Rattle.wbt_table.specs.Layout.{pages_in}
+use Rattle.wbt_run_worker.proofs.Common.{Layout, kit_is_opened}
+use Rattle.wbt_kit.proofs.Common.{pages_in, Inode}
 use Rattle.wbt_trace.specs.Sofar.{pages_in as pages_of_inodes}
-use Rattle.wbt_trace.specs.declared.trace.Inode.{Inode}
-use Rattle.wbt_table.specs.declared.layout.Layout.{Layout}
 use Rattle.wbt_run_laws.specs.Laws.{NoneWaitsWhenDone}
 use Rattle.wbt_run_laws.specs.Throttle.{left_from}
 use Rattle.wbt_run_seats.specs.Left.{book_of}
-use Rattle.wbt_run_seats.proofs.Opening.{kit_is_opened}
 use Rattle.wbt_run_close.proofs.Ended.{of_parts}
 use Rattle.wbt_run_close.proofs.closing.close.Goals as goal
 

@@ -1,5 +1,5 @@
 use Rattle.std.proofs.Common.{◌+◌, true≢false, List, set, vec_len, sym, subst, ap, refl, arith}
-use Rattle.wbt_kit.specs.declared.kit.Seats.{Seats}
+use Rattle.wbt_run_worker.proofs.Common.{Seats}
 use Rattle.wbt_run_worker.specs.declared.side.CpuSide.{CpuSide}
 use Rattle.wbt_run_drain.specs.declared.drain.Pass.{Pass}
 use Rattle.wbt_run_drain.proofs.Passing.{PassesSide, by_here, may_here, on_here, over_now, passes_first}

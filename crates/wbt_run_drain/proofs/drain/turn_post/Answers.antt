@@ -1,6 +1,6 @@
 use Rattle.std.proofs.Common.{List, refl, sym}
 use Rattle.wbt_run_worker.specs.declared.side.Post.{Post}
-use Rattle.wbt_writer.specs.Desk.{Desk}
+use Rattle.wbt_run_worker.proofs.Common.{Desk}
 use Rattle.wbt_run_drain.proofs.drain.turn_post.Goals as goal
 
 pub returns : goal.returns

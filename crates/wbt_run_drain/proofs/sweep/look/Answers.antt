@@ -1,7 +1,6 @@
 use Rattle.std.proofs.Common.{refl}
-use Rattle.wbt_kit.specs.declared.kit.Seats.{Seats}
+use Rattle.wbt_run_worker.proofs.Common.{Seats, Seated}
 use Rattle.wbt_run_steps.specs.Records.{OnlyCpu}
-use Rattle.wbt_table.specs.Seat.{Seated}
 use Rattle.wbt_run_drain.proofs.Looking.{first_held, marked, placed}
 use Rattle.wbt_run_drain.proofs.sweep.look.Goals as goal
 

@@ -2,7 +2,7 @@ use Rattle.std.proofs.Common.{◌<◌, ℕ, length, get_or, map, refl, sym, ap, 
 use Rattle.std.specs.Vec.{with_items}
 use Rattle.std.proofs.lemmas.List.{with_items_is}
 use Rattle.wbt_run_worker.specs.declared.side.CpuSide.{CpuSide}
-use Rattle.wbt_table.proofs.Lists.{same_default}
+use Rattle.wbt_kit.proofs.Common.{same_default}
 use Rattle.wbt_run_drain.specs.Swept.{IsReopened, reopened}
 use Rattle.wbt_run_drain.proofs.Opened.{opened_all, opened_next, opened_none}
 use Rattle.wbt_run_drain.proofs.sweep.open_flushers.Goals as goal

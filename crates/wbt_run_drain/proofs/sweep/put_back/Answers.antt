@@ -1,6 +1,6 @@
 use Rattle.std.proofs.Common.{◌≡◌}
-use Rattle.wbt_queue.specs.Order.{HasPut}
-use Rattle.wbt_queue.specs.Passes.{Held, known_of, size_of}
+use Rattle.wbt_kit.proofs.Common.{HasPut, Held, size_of}
+use Rattle.wbt_queue.specs.Passes.{known_of}
 use Rattle.wbt_run_steps.proofs.Queues.{only_put}
 use Rattle.wbt_run_drain.proofs.Looking.{put_or_full, seats_queued, same_pass}
 use Rattle.wbt_run_drain.proofs.sweep.put_back.Goals as goal

@@ -1,5 +1,5 @@
 use Rattle.std.proofs.Common.{◌+◌, ◌<◌, ◌≤◌, List, length, refl, subst, arith, rules}
-use Rattle.wbt_trace.specs.declared.trace.Inode.{Inode}
+use Rattle.wbt_kit.proofs.Common.{Inode}
 use Rattle.wbt_run_drain.proofs.Aged.{none_age}
 use Rattle.wbt_run_drain.proofs.Queued.{nothing_waits}
 use Rattle.wbt_run_drain.proofs.Sweeps.{swept_all, swept_next, swept_put, swept_went, sweeps_now}

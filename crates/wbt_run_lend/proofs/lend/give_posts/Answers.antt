@@ -1,6 +1,6 @@
 use Rattle.std.proofs.Common.{◌≡◌, length, subst, rules}
 use Rattle.wbt_io.specs.Faults.{more}
-use Rattle.wbt_io.specs.Pages.{Grows}
+use Rattle.wbt_run_worker.proofs.Common.{Grows}
 use Rattle.wbt_run_first.proofs.Giving.{given_post, no_posts}
 use Rattle.wbt_run_lend.proofs.lend.give_posts.Goals as goal
 

@@ -1,5 +1,5 @@
 use Rattle.std.proofs.Common.{ℕ, Option}
-use Rattle.wbt_run_worker.specs.Team.{faults_in, written_by}
+use Rattle.wbt_run_worker.proofs.Common.{faults_in, written_by}
 use Rattle.wbt_run_drain.specs.Teams.{posts_of}
 use Rattle.wbt_run_first.specs.Back.{WereGiven}
 use Rattle.wbt_run_lend.proofs.lend.give_posts.Given as goal

@@ -1,9 +1,6 @@
 use Rattle.std.proofs.Common.{Vec, Global, ℕ, ◌≡◌, ◌+◌, ◌<◌, ◌++◌, [], ◌∷◌, List, Some, length, drop, get_or, sym, ap, ◌∙◌, subst, arith, length-append}
 use Rattle.std.specs.Vec.{vec_capacity}
-use Rattle.wbt_io.specs.Pages.{Grows}
-use Rattle.wbt_trace.specs.declared.trace.FlusherLine.{FlusherLine}
-use Rattle.wbt_journal.specs.Each.{Each}
-use Rattle.wbt_run_worker.specs.Team.{seen, written_by}
+use Rattle.wbt_run_worker.proofs.Common.{Grows, FlusherLine, Each, seen, written_by}
 use Rattle.wbt_run_worker.specs.declared.side.Post.{Post}
 use Rattle.wbt_run_drain.specs.Teams.{posts_of}
 use Rattle.wbt_run_first.specs.Back.{NotFallen}

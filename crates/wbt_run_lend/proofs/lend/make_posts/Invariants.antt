@@ -1,8 +1,6 @@
 use Rattle.std.proofs.Common.{◌≡◌, ◌≤◌, ◌++◌, length, map, drop, Some}
 use Rattle.std.specs.Vec.{vec_capacity}
-use Rattle.wbt_io.specs.Pages.{Grows}
-use Rattle.wbt_journal.specs.Each.{Each}
-use Rattle.wbt_run_worker.specs.Team.{Seen}
+use Rattle.wbt_run_worker.proofs.Common.{Grows, Each, Seen}
 use Rattle.wbt_run_drain.specs.Teams.{posts_of}
 use Rattle.wbt_run_first.specs.Back.{NotFallen}
 use Rattle.wbt_run_first.specs.Lent.{IsFirstPost, IsOpen, numbers_on}

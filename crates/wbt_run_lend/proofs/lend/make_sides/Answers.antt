@@ -1,6 +1,5 @@
 use Rattle.std.proofs.Common.{ℕ, ◌+◌, ◌<◌, [], ◌∷◌, List, length, get_or, sym, ap, subst, arith, length-append}
-use Rattle.wbt_journal.specs.Each.{Each}
-use Rattle.wbt_run_worker.specs.Team.{Team, written_by}
+use Rattle.wbt_run_worker.proofs.Common.{Each, Team, written_by}
 use Rattle.wbt_run_worker.specs.declared.side.CpuSide.{CpuSide}
 use Rattle.wbt_run_drain.specs.Teams.{teams_of, written_by_all}
 use Rattle.wbt_run_first.specs.Back.{IsNothing}

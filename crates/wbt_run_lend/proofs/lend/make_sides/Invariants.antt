@@ -1,9 +1,7 @@
 use Rattle.std.proofs.Common.{◌≡◌, ℕ, ◌<◌, ◌≤◌, length, get_or, Some}
 use Rattle.std.specs.Vec.{vec_capacity}
-use Rattle.wbt_io.specs.Pages.{Grows}
+use Rattle.wbt_run_worker.proofs.Common.{Grows, Each, Team, written_by}
 use Rattle.wbt_rules.specs.Thresholds.{global_at}
-use Rattle.wbt_journal.specs.Each.{Each}
-use Rattle.wbt_run_worker.specs.Team.{Team, written_by}
 use Rattle.wbt_run_worker.specs.declared.side.CpuSide.{CpuSide}
 use Rattle.wbt_run_drain.specs.Teams.{teams_of}
 use Rattle.wbt_run_first.specs.Back.{IsNothing, NotFallen}

@@ -1,9 +1,6 @@
 use Rattle.std.proofs.Common.{ap, arith}
-use Rattle.wbt_run_seats.proofs.Firsts.{first_held}
-use Rattle.wbt_grant.specs.State.{no_record}
-use Rattle.wbt_num.specs.declared.limits.Limits.{Limits}
+use Rattle.wbt_run_worker.proofs.Common.{first_held, no_record, Limits, Known}
 use Rattle.wbt_run_drain.specs.Teams.{teams_of, written_by_all}
-use Rattle.wbt_signals.specs.Signals.{Known}
 use Rattle.wbt_run_lend.proofs.First.{workers_first}
 use Rattle.wbt_run_first.proofs.Giving.{fallen_given, fallen_none, grows_nothing, grows_still}
 use Rattle.wbt_run_lend.proofs.workers.make_workers.Goals as goal

@@ -1,6 +1,6 @@
 use Rattle.std.proofs.Common.{◌≡◌, ◌+◌, ◌≤◌, ◌++◌, length, map}
 use Rattle.std.specs.Vec.{vec_capacity, vec_len}
-use Rattle.wbt_journal.specs.Each.{Each}
+use Rattle.wbt_run_worker.proofs.Common.{Each}
 use Rattle.wbt_run_worker.specs.declared.worker.Worker.{Worker}
 use Rattle.wbt_run_first.specs.Voiced.{IsVoiced, handed_out}
 use Rattle.wbt_run_lend.proofs.workers.seat_each.Given as goal

@@ -1,5 +1,5 @@
 use Rattle.std.proofs.Common.{◌≡◌, ◌++◌, List, [], ◌∷◌, length, sym, ap, ◌∙◌, append_assoc, arith, length-append, rules}
-use Rattle.wbt_journal.specs.declared.entry.CpuJournal.{CpuJournal}
+use Rattle.wbt_run_worker.proofs.Common.{CpuJournal}
 use Rattle.wbt_run_worker.specs.declared.side.CpuSide.{CpuSide}
 use Rattle.wbt_run_drain.specs.Teams.{logs_of}
 use Rattle.wbt_run_first.proofs.Giving.{given_side, no_sides}

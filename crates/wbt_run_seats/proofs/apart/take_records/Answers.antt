@@ -1,6 +1,5 @@
 use Rattle.std.proofs.Common.{sym, subst}
-use Rattle.wbt_table.specs.Rule.{Has}
-use Rattle.wbt_table.specs.Seat.{Seated}
+use Rattle.wbt_kit.proofs.Common.{Has, Seated}
 use Rattle.wbt_kit.proofs.Joining.{has_come}
 use Rattle.wbt_kit.proofs.Seating.{as_long}
 use Rattle.wbt_run_seats.proofs.Aparts.{with_records}

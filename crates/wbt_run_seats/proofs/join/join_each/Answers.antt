@@ -1,7 +1,7 @@
 use Rattle.std.proofs.Common.{◌≡◌, List, ◌∷◌, [], ◌++◌, length, sym, refl, ap, ◌∙◌, subst, append_assoc, rules}
 use Rattle.std.proofs.lemmas.List.{append-nil}
 use Rattle.wbt_published.proofs.Turns.{at_turn}
-use Rattle.wbt_kit.specs.Kit.{AreSeatsOf}
+use Rattle.wbt_kit.proofs.Common.{AreSeatsOf}
 use Rattle.wbt_kit.specs.declared.kit.Seats.{Seats}
 use Rattle.wbt_run_seats.specs.Together.{AreTogether}
 use Rattle.wbt_run_seats.proofs.Together.{at_first, one_more}

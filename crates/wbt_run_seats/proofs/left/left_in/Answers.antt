@@ -1,5 +1,5 @@
 use Rattle.std.proofs.Common.{◌+◌, ◌-◌, ◌++◌, List, ap, ◌∙◌, ne_eqb, eq-eqb}
-use Rattle.wbt_journal.specs.declared.journal.Left.{Left}
+use Rattle.wbt_kit.proofs.Common.{Left}
 use Rattle.wbt_run_laws.specs.Throttle.{left_from}
 use Rattle.wbt_run_seats.specs.Left.{book_of}
 use Rattle.wbt_run_seats.proofs.Lefts.{found_one, found_none}

@@ -1,5 +1,5 @@
 use Rattle.std.proofs.Common.{◌≡◌, ◌<◌, ◌↔◌, ℕ, true, IsTrue}
-use Rattle.wbt_published.specs.Passes.{known_of}
+use Rattle.wbt_kit.proofs.Common.{known_of}
 use Rattle.wbt_published.specs.Publishing.{IsComplete}
 use Rattle.wbt_run_seats.proofs.rights.publishes_all.Given as goal
 

@@ -1,5 +1,5 @@
 use Rattle.std.proofs.Common.{sym, subst, arith}
-use Rattle.wbt_kit.specs.Kit.{AreSeatsOf}
+use Rattle.wbt_kit.proofs.Common.{AreSeatsOf}
 use Rattle.wbt_run_seats.proofs.Parting.{may_split, some_parts_seats, all_parts, all_left}
 use Rattle.wbt_run_seats.proofs.split.split_each.Goals as goal
 

@@ -1,7 +1,6 @@
 use Rattle.std.proofs.Common.{◌≡◌, ℕ, suc, ◌-◌, ◌≤◌, List, [], ◌∷◌, ◌++◌, length, get_or, sym, ap, ◌∙◌, subst, arith, length-append}
 use Rattle.std.proofs.lemmas.List.{get_or_append_left}
-use Rattle.wbt_fraction.specs.Several.{CanSplit}
-use Rattle.wbt_kit.specs.Kit.{AreSeatsOf}
+use Rattle.wbt_kit.proofs.Common.{CanSplit, AreSeatsOf}
 use Rattle.wbt_kit.specs.declared.kit.Seats.{Seats}
 use Rattle.wbt_run_seats.specs.Parts.{rest_of, parts_of, AreBack}
 use Rattle.wbt_run_seats.proofs.Undoing.{last_back}

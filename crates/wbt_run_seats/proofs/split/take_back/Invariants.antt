@@ -1,6 +1,5 @@
 use Rattle.std.proofs.Common.{◌≡◌, ℕ, ◌<◌, ◌≤◌, length, get_or}
-use Rattle.wbt_fraction.specs.Several.{CanSplit}
-use Rattle.wbt_kit.specs.Kit.{AreSeatsOf}
+use Rattle.wbt_kit.proofs.Common.{CanSplit, AreSeatsOf}
 use Rattle.wbt_kit.specs.declared.kit.Seats.{Seats as Parts}
 use Rattle.wbt_run_seats.specs.Parts.{rest_of, parts_of, AreBack}
 use Rattle.wbt_run_seats.proofs.split.take_back.Given as goal

@@ -1,8 +1,7 @@
 use Rattle.std.proofs.Common.{refl}
 use Rattle.wbt_grant.specs.Kinds as kind
-use Rattle.wbt_grant.specs.Seats.{record_after}
+use Rattle.wbt_kit.proofs.Common.{record_after, setting}
 use Rattle.wbt_kit.specs.declared.kit.Seats.{Seats}
-use Rattle.wbt_table.specs.Layout.{setting}
 use Rattle.wbt_run_steps.proofs.Changing.{seats_stay}
 use Rattle.wbt_run_steps.proofs.inodes.mark.Goals as goal
 

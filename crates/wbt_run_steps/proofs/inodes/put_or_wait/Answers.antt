@@ -1,4 +1,5 @@
-use Rattle.wbt_queue.specs.Passes.{Held, known_of, size_of}
+use Rattle.wbt_kit.proofs.Common.{Held, size_of}
+use Rattle.wbt_queue.specs.Passes.{known_of}
 use Rattle.wbt_run_steps.proofs.Queues.{only_put}
 use Rattle.wbt_run_steps.proofs.inodes.put_or_wait.Goals as goal
 

@@ -1,8 +1,6 @@
 use Rattle.std.proofs.Common.{refl}
-use Rattle.wbt_grant.specs.Kinds.{count}
-use Rattle.wbt_grant.specs.Seats.{cpu_for, record_after}
+use Rattle.wbt_kit.proofs.Common.{count, cpu_for, record_after, setting}
 use Rattle.wbt_kit.specs.declared.kit.Seats.{Seats}
-use Rattle.wbt_table.specs.Layout.{setting}
 use Rattle.wbt_run_steps.proofs.Changing.{seats_stay}
 use Rattle.wbt_run_steps.proofs.Logging.{makes_as}
 use Rattle.wbt_run_steps.proofs.Loading.{loader_held, made_by}

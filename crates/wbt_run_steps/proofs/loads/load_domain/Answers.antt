@@ -1,8 +1,7 @@
 -- One load after the other.
 use Rattle.std.proofs.Common.{ℕ, inl, inr, refl, subst}
-use Rattle.wbt_counter.specs.declared.counter.Counter.TheVariants.{Domain}
+use Rattle.wbt_kit.proofs.Common.{Domain, setting}
 use Rattle.wbt_grant.specs.Kinds as kind
-use Rattle.wbt_table.specs.Layout.{setting}
 use Rattle.wbt_turns.specs.Words.{counts}
 use Rattle.wbt_run_steps.specs.Kinds.{StepsAs, loads_of_limits}
 use Rattle.wbt_run_steps.proofs.Gating.{asked_more, asked_once, once_made}

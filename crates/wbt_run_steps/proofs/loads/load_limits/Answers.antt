@@ -2,11 +2,8 @@
 use Rattle.std.proofs.Common.{ℕ, false, Result, Ok, Err, refl, subst}
 use Rattle.std.specs.Prelude.{IfOk, OnErr}
 use Rattle.wbt_num.specs.Limits.{IsLawful}
-use Rattle.wbt_grant.specs.Seats.{cpu_for}
+use Rattle.wbt_kit.proofs.Common.{cpu_for, setting, Holds, Triple}
 use Rattle.wbt_kit.specs.declared.kit.Seats.{Seats}
-use Rattle.wbt_table.specs.Layout.{setting}
-use Rattle.wbt_table.specs.Rule.{Holds}
-use Rattle.wbt_table.specs.declared.answer.Triple.{Triple}
 use Rattle.wbt_run_steps.specs.Loads.{LoadsLimits, LoadsSome}
 use Rattle.wbt_run_steps.specs.Records.{OnlyCpu}
 use Rattle.wbt_run_steps.specs.Steps.{IsStopped}

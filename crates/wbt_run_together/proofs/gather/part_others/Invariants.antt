@@ -1,7 +1,6 @@
 use Rattle.std.proofs.Common.{◌≡◌, ◌+◌, ◌≤◌, length}
 use Rattle.std.specs.Vec.{vec_capacity}
-use Rattle.wbt_journal.specs.Each.{Each}
-use Rattle.wbt_signals.specs.Signals.{Known}
+use Rattle.wbt_run_worker.proofs.Common.{Each, Known}
 use Rattle.wbt_run_together.specs.Gather.{AllAtKit}
 use Rattle.wbt_run_first.specs.Voiced.{all_voices, voices_of}
 use Rattle.wbt_run_together.proofs.Parting.{Parted}

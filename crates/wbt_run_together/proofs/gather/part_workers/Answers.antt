@@ -1,5 +1,5 @@
 use Rattle.std.proofs.Common.{ap, ◌∙◌, arith}
-use Rattle.wbt_signals.specs.Signals.{Known}
+use Rattle.wbt_run_worker.proofs.Common.{Known}
 use Rattle.wbt_run_together.proofs.Parting.{at_head, at_tail, came_first, sides_first, with_first}
 use Rattle.wbt_run_together.proofs.Voicing.{theirs_so, voice_so}
 use Rattle.wbt_run_together.proofs.gather.part_workers.Goals as goal

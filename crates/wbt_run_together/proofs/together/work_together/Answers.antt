@@ -5,8 +5,7 @@ use Rattle.wbt_run_worker.specs.declared.side.CpuSide.{CpuSide}
 use Rattle.wbt_run_together.specs.Gather.{sides_of}
 use Rattle.wbt_run_first.specs.Seated.{HasTicked, MakeAll}
 use Rattle.wbt_run_together.proofs.Leaving.{all_at, all_may, came_at, comes, has_ticked, left_sealed, may_begin, publishes_none, some_work}
-use Rattle.wbt_signals.specs.Signals.{Known}
-use Rattle.wbt_run_worker.specs.Voices.{TimerSpeaks}
+use Rattle.wbt_run_worker.proofs.Common.{Known, TimerSpeaks}
 use Rattle.wbt_run_together.proofs.Voicing.{all_left, all_written, signals_of, signals_stay, stops_for}
 use Rattle.wbt_run_together.proofs.together.work_together.Goals as goal
 

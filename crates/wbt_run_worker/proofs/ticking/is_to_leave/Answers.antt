@@ -1,5 +1,5 @@
 use Rattle.std.proofs.Common.{false, ap, refl, ◌∙◌}
-use Rattle.wbt_signals.specs.Signals.{Known}
+use Rattle.wbt_run_worker.proofs.Common.{Known}
 use Rattle.wbt_run_worker.proofs.Speaking.{timer_looked, timer_looked_for, timer_more, timer_now}
 use Rattle.wbt_run_worker.proofs.ticking.is_to_leave.Goals as goal
 

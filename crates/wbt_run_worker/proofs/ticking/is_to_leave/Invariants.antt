@@ -1,5 +1,5 @@
 use Rattle.std.proofs.Common.{◌≡◌, Bool}
-use Rattle.wbt_run_worker.specs.Voices.{TimerSpeaks}
+use Rattle.wbt_run_worker.proofs.Common.{TimerSpeaks}
 use Rattle.wbt_run_worker.proofs.ticking.is_to_leave.Given as goal
 
 abbrev pub invariant-loop : goal.invariant-loop

@@ -1,6 +1,5 @@
 use Rattle.std.proofs.Common.{◌≡◌, ℕ, ◌%◌, ◌<◌, length, get_or}
-use Rattle.wbt_table.specs.Held.{first_triple, no_triple}
-use Rattle.wbt_table.specs.Layout.{no_limits}
+use Rattle.wbt_table.proofs.Common.{first_triple, no_triple, no_limits}
 use Rattle.wbt_table.proofs.held.first_triples.Given as goal
 
 abbrev pub invariant-loop-k : goal.invariant-loop-k

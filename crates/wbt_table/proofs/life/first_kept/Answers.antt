@@ -1,9 +1,7 @@
 use Rattle.std.proofs.Common.{◌≡◌, List, ap, ◌∙◌, subst, ℕ, ◌*◌, ◌%◌, ◌<◌, get_or, replicate, length, Some}
-use Rattle.wbt_num.specs.declared.limits.Limits.{Limits}
+use Rattle.wbt_table.proofs.Common.{Limits, first_triple, no_triple, no_limits}
 use Rattle.wbt_table.specs.declared.layout.Writer.{Writer}
 use Rattle.wbt_table.specs.declared.state.CpuState.{CpuState}
-use Rattle.wbt_table.specs.Held.{first_triple, no_triple}
-use Rattle.wbt_table.specs.Layout.{no_limits}
 use Rattle.wbt_table.proofs.life.first_kept.Goals as goal
 
 pub returns-clause-cpus : goal.returns-clause-cpus

@@ -1,11 +1,9 @@
 use Rattle.std.proofs.Common.{◌≡◌, ℕ, ◌+◌, ◌-◌, ◌*◌, List, ◌++◌, map, replicate, pos, ap, ◌∙◌, arith}
-use Rattle.wbt_num.specs.declared.limits.Limits.{Limits}
-use Rattle.wbt_limits.specs.Words.{thresh_word_of}
-use Rattle.wbt_counter.specs.Word.{packed, own_word}
+use Rattle.wbt_table.proofs.Common.{Limits, thresh_word_of, packed, own_word, counters, stride, first_sequence_word}
 use Rattle.wbt_table.specs.declared.layout.Layout.{Layout}
 use Rattle.wbt_table.specs.declared.words.Offsets.{Offsets}
 use Rattle.wbt_table.specs.declared.words.TheConstants.{SPARE_WORDS}
-use Rattle.wbt_table.specs.Layout.{counters, shared_from, stride, first_sequence_word}
+use Rattle.wbt_table.specs.Layout.{shared_from}
 use Rattle.wbt_table.proofs.life.first_words.Goals as goal
 
 pub returns : goal.returns

@@ -1,5 +1,5 @@
 use Rattle.std.proofs.Common.{◌-◌, length, sym, ◌∙◌, arith}
-use Rattle.wbt_table.specs.Layout.{no_place}
+use Rattle.wbt_table.proofs.Common.{no_place}
 use Rattle.wbt_table.proofs.Opening.{last_end, some_length}
 use Rattle.wbt_table.proofs.life.pages_of.Goals as goal
 

@@ -1,5 +1,5 @@
 use Rattle.std.proofs.Common.{◌≡◌, ◌++◌, map, take}
-use Rattle.wbt_num.specs.declared.limits.Limits.{Limits}
+use Rattle.wbt_table.proofs.Common.{Limits}
 use Rattle.wbt_table.proofs.life.push_peaks.Given as goal
 
 abbrev pub invariant-loop-first : goal.invariant-loop-first

@@ -1,5 +1,5 @@
 use Rattle.std.proofs.Common.{◌≡◌, ◌++◌, map, take}
-use Rattle.wbt_table.specs.Layout.{first_sequence_word}
+use Rattle.wbt_table.proofs.Common.{first_sequence_word}
 use Rattle.wbt_table.proofs.life.push_sequences.Given as goal
 
 abbrev pub invariant-loop-first : goal.invariant-loop-first

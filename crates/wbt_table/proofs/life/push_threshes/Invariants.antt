@@ -1,5 +1,5 @@
 use Rattle.std.proofs.Common.{◌≡◌, ◌++◌, map, take}
-use Rattle.wbt_limits.specs.Words.{thresh_word_of}
+use Rattle.wbt_table.proofs.Common.{thresh_word_of}
 use Rattle.wbt_table.proofs.life.push_threshes.Given as goal
 
 abbrev pub invariant-loop-first : goal.invariant-loop-first

@@ -1,5 +1,5 @@
 use Rattle.std.proofs.Common.{ℕ, ◌+◌, ◌-◌, ◌/◌, arith}
-use Rattle.wbt_table.specs.Layout.{no_place}
+use Rattle.wbt_table.proofs.Common.{no_place}
 use Rattle.wbt_table.proofs.Searching.{is_inside, not_after, after_it, end_before}
 use Rattle.wbt_table.proofs.pages.home_of.Goals as goal
 use Rattle.wbt_table.proofs.pages.home_of.Goals.{then-page-inodes, else-page-inodes}

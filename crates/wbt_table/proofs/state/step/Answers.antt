@@ -1,5 +1,5 @@
 use Rattle.std.proofs.Common.{Some, arith}
-use Rattle.wbt_table.specs.Seat.{stepped}
+use Rattle.wbt_table.proofs.Common.{stepped}
 use Rattle.wbt_table.proofs.Lists.{at_less}
 use Rattle.wbt_table.proofs.Seating.{some_kept, puts}
 use Rattle.wbt_table.proofs.state.step.Goals as goal

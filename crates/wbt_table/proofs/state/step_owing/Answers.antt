@@ -1,6 +1,7 @@
 use Rattle.std.proofs.Common.{Some, to_z-of_z, w64, ◌∙◌, arith}
 use Rattle.wbt_table.specs.declared.state.CpuState.{CpuState}
-use Rattle.wbt_table.specs.Seat.{page_stepped, owing_events}
+use Rattle.wbt_table.proofs.Common.{page_stepped}
+use Rattle.wbt_table.specs.Seat.{owing_events}
 use Rattle.wbt_table.proofs.Lists.{at_less}
 use Rattle.wbt_table.proofs.Seating.{some_kept, has_page_step, puts}
 use Rattle.wbt_table.proofs.state.step_owing.Goals as goal

@@ -1,5 +1,5 @@
 use Rattle.std.proofs.Common.{Some, arith}
-use Rattle.wbt_table.specs.Seat.{page_stepped}
+use Rattle.wbt_table.proofs.Common.{page_stepped}
 use Rattle.wbt_table.proofs.Lists.{at_less}
 use Rattle.wbt_table.proofs.Seating.{some_kept, has_page_step, puts}
 use Rattle.wbt_table.proofs.state.step_page.Goals as goal

@@ -1,7 +1,6 @@
 use Rattle.std.proofs.Common.{Some, ◌∙◌, ap, arith}
 use Rattle.wbt_table.specs.declared.state.CpuState.{CpuState}
-use Rattle.wbt_table.specs.Seat.{stepped}
-use Rattle.wbt_table.specs.Settle.{with_due}
+use Rattle.wbt_table.proofs.Common.{stepped, with_due}
 use Rattle.wbt_table.proofs.Lists.{at_less}
 use Rattle.wbt_table.proofs.Seating.{some_kept, puts}
 use Rattle.wbt_table.proofs.state.step_slot.Goals as goal

@@ -1,8 +1,7 @@
 use Rattle.std.proofs.Common.{refl, ◌∙◌}
 use Rattle.wbt_grant.specs.Kinds.{peak}
 use Rattle.wbt_kit.specs.declared.kit.Seats.{Seats}
-use Rattle.wbt_grant.specs.Seats.{timer_after}
-use Rattle.wbt_table.specs.Layout.{setting}
+use Rattle.wbt_kit.proofs.Common.{timer_after, setting}
 use Rattle.wbt_timer.proofs.Stepping.{last_put, may_put, put_kept, put_on, put_stopped}
 use Rattle.wbt_timer.proofs.Asking.{asked_beside, asked_more, asked_put}
 use Rattle.wbt_timer.proofs.Made.{put_steps, sealed_on, steps_one}

@@ -2,16 +2,11 @@ use Rattle.std.proofs.Common.{◌≡◌, ◌<◌, ◌≤◌, ◌∷◌, ◌++◌
 use Rattle.std.proofs.lemmas.List.{get_or_default}
 use Rattle.std.proofs.lemmas.List.Elements.{All-set}
 use Rattle.wbt_num.specs.Limits.{IsLawful}
-use Rattle.wbt_num.specs.declared.limits.TheConstants.{MAX_LIMIT}
-use Rattle.wbt_counter.specs.declared.counter.Counter.TheVariants.{Domain}
+use Rattle.wbt_kit.proofs.Common.{MAX_LIMIT, Domain, Timer, setting, Put, Stopped}
 use Rattle.wbt_grant.specs.Kinds.{count as count_step}
-use Rattle.wbt_grant.specs.declared.who.Who.TheVariants.{Timer}
-use Rattle.wbt_table.specs.Layout.{setting}
 use Rattle.wbt_run_laws.proofs.Lists.{each_append}
 use Rattle.wbt_timer.specs.Kinds.{PutSteps}
 use Rattle.wbt_timer.specs.Turn.{IsLastPut, Outcome, PublishedEach, global_in, is_through, limits_by, no_side}
-use Rattle.wbt_table.specs.declared.answer.Put.{Put}
-use Rattle.wbt_table.specs.declared.answer.Put.TheVariants.{Stopped}
 use Rattle.wbt_timer.specs.declared.side.DomainSide.{DomainSide}
 use Rattle.wbt_timer.proofs.Asking.{asked_count, asked_more, asked_none}
 use Rattle.wbt_timer.proofs.Found.{found_lawful}

@@ -1,8 +1,6 @@
 use Rattle.std.proofs.Common.{◌≡◌, ◌+◌, ◌≤◌, All, length}
 use Rattle.std.specs.Vec.{vec_len, vec_capacity}
-use Rattle.wbt_num.specs.declared.limits.TheConstants.{MAX_LIMIT}
-use Rattle.wbt_grant.specs.declared.record.TimerRecord.{TimerRecord}
-use Rattle.wbt_kit.specs.Kit.{AreSeatsOf, HasTimer}
+use Rattle.wbt_kit.proofs.Common.{MAX_LIMIT, TimerRecord, AreSeatsOf, HasTimer}
 use Rattle.wbt_timer.specs.Gate.{AskedBeforePublishing}
 use Rattle.wbt_timer.specs.Kinds.{HasSealed, TakesTurn}
 use Rattle.wbt_timer.specs.Turn.{PublishedFirst}

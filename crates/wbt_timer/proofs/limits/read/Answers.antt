@@ -1,9 +1,5 @@
 use Rattle.std.proofs.Common.{◌∷◌, sym, refl, ap}
-use Rattle.wbt_counter.specs.declared.counter.Count.{Count}
-use Rattle.wbt_counter.specs.declared.counter.Counter.TheVariants.{Domain}
-use Rattle.wbt_grant.specs.Kinds.{count}
-use Rattle.wbt_grant.specs.Seats.{timer_after}
-use Rattle.wbt_grant.specs.declared.who.Who.TheVariants.{Timer}
+use Rattle.wbt_kit.proofs.Common.{Count, Domain, count, timer_after, Timer}
 use Rattle.wbt_timer.specs.Turn.{reading_of}
 use Rattle.wbt_timer.proofs.limits.read.Goals as goal
 

@@ -1,6 +1,6 @@
 use Rattle.std.proofs.Common.{◌≤◌, Bool, [], refl, sym, arith, subst}
 use Rattle.std.proofs.lemmas.List.{append-nil, set-get_or}
-use Rattle.wbt_fraction.specs.Several.{no_seat}
+use Rattle.wbt_kit.proofs.Common.{no_seat}
 use Rattle.wbt_fraction.specs.Seat.{Begins}
 use Rattle.wbt_timer.specs.Turn.{seat_at}
 use Rattle.wbt_timer.specs.Turn.Tries.{none, refused, came_between}

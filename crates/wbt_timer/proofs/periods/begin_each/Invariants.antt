@@ -1,6 +1,6 @@
 use Rattle.std.proofs.Common.{◌+◌, ◌-◌, ◌≤◌, length}
 use Rattle.std.specs.Vec.{vec_len, vec_capacity}
-use Rattle.wbt_kit.specs.Kit.{AreSeatsOf}
+use Rattle.wbt_kit.proofs.Common.{AreSeatsOf}
 use Rattle.wbt_timer.specs.Turn.{TriedEach}
 use Rattle.wbt_timer.proofs.periods.begin_each.Given as goal
 

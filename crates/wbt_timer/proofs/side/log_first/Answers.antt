@@ -1,10 +1,7 @@
 use Rattle.std.proofs.Common.{◌-◌, ◌+◌, ◌++◌, ◌∷◌, [], List, ap, ◌∙◌, arith}
-use Rattle.wbt_num.specs.declared.limits.Limits.{Limits}
-use Rattle.wbt_journal.specs.Machine.{domains}
-use Rattle.wbt_journal.specs.declared.timer.TimerEntry.{TimerEntry}
+use Rattle.wbt_kit.proofs.Common.{Limits, domains, TimerEntry, first_limits}
 use Rattle.wbt_journal.specs.declared.timer.TimerEntry.TheVariants.{Limits as LimitsLine}
 use Rattle.wbt_run_laws.specs.Closed.{first_lines}
-use Rattle.wbt_rules.specs.Thresholds.{first_limits}
 use Rattle.wbt_timer.proofs.Opened.{lines_more}
 use Rattle.wbt_timer.proofs.side.log_first.Goals as goal
 

@@ -1,8 +1,7 @@
 use Rattle.std.proofs.Common.{◌≡◌, ◌+◌, ◌-◌, ◌≤◌, ◌++◌}
 use Rattle.std.specs.Vec.{vec_len, vec_capacity}
-use Rattle.wbt_journal.specs.Machine.{domains}
+use Rattle.wbt_kit.proofs.Common.{domains, first_limits}
 use Rattle.wbt_run_laws.specs.Closed.{first_lines}
-use Rattle.wbt_rules.specs.Thresholds.{first_limits}
 use Rattle.wbt_timer.proofs.side.log_first.Given as goal
 
 abbrev pub invariant-loop-domain : goal.invariant-loop-domain

@@ -1,9 +1,8 @@
 use Rattle.std.proofs.Common.{ℕ, Option, refl, subst}
-use Rattle.wbt_kit.specs.declared.kit.Seats.{Seats}
+use Rattle.wbt_writer.proofs.Common.{Seats}
 use Rattle.wbt_run_steps.proofs.Logging.{grant_as}
 use Rattle.wbt_table.specs.History.{LogsGrant}
-use Rattle.wbt_table.specs.Seat.{LogComes}
-use Rattle.wbt_table.specs.declared.rule.Granted.{Granted}
+use Rattle.wbt_kit.proofs.Common.{LogComes, Granted}
 use Rattle.wbt_writer.proofs.Giving.{given, may_give}
 use Rattle.wbt_writer.proofs.check.give.Goals as goal
 

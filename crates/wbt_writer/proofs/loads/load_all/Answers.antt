@@ -1,17 +1,12 @@
 use Rattle.std.proofs.Common.{◌++◌}
-use Rattle.wbt_counter.specs.declared.counter.Counter.TheVariants.{Context}
-use Rattle.wbt_grant.specs.Kinds.{count}
+use Rattle.wbt_writer.proofs.Common.{Context, count, setting, one, domain_steps, asked_more}
 use Rattle.wbt_grant.specs.declared.who.Who.TheVariants.{Writer}
-use Rattle.wbt_run_steps.specs.Loads.{one}
-use Rattle.wbt_run_steps.specs.Made.{domain_steps}
 use Rattle.wbt_run_steps.proofs.Making.{domain_made, each_more, part_made, some_before, some_behind}
 use Rattle.wbt_writer.specs.Loads.{group_steps}
-use Rattle.wbt_table.specs.Layout.{setting}
 use Rattle.wbt_writer.proofs.Erring.{on_err}
 use Rattle.wbt_writer.proofs.Loading.{all_by, some_more}
 use Rattle.wbt_writer.proofs.Reading.{domain_loaded, may_load, part_loaded}
 use Rattle.wbt_writer.proofs.loads.load_all.Goals as goal
-use Rattle.wbt_run_steps.proofs.Gating.{asked_more}
 
 pub load_domain-requires : goal.load_domain-requires
 load_domain-requires g c = record {

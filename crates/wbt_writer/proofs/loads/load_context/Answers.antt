@@ -1,14 +1,10 @@
 use Rattle.std.proofs.Common.{[]}
-use Rattle.wbt_table.specs.Layout.{setting}
+use Rattle.wbt_writer.proofs.Common.{setting, count, Context, asked_none, asked_once, once_made, one}
 use Rattle.wbt_writer.proofs.Loading.{loaded_none}
 use Rattle.wbt_writer.proofs.Reading.{context_loaded, may_load}
 use Rattle.wbt_writer.proofs.loads.load_context.Goals as goal
-use Rattle.wbt_counter.specs.declared.counter.Counter.TheVariants.{Context}
-use Rattle.wbt_grant.specs.Kinds.{count}
 use Rattle.wbt_grant.specs.declared.who.Who.TheVariants.{Writer}
-use Rattle.wbt_run_steps.proofs.Gating.{asked_none, asked_once, once_made}
 use Rattle.std.proofs.Common.{arith, refl}
-use Rattle.wbt_run_steps.specs.Loads.{one}
 use Rattle.wbt_run_steps.proofs.Making.{count_made, some_none}
 
 pub load_count-count-requires : goal.load_count-count-requires

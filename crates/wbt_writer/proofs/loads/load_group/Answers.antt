@@ -1,15 +1,13 @@
 use Rattle.std.proofs.Common.{[], List, eq-eqb, ne_eqb, eqb, refl, subst, sym}
 use Rattle.std.proofs.lemmas.Bool.{cond-false, cond-true}
-use Rattle.wbt_grant.specs.Kinds.{Step}
+use Rattle.wbt_writer.proofs.Common.{setting, MakesEach, MakesSome, domain_steps, asked_none}
+use Rattle.wbt_kit.proofs.Common.{Step}
 use Rattle.wbt_grant.specs.declared.who.Who.TheVariants.{Writer}
-use Rattle.wbt_run_steps.specs.Made.{MakesEach, MakesSome, domain_steps}
 use Rattle.wbt_run_steps.proofs.Making.{domain_made, each_none, part_made}
-use Rattle.wbt_table.specs.Layout.{setting}
 use Rattle.wbt_writer.proofs.Erring.{on_err}
 use Rattle.wbt_writer.proofs.Loading.{some_group}
 use Rattle.wbt_writer.proofs.Reading.{domain_loaded, may_load, part_loaded}
 use Rattle.wbt_writer.proofs.loads.load_group.Goals as goal
-use Rattle.wbt_run_steps.proofs.Gating.{asked_none}
 
 pub load_domain-requires : goal.load_domain-requires
 load_domain-requires g c = record {

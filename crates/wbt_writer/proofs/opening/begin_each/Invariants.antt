@@ -1,5 +1,5 @@
 use Rattle.std.proofs.Common.{◌≡◌, ◌<◌, ◌≤◌, ℕ, length, get_or}
-use Rattle.wbt_writer.specs.Counted.{no_task}
+use Rattle.wbt_writer.proofs.Common.{no_task}
 use Rattle.wbt_writer.specs.Opening.{begun}
 use Rattle.wbt_writer.proofs.opening.begin_each.Given as goal
 

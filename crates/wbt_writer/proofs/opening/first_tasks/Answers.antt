@@ -1,5 +1,5 @@
 use Rattle.std.proofs.Common.{◌<◌, get_or, sym, subst, ℕ}
-use Rattle.wbt_writer.specs.Counted.{no_task}
+use Rattle.wbt_writer.proofs.Common.{no_task}
 use Rattle.wbt_writer.proofs.opening.first_tasks.Goals as goal
 
 pub returns-clause-each : goal.returns-clause-each

@@ -1,6 +1,6 @@
 use Rattle.std.proofs.Common.{◌<◌, length, sym, ap, ◌∙◌, subst, ℕ}
 use Rattle.std.proofs.lemmas.List.{get_or_default}
-use Rattle.wbt_writer.specs.Counted.{no_task}
+use Rattle.wbt_writer.proofs.Common.{no_task}
 use Rattle.wbt_writer.specs.Opening.{seen_more}
 use Rattle.wbt_writer.proofs.Seeing.{seen_all, by_in_range}
 use Rattle.wbt_writer.proofs.opening.see_action.Goals as goal

@@ -1,6 +1,5 @@
 use Rattle.std.proofs.Common.{◌≡◌, ◌<◌, ℕ, length, get_or}
-use Rattle.wbt_journal.specs.Side.{is_own_task}
-use Rattle.wbt_writer.specs.Counted.{no_task}
+use Rattle.wbt_writer.proofs.Common.{is_own_task, no_task}
 use Rattle.wbt_writer.specs.Opening.{HasSeen}
 use Rattle.wbt_writer.proofs.opening.see_actions.Given as goal
 

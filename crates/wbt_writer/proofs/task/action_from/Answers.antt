@@ -1,6 +1,6 @@
 use Rattle.std.proofs.Common.{ap, arith, length, subst, ℕ}
 use Rattle.std.proofs.lemmas.Option.{slice_get_within}
-use Rattle.wbt_writer.specs.Ahead.{Skips}
+use Rattle.wbt_writer.proofs.Common.{Skips}
 use Rattle.wbt_writer.proofs.Along.{skips_more}
 use Rattle.wbt_writer.proofs.task.action_from.Goals as goal
 

@@ -1,4 +1,4 @@
-use Rattle.wbt_writer.specs.Ahead.{Skips}
+use Rattle.wbt_writer.proofs.Common.{Skips}
 use Rattle.wbt_writer.proofs.task.action_from.Given as goal
 
 abbrev pub invariant-loop-at : goal.invariant-loop-at

@@ -1,5 +1,5 @@
 use Rattle.std.proofs.Common.{◌≡◌, drop}
-use Rattle.wbt_journal.specs.Side.{number_from}
+use Rattle.wbt_writer.proofs.Common.{number_from}
 use Rattle.wbt_writer.proofs.tasks.number_in.Given as goal
 
 abbrev pub invariant-loop-number : goal.invariant-loop-number

@@ -1,6 +1,5 @@
 use Rattle.std.proofs.Common.{subst, ap, ◌∙◌, replicate}
-use Rattle.wbt_journal.specs.Counts.{folds_in}
-use Rattle.wbt_journal.specs.Items.{all_told}
+use Rattle.wbt_audit_walk.proofs.Common.{folds_in, all_told}
 use Rattle.wbt_audit_reads.specs.Folding.{AreOf}
 use Rattle.wbt_audit_reads.specs.Summing.{AreSumsBy}
 use Rattle.wbt_audit_reads.proofs.Counted.{sums_by, seen_first}

@@ -1,5 +1,6 @@
 use Rattle.std.proofs.Common.{[], ◌∷◌, ◌++◌, subst}
-use Rattle.wbt_journal.specs.Counts.{cgroup_reads, load_of_read, read_loads, versions_of}
+use Rattle.wbt_audit_walk.proofs.Common.{cgroup_reads, read_loads}
+use Rattle.wbt_journal.specs.Counts.{load_of_read, versions_of}
 use Rattle.wbt_audit_reads.specs.Counting.{Sees, context_load, one_version}
 use Rattle.wbt_audit_reads.proofs.Counted.{all_versions, saw_both}
 use Rattle.wbt_audit_reads.proofs.counts.Counts.see_check.Goals as goal

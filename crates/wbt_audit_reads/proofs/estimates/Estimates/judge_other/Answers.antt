@@ -1,5 +1,5 @@
 use Rattle.std.proofs.Common.{ap, sym, ◌∙◌, option_map}
-use Rattle.wbt_audit_walk.specs.Acts.{told_of}
+use Rattle.wbt_audit_walk.proofs.Common.{told_of}
 use Rattle.wbt_audit_reads.proofs.Estimated.{name_judged, passed}
 use Rattle.wbt_audit_reads.proofs.estimates.Estimates.judge_other.Goals as goal
 

@@ -1,7 +1,6 @@
 use Rattle.std.proofs.Common.{replicate, ap, subst, ◌∙◌}
 use Rattle.wbt_rules.specs.First.{first_estimates}
-use Rattle.wbt_journal.specs.Items.{all_told}
-use Rattle.wbt_journal.specs.Estimates.{opened_at}
+use Rattle.wbt_audit_walk.proofs.Common.{all_told, opened_at}
 use Rattle.wbt_audit_reads.specs.Estimating.{AreCounts}
 use Rattle.wbt_audit_reads.proofs.Estimated.{last_first, named_first}
 use Rattle.wbt_audit_reads.proofs.estimates.Estimates.make.Goals as goal

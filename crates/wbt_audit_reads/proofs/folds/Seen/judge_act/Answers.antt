@@ -1,5 +1,5 @@
 use Rattle.std.proofs.Common.{true, false, sym, ◌∙◌}
-use Rattle.wbt_audit_walk.specs.Acts.{told_of}
+use Rattle.wbt_audit_walk.proofs.Common.{told_of}
 use Rattle.wbt_audit_reads.proofs.Folded.{judged, passed}
 use Rattle.wbt_audit_reads.proofs.folds.Seen.judge_act.Goals as goal
 

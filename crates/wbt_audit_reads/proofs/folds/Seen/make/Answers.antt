@@ -1,6 +1,5 @@
 use Rattle.std.proofs.Common.{subst, ◌∙◌}
-use Rattle.wbt_journal.specs.Counts.{folds_in}
-use Rattle.wbt_journal.specs.Items.{all_told}
+use Rattle.wbt_audit_walk.proofs.Common.{folds_in, all_told}
 use Rattle.wbt_audit_reads.specs.Folding.{AreOf, HaveNone}
 use Rattle.wbt_audit_reads.proofs.Folded.{no_marks}
 use Rattle.wbt_audit_reads.proofs.folds.Seen.make.Goals as goal

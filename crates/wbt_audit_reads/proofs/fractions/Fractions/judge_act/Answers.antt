@@ -1,5 +1,6 @@
 use Rattle.std.proofs.Common.{ap, sym, ◌∙◌, option_map}
-use Rattle.wbt_audit_walk.specs.Acts.{told_of, added_of}
+use Rattle.wbt_audit_walk.proofs.Common.{told_of}
+use Rattle.wbt_audit_walk.specs.Acts.{added_of}
 use Rattle.wbt_audit_reads.proofs.Fractioned.{check_judged, share_judged}
 use Rattle.wbt_audit_reads.proofs.fractions.Fractions.judge_act.Goals as goal
 

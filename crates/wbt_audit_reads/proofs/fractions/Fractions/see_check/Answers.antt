@@ -1,5 +1,5 @@
 use Rattle.std.proofs.Common.{[], ◌∷◌}
-use Rattle.wbt_journal.specs.Counts.{cgroup_reads}
+use Rattle.wbt_audit_walk.proofs.Common.{cgroup_reads}
 use Rattle.wbt_journal.specs.Reads.{periods_read}
 use Rattle.wbt_audit_reads.proofs.Fractioned.{saw_both}
 use Rattle.wbt_audit_reads.proofs.fractions.Fractions.see_check.Goals as goal

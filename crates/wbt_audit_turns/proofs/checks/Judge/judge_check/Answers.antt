@@ -1,7 +1,6 @@
 use Rattle.std.proofs.Common.{ap, ◌∙◌}
 use Rattle.wbt_journal.specs.Checks.{may_check}
-use Rattle.wbt_journal.specs.Estimates.{decision_at}
-use Rattle.wbt_journal.specs.Walk.{first_of}
+use Rattle.wbt_audit_walk.proofs.Common.{decision_at, first_of}
 use Rattle.wbt_audit_turns.specs.Sides.{side_of}
 use Rattle.wbt_audit_turns.proofs.Checking.{from_later}
 use Rattle.wbt_audit_turns.proofs.checks.Judge.judge_check.Goals as goal

@@ -1,6 +1,6 @@
 use Rattle.std.proofs.Common.{sym, ◌∙◌}
 use Rattle.wbt_journal.specs.Checks.{named_estimate}
-use Rattle.wbt_journal.specs.Items.{all_told}
+use Rattle.wbt_audit_walk.proofs.Common.{all_told}
 use Rattle.wbt_audit_turns.specs.Sides.{side_of}
 use Rattle.wbt_audit_turns.proofs.Asking.{told_if, told_is, told_none}
 use Rattle.wbt_audit_turns.proofs.checks.Judge.told.Goals as goal

@@ -1,5 +1,6 @@
 use Rattle.std.proofs.Common.{◌≡◌, drop, sym, ap, ◌∙◌}
-use Rattle.wbt_journal.specs.Flights.{ToldFlusher, ToldPhase, returning}
+use Rattle.wbt_audit_walk.proofs.Common.{ToldFlusher, ToldPhase}
+use Rattle.wbt_journal.specs.Flights.{returning}
 use Rattle.wbt_audit_turns.specs.declared.flusher.Phase.{Phase}
 use Rattle.wbt_audit_turns.specs.Flown.{told_phase}
 use Rattle.wbt_audit_turns.proofs.Flying.{gives, gives_on}

@@ -1,9 +1,7 @@
 use Rattle.std.proofs.Common.{◌≡◌, ℕ, suc, ◌-◌, [], List, ◌∷◌, get_or, sym, ap, ◌∙◌, arith}
 use Rattle.std.specs.Prelude.{slice_get}
 use Rattle.std.proofs.lemmas.List.{get_or_read}
-use Rattle.wbt_estimate.specs.declared.estimate.Estimate.{Estimate}
-use Rattle.wbt_rules.specs.First.{first_estimate}
-use Rattle.wbt_journal.specs.Checks.{nth_estimate}
+use Rattle.wbt_audit_walk.proofs.Common.{Estimate, first_estimate, nth_estimate}
 use Rattle.wbt_audit_turns.proofs.Naming.{nth_is}
 use Rattle.wbt_audit_turns.proofs.named.Named.estimate.Goals as goal
 

@@ -1,8 +1,8 @@
 use Rattle.std.proofs.Common.{◌≡◌, ◌<◌, ℕ, ◌++◌, [], List, take, drop, length, flat_map, get_or, sym, ap, ◌∙◌, subst, arith}
 use Rattle.std.proofs.lemmas.List.{with_items_is}
-use Rattle.wbt_estimate.specs.declared.estimate.Estimate.{Estimate}
+use Rattle.wbt_audit_walk.proofs.Common.{Estimate, Shows, item_of, rest}
 use Rattle.wbt_audit_turns.specs.Sides.{estimates_in}
-use Rattle.wbt_audit_walk.specs.Walks.{Shows, Went, item_of, rest}
+use Rattle.wbt_audit_walk.specs.Walks.{Went}
 use Rattle.wbt_audit_turns.proofs.Naming.{all_are, one_put}
 use Rattle.wbt_audit_walk.proofs.Walking.{nearer}
 use Rattle.wbt_audit_turns.proofs.named.Named.make.Goals as goal

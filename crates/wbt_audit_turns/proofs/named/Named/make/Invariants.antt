@@ -1,8 +1,6 @@
 use Rattle.std.proofs.Common.{ℕ, ◌≡◌, ◌<◌, [], ◌++◌, length, get_or, flat_map}
-use Rattle.wbt_journal.specs.Estimates.{estimates_of}
-use Rattle.wbt_journal.specs.Items.{all_told}
+use Rattle.wbt_audit_walk.proofs.Common.{estimates_of, all_told, rest}
 use Rattle.wbt_audit_turns.specs.Sides.{estimates_in}
-use Rattle.wbt_audit_walk.specs.Walks.{rest}
 use Rattle.wbt_audit_turns.proofs.named.Named.make.Given as goal
 
 abbrev pub invariant-loop-of_contexts : goal.invariant-loop-of_contexts

@@ -1,5 +1,5 @@
 use Rattle.std.proofs.Common.{rules, ◌≡◌, ◌++◌, List, drop, ap, sym, ◌∙◌}
-use Rattle.wbt_journal.specs.Machine.{numbers}
+use Rattle.wbt_audit_walk.proofs.Common.{numbers}
 use Rattle.wbt_audit_turns.specs.Planned.{TaskPages, pages_of_spans}
 use Rattle.wbt_audit_turns.specs.declared.plan.Span.{Span}
 use Rattle.wbt_audit_turns.proofs.Planning.{spans-push, plan-push}

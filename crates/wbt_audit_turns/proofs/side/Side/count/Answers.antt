@@ -1,7 +1,7 @@
 use Rattle.std.proofs.Common.{◌∷◌, [], ap, sym, ◌∙◌, arith, length, subst, List}
 use Rattle.std.proofs.lemmas.List.{with_items_is}
 use Rattle.wbt_task.specs.History.{Along, Cpu, HasRoom, cpu_step}
-use Rattle.wbt_task.specs.declared.history.Writer.{Writer}
+use Rattle.wbt_audit_walk.proofs.Common.{Writer}
 use Rattle.wbt_task.proofs.Keeping.{same_writers}
 use Rattle.wbt_audit_turns.proofs.Siding.{one_room, one_event}
 use Rattle.wbt_audit_turns.proofs.side.Side.count.Goals as goal

@@ -1,6 +1,6 @@
 use Rattle.std.proofs.Common.{rules, sym, arith}
 use Rattle.wbt_task.specs.declared.history.Event.TheVariants.{Checked}
-use Rattle.wbt_task.specs.Counts.{is_write}
+use Rattle.wbt_audit_walk.proofs.Common.{is_write}
 use Rattle.wbt_audit_turns.specs.Sides.{cpu_of}
 use Rattle.wbt_audit_turns.proofs.Siding.{fits_by, lone_check}
 use Rattle.wbt_audit_turns.proofs.side.Side.count_check.Goals as goal

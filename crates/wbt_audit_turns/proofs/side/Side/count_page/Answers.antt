@@ -1,6 +1,6 @@
 use Rattle.std.proofs.Common.{rules, arith}
 use Rattle.wbt_task.specs.declared.history.Event.TheVariants.{Wrote}
-use Rattle.wbt_task.specs.Counts.{is_write}
+use Rattle.wbt_audit_walk.proofs.Common.{is_write}
 use Rattle.wbt_audit_turns.proofs.Siding.{fits_by, fits_lone}
 use Rattle.wbt_audit_turns.proofs.side.Side.count_page.Goals as goal
 

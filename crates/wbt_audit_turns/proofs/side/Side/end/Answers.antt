@@ -1,6 +1,5 @@
 use Rattle.std.proofs.Common.{◌≡◌, ℕ, ◌<◌, List, length, map, get_or, set, All, true, sym, ◌∙◌, subst, arith}
-use Rattle.wbt_task.specs.History.{cpu_after}
-use Rattle.wbt_task.specs.declared.history.Event.TheVariants.{Ended}
+use Rattle.wbt_audit_walk.proofs.Common.{cpu_after, Ended}
 use Rattle.wbt_journal.specs.Machine.{ratelimit_pages}
 use Rattle.wbt_journal.specs.Side.{no_task, numbers_of}
 use Rattle.wbt_audit_turns.specs.Sides.{cpu_of, state_of}

@@ -1,6 +1,5 @@
 use Rattle.std.proofs.Common.{◌≡◌, length, map, drop}
-use Rattle.wbt_task.specs.History.{cpu_after}
-use Rattle.wbt_task.specs.declared.history.Event.TheVariants.{Ended}
+use Rattle.wbt_audit_walk.proofs.Common.{cpu_after, Ended}
 use Rattle.wbt_audit_turns.specs.Sides.{Fits, cpu_of}
 use Rattle.wbt_audit_turns.proofs.side.Side.end_each.Given as goal
 

@@ -1,6 +1,5 @@
 use Rattle.std.proofs.Common.{arith}
-use Rattle.wbt_task.specs.declared.history.Event.TheVariants.{Ended}
-use Rattle.wbt_task.specs.Counts.{is_write}
+use Rattle.wbt_audit_walk.proofs.Common.{Ended, is_write}
 use Rattle.wbt_audit_turns.specs.Sides.{cpu_of}
 use Rattle.wbt_audit_turns.proofs.Siding.{fits_by, room_of}
 use Rattle.wbt_audit_turns.proofs.side.Side.end_writer.Goals as goal

@@ -1,16 +1,11 @@
 -- Memory was taken, inodes that waited were put, and then it took its turn.
-use Rattle.wbt_run_steps.proofs.Gating.{asked_more, asked_none}
+use Rattle.wbt_flusher.proofs.Common.{asked_more, asked_none, CpuJournal, FlusherAnswers, Went, Moments, sight, IsWithinQuota, PutsBefore, NoMemory, none_as}
 use Rattle.std.proofs.Common.{◌≡◌, ℕ, Bool, List, ⊎_elim, length, refl, sym, ◌∙◌, subst}
-use Rattle.wbt_io.specs.Faults.{HasRisen}
-use Rattle.wbt_journal.specs.declared.entry.CpuJournal.{CpuJournal}
-use Rattle.wbt_flusher.specs.Answers.{FlusherAnswers, IsLeft, Went}
+use Rattle.wbt_kit.proofs.Common.{HasRisen}
+use Rattle.wbt_flusher.specs.Answers.{IsLeft}
 use Rattle.wbt_flusher.specs.Cut.{DoesNothing, FailsTook, FindsNothing, StopsTook}
-use Rattle.wbt_flusher.specs.Did.{Moments}
-use Rattle.wbt_flusher.specs.Sights.{sight}
 use Rattle.wbt_flusher.specs.Took.{Took}
-use Rattle.wbt_flusher.specs.Turns.{IsWithinQuota, PutsBefore}
 use Rattle.wbt_flusher.specs.declared.work.Phase.{Phase}
-use Rattle.wbt_kit.specs.declared.turn.Turn.TheVariants.{NoMemory}
 use Rattle.wbt_flusher.proofs.Aged.{wheel_order, writes_in_time, writes_what_is_due}
 use Rattle.wbt_flusher.proofs.Cutting.{after_puts}
 use Rattle.wbt_flusher.proofs.Ending.{answers_after, as_answers, left_more}
@@ -19,7 +14,7 @@ use Rattle.wbt_flusher.proofs.Keeping.{kept_by}
 use Rattle.wbt_flusher.proofs.Quotas.{steady_within}
 use Rattle.wbt_run_steps.specs.Kinds.{StepsInTurn}
 use Rattle.wbt_table.specs.Layout.{domains}
-use Rattle.wbt_run_steps.proofs.Logging.{none_as, turn_behind}
+use Rattle.wbt_run_steps.proofs.Logging.{turn_behind}
 use Rattle.wbt_flusher.proofs.Turning.{turn_rests}
 use Rattle.wbt_flusher.proofs.flusher.Flusher.turn.Goals as goal
 

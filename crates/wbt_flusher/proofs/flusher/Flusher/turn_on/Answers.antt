@@ -1,11 +1,9 @@
 use Rattle.std.proofs.Common.{false, subst, sym}
-use Rattle.wbt_flusher.specs.Turns.{IsWithinQuota}
+use Rattle.wbt_flusher.proofs.Common.{IsWithinQuota, no_moments, sight}
 use Rattle.wbt_flusher.specs.declared.work.Phase.{Phase}
-use Rattle.wbt_io.specs.Faults.{HasRisen}
+use Rattle.wbt_kit.proofs.Common.{HasRisen}
 use Rattle.wbt_flusher.specs.Cut as cut
-use Rattle.wbt_flusher.specs.Did.{no_moments}
 use Rattle.wbt_flusher.specs.Took as took
-use Rattle.wbt_flusher.specs.Sights.{sight}
 use Rattle.wbt_flusher.proofs.Cutting.{no_fault}
 use Rattle.wbt_flusher.proofs.Ending.{answers_risen, ends_at_once, ends_undone, returning_answers}
 use Rattle.wbt_flusher.proofs.Faulting.{not_last}

@@ -1,15 +1,12 @@
 use Rattle.std.proofs.Common.{refl, sym, ap, subst, arith}
-use Rattle.wbt_journal.specs.declared.entry.CpuJournal.{CpuJournal}
-use Rattle.wbt_kit.specs.declared.kit.Seats.{Seats}
+use Rattle.wbt_flusher.proofs.Common.{CpuJournal, Seats, Goes, tally_in, tallies_of}
 use Rattle.wbt_run_laws.proofs.Calling.{looks_add_none}
-use Rattle.wbt_flusher.specs.Answers.{Goes}
 use Rattle.wbt_flusher.specs.declared.tally.Tally.{Tally}
 use Rattle.wbt_flusher.proofs.Going.{kept_same}
 use Rattle.wbt_flusher.proofs.Keeping.{kept_tally}
 use Rattle.wbt_flusher.proofs.Sharing.{looked_goes, added_goes, missed_found, owes_added, room_for}
 use Rattle.wbt_flusher.proofs.Tallying.{owed_within, totals_same, same_written, no_more, less_tally}
 use Rattle.wbt_flusher.specs.Reads.{is_kept}
-use Rattle.wbt_flusher.specs.Sights.{tally_in, tallies_of}
 use Rattle.wbt_flusher.proofs.Held.{same_owed}
 use Rattle.wbt_flusher.proofs.plan.FlusherPlan.add_owed.Goals as goal
 

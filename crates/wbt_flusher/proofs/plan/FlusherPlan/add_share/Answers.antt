@@ -1,8 +1,7 @@
 use Rattle.std.proofs.Common.{arith, sym, ap, ◌∙◌, refl, ◌<◌, length}
-use Rattle.wbt_flusher.specs.Sights.{sight}
+use Rattle.wbt_flusher.proofs.Common.{sight, no_moments}
 use Rattle.wbt_flusher.proofs.Going.{went_more, rooms_went, goes_kept}
 use Rattle.wbt_flusher.proofs.Keeping.{kept_tally}
-use Rattle.wbt_flusher.specs.Did.{no_moments}
 use Rattle.std.specs.Prelude.{None}
 use Rattle.wbt_flex.specs.Proportions.{may_be_added}
 use Rattle.wbt_flusher.specs.Reads.{is_allowed, is_dropped}

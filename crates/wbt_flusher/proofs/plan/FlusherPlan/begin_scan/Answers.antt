@@ -1,18 +1,12 @@
 use Rattle.std.proofs.Common.{refl}
-use Rattle.wbt_run_steps.proofs.Gating.{asked_more, asked_none, asked_once, once_made}
+use Rattle.wbt_flusher.proofs.Common.{asked_more, asked_none, asked_once, once_made, unmark, setting, Makes, Seated, context_of, MayTake, makes_as}
 use Rattle.wbt_flusher.proofs.Going.{goes_nowhere, kept_more}
 use Rattle.std.proofs.Common.{sym, ap, ◌∙◌, subst}
-use Rattle.wbt_grant.specs.Kinds.{unmark}
 use Rattle.wbt_published.specs.Passes as est
-use Rattle.wbt_table.specs.Layout.{setting}
-use Rattle.wbt_table.specs.Seat.{Makes, Seated}
-use Rattle.wbt_flusher.specs.Plans.{context_of}
 use Rattle.wbt_rules.specs.Flusher.{quota_of}
 use Rattle.wbt_run_steps.specs.Reads.{ReadsEstimate}
 use Rattle.wbt_flusher.specs.Turns.{begun_scan}
 use Rattle.wbt_flusher.specs.declared.work.FlusherWork.{FlusherWork}
-use Rattle.wbt_turns.specs.Words.{MayTake}
-use Rattle.wbt_run_steps.proofs.Logging.{makes_as}
 use Rattle.wbt_flusher.proofs.Turning.{no_take, one_take, still_after}
 use Rattle.wbt_flusher.proofs.plan.FlusherPlan.begin_scan.Goals as goal
 

@@ -1,8 +1,7 @@
 use Rattle.std.proofs.Common.{refl}
-use Rattle.wbt_run_steps.proofs.Gating.{asked_none}
+use Rattle.wbt_flusher.proofs.Common.{asked_none, sight}
 use Rattle.std.proofs.Common.{ap, ◌∙◌}
 use Rattle.wbt_flusher.specs.declared.work.FlusherWork.{FlusherWork}
-use Rattle.wbt_flusher.specs.Sights.{sight}
 use Rattle.wbt_flusher.proofs.Ending.{idle_stands, idles, steps_by}
 use Rattle.wbt_flusher.proofs.Going.{owes_still}
 use Rattle.wbt_flusher.proofs.Marks.{idle_bare}

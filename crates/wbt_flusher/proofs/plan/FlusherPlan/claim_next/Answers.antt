@@ -1,19 +1,11 @@
-use Rattle.wbt_grant.specs.Setting.{Setting}
+use Rattle.wbt_flusher.proofs.Common.{Setting, setting, Seated, CpuJournal, page_of, Scan, with_entry, Seats, Goes}
 use Rattle.wbt_table.specs.Calls.{Claims}
-use Rattle.wbt_table.specs.Layout.{setting}
-use Rattle.wbt_table.specs.Seat.{Seated}
 use Rattle.wbt_table.specs.declared.answer.Claim.{Claim}
 use Rattle.wbt_table.specs.declared.answer.Claim.TheVariants as table
 use Rattle.wbt_run_steps.proofs.Gating.{asked_halt, asked_look, asked_try}
 use Rattle.std.proofs.Common.{◌≡◌, ℕ, ◌+◌, Bool, true, false, ◌||◌, eqb, [], ◌∷◌, ◌++◌, inl, inr, true≢false, refl, sym, ap, ◌∙◌, subst, arith}
-use Rattle.wbt_journal.specs.declared.entry.CpuJournal.{CpuJournal}
 use Rattle.wbt_journal.specs.declared.entry.Entry.TheVariants as entry
-use Rattle.wbt_run_laws.specs.Log.{with_entry}
-use Rattle.wbt_kit.specs.declared.kit.Seats.{Seats}
-use Rattle.wbt_flusher.specs.Answers.{Goes}
 use Rattle.wbt_flusher.specs.declared.work.Phase.TheVariants.{Scanning}
-use Rattle.wbt_rules.specs.Places.{page_of}
-use Rattle.wbt_rules.specs.declared.scan.Scan.{Scan}
 use Rattle.wbt_flusher.specs.declared.work.FlusherWork.{FlusherWork}
 use Rattle.wbt_flusher.proofs.Looking.{claims_page, passes_page, misses, halted, stops_at, claimed_stands, passed_stands, both_of}
 use Rattle.wbt_flusher.proofs.Turning.{claimed_as, halted_as, looked_as}

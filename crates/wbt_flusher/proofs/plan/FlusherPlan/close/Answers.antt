@@ -1,10 +1,5 @@
 use Rattle.std.proofs.Common.{[], ◌∷◌, ◌<◌, refl, sym, ◌∙◌, subst, inl, inr, ℕ, List, length, ap}
-use Rattle.wbt_run_laws.proofs.Lists.{here}
-use Rattle.wbt_flusher.specs.Did.{Moments, no_moments}
-use Rattle.wbt_flusher.specs.Sights.{sight}
-use Rattle.wbt_kit.specs.declared.turn.Turn.TheVariants.{Halted, Stepped}
-use Rattle.wbt_rules.specs.declared.moments.TheConstants.{MOST_FAULTS}
-use Rattle.wbt_flusher.specs.Turns.{IsPhase}
+use Rattle.wbt_flusher.proofs.Common.{here, Moments, no_moments, sight, Halted, Stepped, MOST_FAULTS, IsPhase}
 use Rattle.wbt_flusher.proofs.Faulting.{not_last, rise_from, turned_back}
 use Rattle.wbt_flusher.specs.declared.work.FlusherWork.{FlusherWork}
 use Rattle.wbt_flusher.specs.declared.work.Phase.{Phase}

@@ -1,12 +1,7 @@
 use Rattle.std.proofs.Common.{ℕ, ◌<◌, false, List, length, None, ap, arith, Bool, refl, sym, ◌∙◌, subst}
-use Rattle.wbt_grant.specs.Kinds.{mark}
-use Rattle.wbt_table.specs.Layout.{setting}
-use Rattle.wbt_rules.specs.declared.moments.TheConstants.{MOST_FAULTS}
-use Rattle.wbt_run_steps.specs.Steps.{Settled}
+use Rattle.wbt_flusher.proofs.Common.{mark, setting, MOST_FAULTS, Settled, asked_more, asked_once, once_made, sight, makes_as}
 use Rattle.wbt_run_steps.proofs.Asking.{stopped_by}
-use Rattle.wbt_run_steps.proofs.Gating.{asked_more, asked_once, once_made}
 use Rattle.wbt_flusher.specs.Cut.{among_its_debts, before_its_mark}
-use Rattle.wbt_flusher.specs.Sights.{sight}
 use Rattle.wbt_flusher.specs.Took.{is_last_back, still_returns as returns_on}
 use Rattle.wbt_flusher.proofs.Ending.{idle_steady, return_stands, steps_from}
 use Rattle.wbt_flusher.proofs.Flown.{none_there}
@@ -14,7 +9,7 @@ use Rattle.wbt_flusher.proofs.Giving.{still_returns}
 use Rattle.wbt_flusher.proofs.Going.{went_more, owes_still}
 use Rattle.wbt_flusher.proofs.Paying.{settles}
 use Rattle.wbt_flusher.specs.Kinds.{ComesAfter}
-use Rattle.wbt_run_steps.proofs.Logging.{cut_whole, makes_as}
+use Rattle.wbt_run_steps.proofs.Logging.{cut_whole}
 use Rattle.wbt_flusher.proofs.Events.{may_settle, may_settle_part}
 use Rattle.wbt_flusher.proofs.Turning.{comes_back, comes_back_cut, comes_back_last, one_mark}
 use Rattle.wbt_flusher.proofs.plan.FlusherPlan.come_back.Goals as goal

@@ -1,19 +1,6 @@
 use Rattle.std.proofs.Common.{◌≡◌, ℕ, ◌+◌, ◌<◌, ◌≤◌, [], get_or, refl, sym, ap, ◌∙◌, subst, arith}
-use Rattle.wbt_book.specs.Ledger.{times_in}
-use Rattle.wbt_grant.specs.declared.record.CpuRecord.{CpuRecord}
-use Rattle.wbt_grant.specs.Kinds.{complete}
-use Rattle.wbt_grant.specs.Seats.{record_after}
-use Rattle.wbt_table.specs.Layout.{setting}
-use Rattle.wbt_table.specs.Seat.{Seated, Changes}
-use Rattle.wbt_table.proofs.Lists.{same_default}
-use Rattle.wbt_journal.specs.declared.entry.CpuJournal.{CpuJournal}
+use Rattle.wbt_flusher.proofs.Common.{times_in, CpuRecord, complete, record_after, setting, Seated, Changes, same_default, CpuJournal, with_entry, Seats, record_of, record_is, Went, Goes, sight}
 use Rattle.wbt_journal.specs.declared.entry.Entry.TheVariants as entry
-use Rattle.wbt_run_laws.specs.Log.{with_entry}
-use Rattle.wbt_kit.specs.declared.kit.Seats.{Seats}
-use Rattle.wbt_run_steps.specs.Records.{record_of}
-use Rattle.wbt_run_steps.proofs.Changing.{record_is}
-use Rattle.wbt_flusher.specs.Answers.{Went, Goes}
-use Rattle.wbt_flusher.specs.Sights.{sight}
 use Rattle.wbt_flusher.specs.declared.work.Flight.{Flight}
 use Rattle.wbt_flusher.specs.declared.work.Phase.TheVariants.{Flying}
 use Rattle.wbt_flusher.specs.declared.work.FlusherWork.{FlusherWork}

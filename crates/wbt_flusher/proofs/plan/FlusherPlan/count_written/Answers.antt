@@ -1,5 +1,5 @@
 use Rattle.std.proofs.Common.{refl, arith}
-use Rattle.wbt_kit.specs.declared.kit.Seats.{Seats}
+use Rattle.wbt_flusher.proofs.Common.{Seats}
 use Rattle.wbt_flusher.proofs.Sharing.{counted_goes, total_room_for}
 use Rattle.wbt_flusher.proofs.Tallying.{no_more, total_here, total_elsewhere}
 use Rattle.wbt_flusher.proofs.plan.FlusherPlan.count_written.Goals as goal

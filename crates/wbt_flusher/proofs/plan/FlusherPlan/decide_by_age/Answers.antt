@@ -1,19 +1,13 @@
-use Rattle.wbt_run_steps.proofs.Gating.{asked_more, asked_none}
+use Rattle.wbt_flusher.proofs.Common.{asked_more, asked_none, Waiting, Seats, Stepped, HasWheel, WasTold, sight, MayTake}
 use Rattle.std.proofs.Common.{◌+◌, Option, false, refl, sym, ap, ◌∙◌, subst, inl, inr}
-use Rattle.wbt_expiry.specs.Waiting.{Waiting}
-use Rattle.wbt_kit.specs.declared.kit.Seats.{Seats}
-use Rattle.wbt_kit.specs.declared.turn.Turn.TheVariants.{Stepped}
 use Rattle.wbt_rules.specs.declared.moments.TheConstants.{FLUSHER_REST}
 use Rattle.wbt_flusher.specs.Ageing.{NoticesAll, TakesByAge}
-use Rattle.wbt_flusher.specs.Ages.{HasWheel, WasTold}
-use Rattle.wbt_flusher.specs.Sights.{sight}
 use Rattle.wbt_flusher.specs.declared.work.FlusherWork.{FlusherWork}
 use Rattle.wbt_flusher.specs.declared.work.Phase.TheVariants.{Idle}
 use Rattle.wbt_flusher.proofs.Ageing.{told_now, wheel_told}
 use Rattle.wbt_flusher.proofs.Deciding.{at_inode}
 use Rattle.wbt_flusher.proofs.Ending.{ends_after, idles}
 use Rattle.wbt_flusher.proofs.Marks.{idle_bare}
-use Rattle.wbt_turns.specs.Words.{MayTake}
 use Rattle.wbt_flusher.proofs.Turning.{no_take, still_before}
 use Rattle.wbt_flusher.proofs.plan.FlusherPlan.decide_by_age.Goals as goal
 

@@ -1,4 +1,4 @@
-use Rattle.wbt_run_steps.proofs.Gating.{asked_none}
+use Rattle.wbt_flusher.proofs.Common.{asked_none}
 use Rattle.std.proofs.Common.{false, refl}
 use Rattle.wbt_flusher.proofs.Ending.{idles}
 use Rattle.wbt_flusher.proofs.Marks.{idle_bare}

@@ -1,6 +1,5 @@
 use Rattle.std.specs.Prelude.{None}
-use Rattle.wbt_flusher.specs.Did.{no_moments}
-use Rattle.wbt_flusher.specs.Sights.{sight}
+use Rattle.wbt_flusher.proofs.Common.{no_moments, sight}
 use Rattle.wbt_flusher.proofs.Going.{went_more, rooms_went}
 use Rattle.std.proofs.Common.{◌<◌, ◌∙◌, length, arith}
 use Rattle.wbt_flusher.proofs.Held.{counts_in}

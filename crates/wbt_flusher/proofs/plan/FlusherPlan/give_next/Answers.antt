@@ -1,17 +1,9 @@
 -- A page was given back, or it wasn't: what then is.
 use Rattle.std.proofs.Common.{◌≡◌, ℕ, ◌+◌, ◌<◌, ◌≤◌, true, false, [], get_or, refl, sym, ◌∙◌, subst, arith}
-use Rattle.wbt_book.specs.Ledger.{times_in}
-use Rattle.wbt_grant.specs.declared.record.CpuRecord.{CpuRecord}
-use Rattle.wbt_table.proofs.Lists.{same_default}
+use Rattle.wbt_flusher.proofs.Common.{times_in, CpuRecord, same_default, CpuJournal, Seats, record_of, record_is, Goes, no_moments, sight}
 use Rattle.wbt_table.specs.declared.answer.Back.{Back}
-use Rattle.wbt_journal.specs.declared.entry.CpuJournal.{CpuJournal}
-use Rattle.wbt_kit.specs.declared.kit.Seats.{Seats}
 use Rattle.wbt_run_steps.specs.Backs.{AnswersBack}
-use Rattle.wbt_run_steps.specs.Records.{record_of}
-use Rattle.wbt_run_steps.proofs.Changing.{record_is}
-use Rattle.wbt_flusher.specs.Answers.{Goes, IsBack}
-use Rattle.wbt_flusher.specs.Did.{no_moments}
-use Rattle.wbt_flusher.specs.Sights.{sight}
+use Rattle.wbt_flusher.specs.Answers.{IsBack}
 use Rattle.wbt_flusher.specs.declared.work.FlusherWork.{FlusherWork}
 use Rattle.wbt_flusher.specs.declared.work.Return.{Return}
 use Rattle.wbt_flusher.proofs.Giving.{debts_kept, goes_given, goes_halted, goes_kept_back, is_back, page_held, page_there, return_of}

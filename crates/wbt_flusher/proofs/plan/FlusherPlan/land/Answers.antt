@@ -1,16 +1,12 @@
-use Rattle.wbt_run_steps.proofs.Gating.{asked_more, asked_none}
+use Rattle.wbt_flusher.proofs.Common.{asked_more, asked_none, sight, no_moments, Settled, IsSettled}
 use Rattle.std.proofs.Common.{ℕ, List, length, ap, arith, Bool, refl, subst}
 use Rattle.std.specs.Prelude.{None}
-use Rattle.wbt_flusher.specs.Sights.{sight}
-use Rattle.wbt_flusher.specs.Did.{no_moments}
 use Rattle.wbt_flusher.proofs.Ending.{flight_stands, steps_from, idle_steady}
 use Rattle.wbt_flusher.proofs.Flown.{still_flies, none_there}
 use Rattle.wbt_flusher.proofs.Going.{went_more, rooms_went, owes_still}
 use Rattle.wbt_flusher.proofs.Keeping.{debts_same}
 use Rattle.wbt_flusher.proofs.Paying.{settles}
-use Rattle.wbt_run_steps.specs.Steps.{Settled}
 use Rattle.wbt_flusher.specs.Took.{is_last}
-use Rattle.wbt_turns.specs.Words.{IsSettled}
 use Rattle.wbt_flusher.proofs.Events.{event_settled, event_settled_part}
 use Rattle.wbt_flusher.proofs.Turning.{still_after}
 use Rattle.wbt_flusher.proofs.plan.FlusherPlan.land.Goals as goal

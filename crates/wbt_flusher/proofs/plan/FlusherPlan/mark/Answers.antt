@@ -1,10 +1,7 @@
 -- The mark was set, and the inode was put where that was clear.
 use Rattle.std.proofs.Common.{true≢false, eq-eqb, ◌∙◌, refl, sym, subst}
 use Rattle.std.proofs.lemmas.Bool.{eqb-true}
-use Rattle.wbt_grant.specs.Kinds.{mark}
-use Rattle.wbt_table.specs.Layout.{setting}
-use Rattle.wbt_table.specs.Seat.{Makes, Seated}
-use Rattle.wbt_flusher.specs.Sights.{sight}
+use Rattle.wbt_flusher.proofs.Common.{mark, setting, Makes, Seated, sight}
 use Rattle.wbt_flusher.proofs.Going.{went_more}
 use Rattle.wbt_flusher.proofs.Held.{puts_from}
 use Rattle.wbt_flusher.proofs.Keeping.{debts_same}

@@ -1,9 +1,6 @@
 use Rattle.std.proofs.Common.{refl}
-use Rattle.wbt_grant.specs.Kinds.{mark}
-use Rattle.wbt_table.specs.Layout.{setting}
-use Rattle.wbt_run_steps.proofs.Gating.{asked_none, asked_once, once_made}
+use Rattle.wbt_flusher.proofs.Common.{mark, setting, asked_none, asked_once, once_made, makes_as}
 use Rattle.wbt_flusher.proofs.Going.{goes_nowhere}
-use Rattle.wbt_run_steps.proofs.Logging.{makes_as}
 use Rattle.wbt_flusher.proofs.Marks.{pays_scan}
 use Rattle.wbt_flusher.proofs.Turning.{no_mark, one_mark}
 use Rattle.wbt_flusher.proofs.plan.FlusherPlan.mark_again.Goals as goal

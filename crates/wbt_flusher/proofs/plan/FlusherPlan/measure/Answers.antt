@@ -1,26 +1,18 @@
 use Rattle.std.proofs.Common.{◌≡◌, ℕ, ◌<◌, set, Contains, refl, sym, subst, ap, ◌∙◌, [], ◌∷◌, rules}
-use Rattle.wbt_flusher.specs.Sights.{sight, tallies_of, tally_in}
+use Rattle.wbt_flusher.proofs.Common.{sight, tallies_of, tally_in, count, setting, known_of, Seated, Cpu, asked_more, asked_none, asked_once, once_made, context_at, AreCounts}
 use Rattle.wbt_flusher.proofs.Going.{goes_nowhere, went_more, quiet_more}
 use Rattle.std.proofs.Common.{refl}
-use Rattle.wbt_grant.specs.Kinds.{count}
-use Rattle.wbt_grant.specs.declared.who.Who.TheVariants.{Cpu}
-use Rattle.wbt_table.specs.Layout.{setting}
-use Rattle.wbt_run_steps.proofs.Gating.{asked_more, asked_none, asked_once, once_made}
 use Rattle.wbt_counter.specs.declared.counter.Counter.TheVariants.{Context}
 use Rattle.wbt_estimate.specs.Estimate.{updated}
 use Rattle.wbt_fraction.specs.Several as share
 use Rattle.wbt_published.specs.Known.{after_publish}
 use Rattle.wbt_published.specs.Passes as est
-use Rattle.wbt_published.specs.Passes.{known_of}
-use Rattle.wbt_table.specs.Seat.{Seated}
 use Rattle.wbt_flusher.specs.Loads.{Gets}
-use Rattle.wbt_flusher.specs.Plans.{context_at}
 use Rattle.wbt_flusher.specs.Reads.{ReadsShare, is_updated, sample_of}
 use Rattle.wbt_flusher.proofs.Fitting.{loaded_count, may_load}
 use Rattle.wbt_flusher.proofs.Keeping.{debts_same}
 use Rattle.wbt_flusher.proofs.Loading.{count_loaded}
 use Rattle.wbt_flusher.proofs.Turning.{no_counts, one_count, still_before, still_after}
-use Rattle.wbt_flusher.specs.Kinds.{AreCounts}
 use Rattle.wbt_flusher.proofs.plan.FlusherPlan.measure.Goals as goal
 
 pub load_count-count-requires : goal.load_count-count-requires

@@ -1,8 +1,7 @@
-use Rattle.wbt_run_steps.proofs.Gating.{asked_more, asked_none}
+use Rattle.wbt_flusher.proofs.Common.{asked_more, asked_none, MeasuresBefore, sight}
 use Rattle.std.proofs.Common.{◌≡◌, refl, ◌∙◌, arith, ℕ, length, subst}
 use Rattle.wbt_flusher.proofs.Going.{goes_nowhere, at_more}
-use Rattle.wbt_flusher.specs.Reads.{MeasuresBefore, is_first}
-use Rattle.wbt_flusher.specs.Sights.{sight}
+use Rattle.wbt_flusher.specs.Reads.{is_first}
 use Rattle.wbt_flusher.proofs.Held.{measures_more}
 use Rattle.wbt_flusher.proofs.Turning.{counts_after, no_counts}
 use Rattle.wbt_flusher.proofs.plan.FlusherPlan.measure_all.Goals as goal

@@ -1,12 +1,5 @@
 use Rattle.std.proofs.Common.{ℕ, ◌≤◌, ◌+◌, length, Option}
-use Rattle.wbt_flusher.specs.Answers.{GoesAt}
-use Rattle.wbt_flusher.specs.Did.{Fits, KeepsDebts}
-use Rattle.wbt_flusher.specs.Reads.{MeasuresBefore}
-use Rattle.wbt_flusher.specs.Sights.{sight}
-use Rattle.wbt_flusher.specs.Turns.{HasLists, OnlyTallies}
-use Rattle.wbt_flusher.specs.Kinds.{AreCounts}
-use Rattle.wbt_run_steps.specs.Gate.{AskedBeforeEach}
-use Rattle.wbt_run_steps.specs.Kinds.{Steps}
+use Rattle.wbt_flusher.proofs.Common.{GoesAt, Fits, KeepsDebts, MeasuresBefore, sight, HasLists, OnlyTallies, AreCounts, AskedBeforeEach, Steps}
 use Rattle.wbt_flusher.proofs.plan.FlusherPlan.measure_all.Given as goal
 
 abbrev pub invariant-loop-context : goal.invariant-loop-context

@@ -1,11 +1,7 @@
 use Rattle.std.proofs.Common.{◌<◌, ◌≤◌, length, refl, sym, ap, ◌∙◌, subst, arith}
-use Rattle.wbt_estimate.specs.declared.estimate.Estimate.{Estimate}
-use Rattle.wbt_published.specs.Known.{note_of, after_read, first_in}
-use Rattle.wbt_published.specs.Passes.{known_of}
-use Rattle.wbt_published.specs.declared.known.Known.{Known}
+use Rattle.wbt_flusher.proofs.Common.{Estimate, note_of, after_read, first_in, known_of, Known, Seats}
 use Rattle.wbt_run_laws.specs.Notes.{IsNewest}
 use Rattle.wbt_run_laws.proofs.Calling.{read_tells_nothing, read_is_newest}
-use Rattle.wbt_kit.specs.declared.kit.Seats.{Seats}
 use Rattle.wbt_flusher.proofs.Measuring.{known_here, fits_est, read_goes, version_of, last_place, newest_after}
 use Rattle.wbt_flusher.proofs.plan.FlusherPlan.newest.Goals as goal
 

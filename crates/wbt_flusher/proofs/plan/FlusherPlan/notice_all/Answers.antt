@@ -1,6 +1,6 @@
 use Rattle.std.proofs.Common.{◌≡◌, ℕ, refl, sym, subst, arith}
-use Rattle.wbt_flusher.specs.Ageing.{NoticesBefore, all_there_were, as_many_as_may_be}
-use Rattle.wbt_flusher.specs.Sights.{sight}
+use Rattle.wbt_flusher.proofs.Common.{NoticesBefore, sight}
+use Rattle.wbt_flusher.specs.Ageing.{all_there_were, as_many_as_may_be}
 use Rattle.wbt_flusher.proofs.Ageing.{notices_more, queue_more, wheel_more}
 use Rattle.wbt_flusher.proofs.Going.{at_more, goes_nowhere}
 use Rattle.wbt_flusher.proofs.Keeping.{queue_quiet}

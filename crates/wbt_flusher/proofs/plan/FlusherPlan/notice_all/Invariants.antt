@@ -1,12 +1,6 @@
 use Rattle.std.proofs.Common.{◌≡◌, ℕ, ◌≤◌, ◌+◌, Option}
-use Rattle.wbt_run_steps.specs.Inodes.{OnlyQueue}
+use Rattle.wbt_flusher.proofs.Common.{OnlyQueue, NoticesBefore, WasTold, GoesAt, Fits, sight, HasLists}
 use Rattle.wbt_rules.specs.declared.age.TheConstants.{MOST_NOTICED}
-use Rattle.wbt_flusher.specs.Ageing.{NoticesBefore}
-use Rattle.wbt_flusher.specs.Ages.{WasTold}
-use Rattle.wbt_flusher.specs.Answers.{GoesAt}
-use Rattle.wbt_flusher.specs.Did.{Fits}
-use Rattle.wbt_flusher.specs.Sights.{sight}
-use Rattle.wbt_flusher.specs.Turns.{HasLists}
 use Rattle.wbt_flusher.proofs.plan.FlusherPlan.notice_all.Given as goal
 
 abbrev pub invariant-notices : goal.invariant-notices

@@ -1,6 +1,5 @@
 use Rattle.std.proofs.Common.{ℕ, set, refl, ap, ◌∙◌}
-use Rattle.wbt_flusher.specs.Sights.{tallies_of}
-use Rattle.wbt_flusher.specs.Turns.{owing_more}
+use Rattle.wbt_flusher.proofs.Common.{tallies_of, owing_more}
 use Rattle.wbt_flusher.proofs.Batching.{kept_batch}
 use Rattle.wbt_flusher.proofs.Going.{goes_kept}
 use Rattle.wbt_flusher.proofs.plan.FlusherPlan.owe_batch.Goals as goal

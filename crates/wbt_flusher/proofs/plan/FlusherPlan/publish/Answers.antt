@@ -1,15 +1,9 @@
 use Rattle.std.proofs.Common.{◌≡◌, ◌<◌, ℕ, length, Contains, refl, sym, ap, ◌∙◌, subst, arith, set}
-use Rattle.wbt_estimate.specs.declared.estimate.Estimate.{Estimate}
-use Rattle.wbt_published.specs.Known.{after_publish, first_in}
-use Rattle.wbt_published.specs.Passes.{known_of}
-use Rattle.wbt_published.specs.declared.known.Known.{Known}
+use Rattle.wbt_flusher.proofs.Common.{Estimate, first_in, known_of, Known, CpuJournal, Seats, Went, sight}
+use Rattle.wbt_published.specs.Known.{after_publish}
 use Rattle.wbt_journal.specs.Estimates.{Follows}
-use Rattle.wbt_journal.specs.declared.entry.CpuJournal.{CpuJournal}
 use Rattle.wbt_run_laws.specs.Log.{with_estimate}
 use Rattle.wbt_run_laws.proofs.Calling.{publish_is_told}
-use Rattle.wbt_kit.specs.declared.kit.Seats.{Seats}
-use Rattle.wbt_flusher.specs.Answers.{Went}
-use Rattle.wbt_flusher.specs.Sights.{sight}
 use Rattle.wbt_flusher.proofs.Measuring.{publish_goes, updated_follows}
 use Rattle.wbt_flusher.proofs.plan.FlusherPlan.publish.Goals as goal
 

@@ -1,8 +1,5 @@
 use Rattle.std.proofs.Common.{◌≡◌, ◌<◌, ℕ, false, get_or, length}
-use Rattle.wbt_run_steps.specs.Inodes.{OnlyQueue}
-use Rattle.wbt_run_steps.specs.Queues.{OnlyDevice}
-use Rattle.wbt_flusher.specs.Did.{Fits}
-use Rattle.wbt_flusher.specs.Turns.{OnlyWaiting, PutsBefore}
+use Rattle.wbt_flusher.proofs.Common.{OnlyQueue, OnlyDevice, Fits, OnlyWaiting, PutsBefore}
 use Rattle.wbt_flusher.proofs.plan.FlusherPlan.put_each.Given as goal
 
 abbrev pub invariant-loop-inode : goal.invariant-loop-inode

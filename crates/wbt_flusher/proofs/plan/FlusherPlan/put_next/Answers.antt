@@ -1,6 +1,5 @@
 use Rattle.std.proofs.Common.{◌≡◌, ◌<◌, ℕ, Bool, true, false, ◌||◌, List, length, get_or, refl, sym, ap, ◌∙◌, arith}
-use Rattle.wbt_table.proofs.Lists.{same_default}
-use Rattle.wbt_run_steps.proofs.Queues.{only_same}
+use Rattle.wbt_flusher.proofs.Common.{same_default, only_same}
 use Rattle.wbt_flusher.specs.Turns.{is_next}
 use Rattle.wbt_flusher.proofs.Keeping.{fits_queue, waits_alone}
 use Rattle.wbt_flusher.proofs.plan.FlusherPlan.put_next.Goals as goal

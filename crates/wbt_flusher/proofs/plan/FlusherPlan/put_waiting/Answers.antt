@@ -1,8 +1,7 @@
-use Rattle.wbt_run_steps.proofs.Queues.{only_same}
+use Rattle.wbt_flusher.proofs.Common.{only_same, PutsBefore}
 use Rattle.wbt_flusher.proofs.Going.{goes_nowhere}
 use Rattle.wbt_flusher.proofs.Keeping.{queue_goes}
 use Rattle.std.proofs.Common.{◌≡◌, Bool, false, length, refl, sym, subst}
-use Rattle.wbt_flusher.specs.Turns.{PutsBefore}
 use Rattle.wbt_flusher.proofs.Held.{puts_none}
 use Rattle.wbt_flusher.proofs.plan.FlusherPlan.put_waiting.Goals as goal
 

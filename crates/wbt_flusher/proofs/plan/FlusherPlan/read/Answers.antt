@@ -1,8 +1,5 @@
 use Rattle.std.proofs.Common.{ℕ, ◌<◌, [], ◌∷◌, ap, refl, subst}
-use Rattle.wbt_counter.specs.declared.counter.Counter.TheVariants.{Domain}
-use Rattle.wbt_run_steps.specs.Loads.{load_of, triple_of}
-use Rattle.wbt_run_steps.specs.declared.loads.DomainLoad.{DomainLoad}
-use Rattle.wbt_table.specs.declared.answer.Triple.{Triple}
+use Rattle.wbt_flusher.proofs.Common.{Domain, Triple, load_of, triple_of, DomainLoad}
 use Rattle.wbt_flusher.proofs.Fitting.{loaded_domain, loaded_limits, loaded_part, may_load}
 use Rattle.wbt_flusher.proofs.Loading.{count_loaded, limits_loaded, loaded_more}
 use Rattle.wbt_flusher.proofs.plan.FlusherPlan.read.Goals as goal

@@ -1,5 +1,5 @@
 use Rattle.std.proofs.Common.{refl, ap, arith}
-use Rattle.wbt_kit.specs.declared.kit.Seats.{Seats}
+use Rattle.wbt_flusher.proofs.Common.{Seats}
 use Rattle.wbt_run_laws.proofs.Calling.{looks_add_none}
 use Rattle.wbt_flusher.specs.declared.tally.Tally.{Tally}
 use Rattle.wbt_flusher.proofs.Going.{kept_same}

@@ -1,15 +1,8 @@
 use Rattle.std.proofs.Common.{◌≡◌, ℕ, ◌<◌, ◌≤◌, false, List, length, refl, ap, arith}
-use Rattle.wbt_estimate.specs.declared.estimate.Estimate.{Estimate}
-use Rattle.wbt_published.specs.Known.{note_of, after_read, first_in}
-use Rattle.wbt_published.specs.Passes.{known_of}
-use Rattle.wbt_published.specs.declared.known.Known.{Known}
+use Rattle.wbt_flusher.proofs.Common.{Estimate, note_of, after_read, first_in, known_of, Known, Scan, Seats, sight, inode_at}
 use Rattle.wbt_run_laws.proofs.Calling.{read_tells_nothing}
-use Rattle.wbt_kit.specs.declared.kit.Seats.{Seats}
-use Rattle.wbt_flusher.specs.Sights.{sight}
-use Rattle.wbt_flusher.specs.Plans.{inode_at}
 use Rattle.wbt_flusher.specs.Turns.{start_of}
 use Rattle.wbt_flusher.specs.declared.work.Phase.TheVariants.{Scanning}
-use Rattle.wbt_rules.specs.declared.scan.Scan.{Scan}
 use Rattle.wbt_flusher.specs.declared.work.FlusherWork.{FlusherWork}
 use Rattle.wbt_flusher.proofs.Going.{went_more, goes_kept}
 use Rattle.wbt_flusher.proofs.Measuring.{fits_est, read_goes, version_of}

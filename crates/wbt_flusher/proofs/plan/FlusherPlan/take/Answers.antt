@@ -1,6 +1,7 @@
 use Rattle.std.proofs.Common.{◌≡◌, ℕ, ◌^◌, Option, Some, None, sym, subst}
 use Rattle.std.specs.Prelude.{IfNone}
-use Rattle.wbt_queue.specs.Passes.{AreAllTaken, Held, Seats, known_of}
+use Rattle.wbt_kit.proofs.Common.{AreAllTaken, Held, Seats}
+use Rattle.wbt_queue.specs.Passes.{known_of}
 use Rattle.wbt_run_steps.proofs.Queues.{only_take}
 use Rattle.wbt_flusher.proofs.plan.FlusherPlan.take.Goals as goal
 

@@ -1,9 +1,6 @@
 use Rattle.std.proofs.Common.{◌≡◌, ◌⊎◌, false, [], ap, ◌∙◌, subst}
-use Rattle.wbt_journal.specs.declared.entry.CpuJournal.{CpuJournal}
-use Rattle.wbt_run_steps.specs.Pens.{Paper}
+use Rattle.wbt_flusher.proofs.Common.{CpuJournal, Paper, GoesAt, list_by, sight}
 use Rattle.wbt_flusher.specs.Ageing.{TakesAny, for_its_age, as_it_is_over}
-use Rattle.wbt_flusher.specs.Answers.{GoesAt}
-use Rattle.wbt_flusher.specs.Sights.{list_by, sight}
 use Rattle.wbt_flusher.specs.declared.work.FlusherWork.{FlusherWork}
 use Rattle.wbt_flusher.proofs.Ageing.{if_none, if_some}
 use Rattle.wbt_flusher.proofs.plan.FlusherPlan.take_by_age.Goals as goal

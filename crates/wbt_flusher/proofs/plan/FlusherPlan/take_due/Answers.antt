@@ -1,8 +1,7 @@
 use Rattle.std.proofs.Common.{◌≡◌, ◌∙◌, refl, sym, subst, ap}
-use Rattle.wbt_journal.specs.declared.entry.CpuJournal.{CpuJournal}
+use Rattle.wbt_flusher.proofs.Common.{CpuJournal, pairs_of, GoesAt}
 use Rattle.wbt_journal.specs.declared.entry.Entry.TheVariants.{Aged}
-use Rattle.wbt_flusher.specs.Ages.{pairs_of, with_list}
-use Rattle.wbt_flusher.specs.Answers.{GoesAt}
+use Rattle.wbt_flusher.specs.Ages.{with_list}
 use Rattle.wbt_flusher.proofs.Ageing.{ages_first, as_it_was, none_taken, takes_it, takes_one, told_again}
 use Rattle.wbt_flusher.proofs.plan.FlusherPlan.take_due.Goals as goal
 

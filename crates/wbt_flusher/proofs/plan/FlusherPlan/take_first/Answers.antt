@@ -1,7 +1,6 @@
 use Rattle.std.proofs.Common.{refl, sym, subst}
-use Rattle.wbt_journal.specs.declared.entry.CpuJournal.{CpuJournal}
+use Rattle.wbt_flusher.proofs.Common.{CpuJournal, Goes}
 use Rattle.wbt_journal.specs.declared.entry.Entry.TheVariants.{Taken}
-use Rattle.wbt_flusher.specs.Answers.{Goes}
 use Rattle.wbt_flusher.proofs.Ageing.{as_it_was, none_first, takes_first, takes_it, takes_one}
 use Rattle.wbt_flusher.proofs.plan.FlusherPlan.take_first.Goals as goal
 

@@ -1,5 +1,5 @@
 use Rattle.std.proofs.Common.{refl, ap, inl, inr}
-use Rattle.wbt_run_steps.specs.Pens.{Paper}
+use Rattle.wbt_flusher.proofs.Common.{Paper}
 use Rattle.wbt_flusher.proofs.Ageing.{if_none, if_some}
 use Rattle.wbt_flusher.proofs.Going.{goes_nowhere}
 use Rattle.wbt_flusher.proofs.plan.FlusherPlan.take_if.Goals as goal

@@ -1,10 +1,7 @@
 use Rattle.std.proofs.Common.{true, false, refl, sym, ap, ◌∙◌, subst, inl}
-use Rattle.wbt_kit.specs.declared.kit.Seats.{Seats}
-use Rattle.wbt_run_steps.specs.Pens.{Paper}
+use Rattle.wbt_flusher.proofs.Common.{Seats, Paper, no_moments, list_by, sight}
 use Rattle.wbt_flusher.specs.Ageing.{TakesAny}
 use Rattle.wbt_flusher.specs.Cut.{FindsNothing, LosesLast}
-use Rattle.wbt_flusher.specs.Did.{no_moments}
-use Rattle.wbt_flusher.specs.Sights.{list_by, sight}
 use Rattle.wbt_flusher.specs.Took.{TakesLast}
 use Rattle.wbt_flusher.specs.declared.work.FlusherWork.{FlusherWork}
 use Rattle.wbt_flusher.proofs.Deciding.{idle_listed, ready_listed}

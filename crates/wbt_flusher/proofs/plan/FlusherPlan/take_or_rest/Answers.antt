@@ -1,12 +1,9 @@
-use Rattle.wbt_run_steps.proofs.Gating.{asked_more, asked_none}
+use Rattle.wbt_flusher.proofs.Common.{asked_more, asked_none, Stepped, sight, MayTake}
 use Rattle.std.proofs.Common.{false}
-use Rattle.wbt_kit.specs.declared.turn.Turn.TheVariants.{Stepped}
-use Rattle.wbt_flusher.specs.Sights.{sight}
 use Rattle.wbt_flusher.proofs.Ending.{idles, ready_queue, ends_after}
 use Rattle.wbt_flusher.proofs.Keeping.{queue_quiet}
 use Rattle.wbt_flusher.proofs.Marks.{idle_bare}
 use Rattle.wbt_flusher.proofs.Cutting.{loses}
-use Rattle.wbt_turns.specs.Words.{MayTake}
 use Rattle.wbt_flusher.proofs.Turning.{no_take, still_before}
 use Rattle.wbt_flusher.proofs.plan.FlusherPlan.take_or_rest.Goals as goal
 

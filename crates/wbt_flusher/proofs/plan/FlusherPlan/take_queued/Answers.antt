@@ -1,16 +1,11 @@
-use Rattle.wbt_run_steps.proofs.Gating.{asked_more, asked_none}
+use Rattle.wbt_flusher.proofs.Common.{asked_more, asked_none, Seats, Stepped, Done, no_moments, list_by, sight, MayTake}
 use Rattle.std.proofs.Common.{true, false, refl, sym, ap, ◌∙◌, subst, inl, inr}
-use Rattle.wbt_kit.specs.declared.kit.Seats.{Seats}
-use Rattle.wbt_kit.specs.declared.turn.Turn.TheVariants.{Stepped, Done}
 use Rattle.wbt_queue.specs.Passes as queue
-use Rattle.wbt_flusher.specs.Did.{no_moments}
-use Rattle.wbt_flusher.specs.Sights.{list_by, sight}
 use Rattle.wbt_flusher.specs.declared.work.FlusherWork.{FlusherWork}
 use Rattle.wbt_flusher.proofs.Ending.{idles, ready_queue, ends_after, ends_undone}
 use Rattle.wbt_flusher.proofs.Keeping.{queue_quiet}
 use Rattle.wbt_flusher.proofs.Marks.{idle_bare}
 use Rattle.wbt_flusher.proofs.Cutting.{loses}
-use Rattle.wbt_turns.specs.Words.{MayTake}
 use Rattle.wbt_flusher.proofs.Turning.{no_take, still_before}
 use Rattle.wbt_flusher.proofs.plan.FlusherPlan.take_queued.Goals as goal
 

@@ -1,4 +1,4 @@
-use Rattle.wbt_run_steps.proofs.Gating.{asked_more}
+use Rattle.wbt_flusher.proofs.Common.{asked_more}
 use Rattle.wbt_flusher.proofs.Going.{quiet_more}
 use Rattle.wbt_flusher.proofs.Loading.{tests_some}
 use Rattle.wbt_flusher.proofs.Cutting.{some_after, some_first}

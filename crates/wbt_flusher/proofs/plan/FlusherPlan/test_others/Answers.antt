@@ -1,9 +1,8 @@
-use Rattle.wbt_run_steps.proofs.Gating.{asked_more, asked_none}
+use Rattle.wbt_flusher.proofs.Common.{asked_more, asked_none, none_as}
 use Rattle.std.proofs.Common.{refl, ◌∙◌, arith}
 use Rattle.wbt_flusher.proofs.Going.{goes_nowhere, quiet_more}
 use Rattle.wbt_flusher.proofs.Loading.{others_more, others_none}
 use Rattle.wbt_flusher.proofs.Cutting.{some_others}
-use Rattle.wbt_run_steps.proofs.Logging.{none_as}
 use Rattle.wbt_flusher.proofs.Turning.{loads_one, others_cut}
 use Rattle.wbt_flusher.proofs.plan.FlusherPlan.test_others.Goals as goal
 

@@ -1,8 +1,5 @@
 use Rattle.std.proofs.Common.{◌-◌}
-use Rattle.wbt_flusher.specs.Answers.{GoesQuiet}
-use Rattle.wbt_flusher.specs.Did.{Fits, KeepsDebts}
-use Rattle.wbt_flusher.specs.Loads.{ReadOthers}
-use Rattle.wbt_run_steps.specs.Gate.{AskedBeforeEach}
+use Rattle.wbt_flusher.proofs.Common.{GoesQuiet, Fits, KeepsDebts, ReadOthers, AskedBeforeEach}
 use Rattle.wbt_run_steps.specs.Kinds.{StepsAs}
 use Rattle.wbt_turns.specs.Words.{loads}
 use Rattle.wbt_flusher.proofs.plan.FlusherPlan.test_others.Given as goal

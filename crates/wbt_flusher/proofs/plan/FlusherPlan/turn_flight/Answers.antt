@@ -1,17 +1,11 @@
 use Rattle.std.proofs.Common.{ap, refl}
-use Rattle.wbt_grant.specs.Kinds.{complete}
-use Rattle.wbt_kit.specs.declared.kit.Seats.{Seats}
-use Rattle.wbt_table.specs.Layout.{setting}
-use Rattle.wbt_run_steps.proofs.Gating.{asked_more, asked_none, asked_once, once_made}
+use Rattle.wbt_flusher.proofs.Common.{complete, setting, Seats, asked_more, asked_none, asked_once, once_made, sight, Halted, Spent, makes_as}
 use Rattle.wbt_run_steps.proofs.Asking.{stopped_by}
-use Rattle.wbt_flusher.specs.Sights.{sight}
 use Rattle.wbt_flusher.proofs.Ending.{ends_after, flight_stands}
 use Rattle.wbt_flusher.proofs.Flown.{comes_down}
 use Rattle.wbt_flusher.proofs.Going.{goes_nowhere}
 use Rattle.std.proofs.Common.{refl}
 use Rattle.wbt_flusher.specs.Cut.{among_its_folds, before_its_page}
-use Rattle.wbt_kit.specs.declared.turn.Turn.TheVariants.{Halted, Spent}
-use Rattle.wbt_run_steps.proofs.Logging.{makes_as}
 use Rattle.wbt_flusher.proofs.Turning.{turn_completes, turn_rests}
 use Rattle.wbt_flusher.proofs.Events.{owes_completed}
 use Rattle.wbt_flusher.proofs.plan.FlusherPlan.turn_flight.Goals as goal

@@ -1,12 +1,8 @@
-use Rattle.wbt_run_steps.proofs.Gating.{asked_none}
+use Rattle.wbt_flusher.proofs.Common.{asked_none, wait_of, no_moments, sight, Resting}
 use Rattle.std.proofs.Common.{None, false, refl, sym, ap}
-use Rattle.wbt_flusher.specs.Answers.{wait_of}
-use Rattle.wbt_flusher.specs.Did.{no_moments}
-use Rattle.wbt_flusher.specs.Sights.{sight}
 use Rattle.wbt_flusher.proofs.Ending.{ends_at_once, ends_undone, answers_by, told_none, come_by, rests_here}
 use Rattle.wbt_flusher.specs.Took.{flies}
 use Rattle.wbt_flusher.specs.Cut as cut
-use Rattle.wbt_kit.specs.declared.turn.Turn.TheVariants.{Resting}
 use Rattle.wbt_flusher.proofs.Turning.{turn_rests}
 use Rattle.wbt_flusher.proofs.plan.FlusherPlan.turn_fly.Goals as goal
 

@@ -1,13 +1,11 @@
-use Rattle.wbt_run_steps.proofs.Gating.{asked_more}
+use Rattle.wbt_flusher.proofs.Common.{asked_more, sight, Halted}
 use Rattle.std.proofs.Common.{◌∷◌, false, refl, ◌∙◌}
 use Rattle.wbt_flusher.specs.Loads.{AnyOver}
-use Rattle.wbt_flusher.specs.Sights.{sight}
 use Rattle.wbt_flusher.specs.declared.work.FlusherWork.{FlusherWork}
 use Rattle.wbt_flusher.proofs.Ending.{idle_stands, ends_after}
 use Rattle.wbt_flusher.proofs.Measured.{measured, ready_measured, idle_measured}
 use Rattle.wbt_flusher.proofs.Weighing.{only_more, over_both, weighed}
 use Rattle.wbt_flusher.specs.Cut.{at_a_context, at_a_count, at_a_domain, at_its_inode}
-use Rattle.wbt_kit.specs.declared.turn.Turn.TheVariants.{Halted}
 use Rattle.wbt_flusher.proofs.Turning.{counts_after, no_take, test_cut, turn_tests}
 use Rattle.wbt_flusher.proofs.plan.FlusherPlan.turn_idle.Goals as goal
 

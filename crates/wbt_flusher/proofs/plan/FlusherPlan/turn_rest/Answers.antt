@@ -1,13 +1,9 @@
-use Rattle.wbt_run_steps.proofs.Gating.{asked_none}
+use Rattle.wbt_flusher.proofs.Common.{asked_none, here, wait_of, Moments, no_moments, sight, Resting}
 use Rattle.std.proofs.Common.{Bool, true, false, true≢false, [], ◌∷◌, refl, sym, ◌∙◌, subst, inl, inr}
-use Rattle.wbt_run_laws.proofs.Lists.{here}
-use Rattle.wbt_flusher.specs.Answers.{wait_of, Ends}
-use Rattle.wbt_flusher.specs.Did.{Moments, no_moments}
-use Rattle.wbt_flusher.specs.Sights.{sight}
+use Rattle.wbt_flusher.specs.Answers.{Ends}
 use Rattle.wbt_flusher.proofs.Ending.{ends_at_once, ends_undone, answers_by, told_none, come_by, come_dropped, wait_kept, rests_here, and_left, and_not_right}
 use Rattle.wbt_flusher.specs.Took.{drains, tests}
 use Rattle.wbt_flusher.specs.Cut as cut
-use Rattle.wbt_kit.specs.declared.turn.Turn.TheVariants.{Resting}
 use Rattle.wbt_flusher.proofs.Turning.{turn_rests, turn_takes}
 use Rattle.wbt_flusher.proofs.plan.FlusherPlan.turn_rest.Goals as goal
 

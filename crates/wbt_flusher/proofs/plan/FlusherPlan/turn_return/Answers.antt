@@ -2,13 +2,11 @@
 use Rattle.std.proofs.Common.{ap, ◌∙◌, None, subst}
 use Rattle.wbt_flusher.specs.Cut.{after_its_page, at_its_page}
 use Rattle.wbt_flusher.specs.Gives.{Gives, StandsAfter}
-use Rattle.wbt_flusher.specs.Sights.{sight}
+use Rattle.wbt_flusher.proofs.Common.{sight, Seats, Spent, Stepped}
 use Rattle.wbt_flusher.specs.declared.back.Given.{Given}
 use Rattle.wbt_flusher.specs.Took.{gives_it, misses_it}
 use Rattle.wbt_flusher.specs.declared.work.FlusherWork.{FlusherWork}
 use Rattle.wbt_flusher.proofs.Ending.{ends_after, return_stands}
-use Rattle.wbt_kit.specs.declared.kit.Seats.{Seats}
-use Rattle.wbt_kit.specs.declared.turn.Turn.TheVariants.{Spent, Stepped}
 use Rattle.wbt_flusher.specs.Kinds.{StepsToGive}
 use Rattle.wbt_flusher.proofs.Events.{owes_given}
 use Rattle.wbt_flusher.proofs.Turning.{back_cut, turn_gives, turn_misses, turn_rests}

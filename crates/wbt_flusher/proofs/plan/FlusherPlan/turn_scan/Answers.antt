@@ -1,11 +1,6 @@
-use Rattle.wbt_run_steps.proofs.Gating.{asked_more}
+use Rattle.wbt_flusher.proofs.Common.{asked_more, no_moments, page_of, MOST_FAULTS, sight, IsPhase, IsSteady, Stepped}
 use Rattle.std.proofs.Common.{◌≡◌, ℕ, ◌<◌, List, length, true≢false, inl, inr, arith, ⊎_elim, refl, sym, ap, ◌∙◌, subst}
 use Rattle.std.proofs.lemmas.Bool.{cases_lt}
-use Rattle.wbt_flusher.specs.Did.{no_moments}
-use Rattle.wbt_rules.specs.Places.{page_of}
-use Rattle.wbt_flusher.specs.Sights.{sight}
-use Rattle.wbt_rules.specs.declared.moments.TheConstants.{MOST_FAULTS}
-use Rattle.wbt_flusher.specs.Turns.{IsPhase, IsSteady}
 use Rattle.wbt_flusher.specs.declared.work.Phase.{Phase}
 use Rattle.wbt_flusher.specs.declared.work.FlusherWork.{FlusherWork}
 use Rattle.wbt_flusher.proofs.Ending.{scan_stands, told_none, opens_by, ends_by_after, steps_by}
@@ -13,7 +8,6 @@ use Rattle.wbt_flusher.proofs.Going.{owes_still}
 use Rattle.wbt_flusher.proofs.Quotas.{one_more, scan_below}
 use Rattle.wbt_flusher.specs.Took.{closes, goes_on}
 use Rattle.wbt_flusher.specs.Cut.{at_a_page, at_its_mark}
-use Rattle.wbt_kit.specs.declared.turn.Turn.TheVariants.{Stepped}
 use Rattle.wbt_flusher.specs.Kinds.{StepsToLook}
 use Rattle.wbt_flusher.specs.declared.scan.Looked.{Looked}
 use Rattle.wbt_flusher.proofs.Turning.{look_cut, turn_looks, turn_scans}

@@ -1,14 +1,8 @@
 use Rattle.std.proofs.Common.{false, refl, sym, ap, ◌∙◌, arith}
-use Rattle.wbt_grant.specs.Kinds.{unmark}
-use Rattle.wbt_grant.specs.Seats.{record_after}
-use Rattle.wbt_table.specs.Layout.{setting}
+use Rattle.wbt_flusher.proofs.Common.{unmark, record_after, setting, Scan, Seats, only_same, landed_in, phase_by, pages_by}
 use Rattle.wbt_journal.specs.Flights as flights
-use Rattle.wbt_kit.specs.declared.kit.Seats.{Seats}
-use Rattle.wbt_run_steps.proofs.Queues.{only_same}
-use Rattle.wbt_flusher.specs.Sights.{landed_in, phase_by, pages_by}
 use Rattle.wbt_flusher.specs.declared.work.Phase.{Phase}
 use Rattle.wbt_flusher.specs.declared.work.Phase.TheVariants.{Scanning}
-use Rattle.wbt_rules.specs.declared.scan.Scan.{Scan}
 use Rattle.wbt_flusher.specs.declared.work.FlusherWork.{FlusherWork}
 use Rattle.wbt_flusher.proofs.Beginning.{begins_scan}
 use Rattle.wbt_flusher.proofs.Changing.{changed}

@@ -1,18 +1,12 @@
 use Rattle.std.proofs.Common.{◌≡◌, ℕ, ◌<◌, refl, rules, ◌∙◌, subst}
 use Rattle.wbt_counter.specs.declared.counter.Counter.TheVariants.{Context}
-use Rattle.wbt_grant.specs.Kinds.{count}
-use Rattle.wbt_grant.specs.declared.who.Who.TheVariants.{Cpu}
-use Rattle.wbt_run_steps.proofs.Gating.{asked_more, asked_none, asked_once, once_made}
-use Rattle.wbt_table.specs.Layout.{setting}
-use Rattle.wbt_flusher.specs.Plans.{context_at}
-use Rattle.wbt_flusher.specs.Sights.{sight}
+use Rattle.wbt_flusher.proofs.Common.{count, setting, Cpu, asked_more, asked_none, asked_once, once_made, context_at, sight, AreCounts}
 use Rattle.wbt_flusher.specs.Weighs.{WeighsInBoth, is_weighed}
 use Rattle.wbt_flusher.proofs.Fitting.{loaded_count, may_load}
 use Rattle.wbt_flusher.proofs.Going.{goes_nowhere, kept_more}
 use Rattle.wbt_flusher.proofs.Keeping.{debts_same}
 use Rattle.wbt_flusher.proofs.Loading.{count_loaded}
 use Rattle.wbt_flusher.proofs.Turning.{no_counts, one_count, still_after}
-use Rattle.wbt_flusher.specs.Kinds.{AreCounts}
 use Rattle.wbt_flusher.proofs.plan.FlusherPlan.weigh.Goals as goal
 
 pub load_count-count-requires : goal.load_count-count-requires

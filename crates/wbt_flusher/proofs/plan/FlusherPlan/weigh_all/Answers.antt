@@ -1,11 +1,9 @@
-use Rattle.wbt_run_steps.proofs.Gating.{asked_more, asked_none}
+use Rattle.wbt_flusher.proofs.Common.{asked_more, asked_none, Seats, sight, WeighsBefore}
 use Rattle.std.proofs.Common.{◌≡◌, refl, sym, ◌∙◌, arith, ℕ, length, subst}
-use Rattle.wbt_kit.specs.declared.kit.Seats.{Seats}
 use Rattle.wbt_flusher.specs.declared.work.FlusherWork.{FlusherWork}
 use Rattle.wbt_flusher.proofs.Going.{goes_nowhere, kept_more}
 use Rattle.wbt_flusher.proofs.Weighing.{only_more, weighs_more}
-use Rattle.wbt_flusher.specs.Sights.{sight}
-use Rattle.wbt_flusher.specs.Weighs.{WeighsBefore, weighs_each, weighs_none}
+use Rattle.wbt_flusher.specs.Weighs.{weighs_each, weighs_none}
 use Rattle.wbt_flusher.proofs.Turning.{counts_after, no_counts}
 use Rattle.wbt_flusher.proofs.plan.FlusherPlan.weigh_all.Goals as goal
 

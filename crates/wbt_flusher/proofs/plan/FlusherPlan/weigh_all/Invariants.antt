@@ -1,13 +1,5 @@
 use Rattle.std.proofs.Common.{ℕ, Option}
-use Rattle.wbt_journal.specs.declared.entry.CpuJournal.{CpuJournal}
-use Rattle.wbt_flusher.specs.Answers.{GoesKept}
-use Rattle.wbt_flusher.specs.Did.{Fits, KeepsDebts}
-use Rattle.wbt_flusher.specs.Sights.{sight}
-use Rattle.wbt_flusher.specs.Turns.{HasLists, OnlyTallies}
-use Rattle.wbt_flusher.specs.Weighs.{WeighsBefore}
-use Rattle.wbt_flusher.specs.Kinds.{AreCounts}
-use Rattle.wbt_run_steps.specs.Gate.{AskedBeforeEach}
-use Rattle.wbt_run_steps.specs.Kinds.{Steps}
+use Rattle.wbt_flusher.proofs.Common.{CpuJournal, GoesKept, Fits, KeepsDebts, sight, HasLists, OnlyTallies, WeighsBefore, AreCounts, AskedBeforeEach, Steps}
 use Rattle.wbt_flusher.proofs.plan.FlusherPlan.weigh_all.Given as goal
 
 abbrev pub invariant-loop-context : goal.invariant-loop-context

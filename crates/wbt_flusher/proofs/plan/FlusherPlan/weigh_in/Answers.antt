@@ -1,5 +1,5 @@
 use Rattle.std.proofs.Common.{refl, ap, ◌∙◌}
-use Rattle.wbt_num.specs.declared.limits.Limits.{Limits}
+use Rattle.wbt_kit.proofs.Common.{Limits}
 use Rattle.wbt_rules.specs.Strict.{is_over_own}
 use Rattle.wbt_flusher.specs.Weighs.{is_over_part}
 use Rattle.wbt_flusher.proofs.Weighing.{held_before}

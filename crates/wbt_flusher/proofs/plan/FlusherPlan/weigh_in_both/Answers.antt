@@ -1,5 +1,5 @@
 use Rattle.std.proofs.Common.{ℕ, false, refl, sym, ◌∙◌, subst}
-use Rattle.wbt_flusher.specs.Sights.{sight}
+use Rattle.wbt_flusher.proofs.Common.{sight}
 use Rattle.wbt_flusher.specs.Weighs.{WeighsIn, has_none, has_one}
 use Rattle.wbt_flusher.proofs.Going.{kept_more}
 use Rattle.wbt_flusher.proofs.Weighing.{or_none}

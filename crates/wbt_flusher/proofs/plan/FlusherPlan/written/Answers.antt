@@ -1,5 +1,5 @@
 use Rattle.std.proofs.Common.{refl}
-use Rattle.wbt_kit.specs.declared.kit.Seats.{Seats}
+use Rattle.wbt_flusher.proofs.Common.{Seats}
 use Rattle.wbt_flusher.proofs.Sharing.{noted_goes}
 use Rattle.wbt_flusher.proofs.plan.FlusherPlan.written.Goals as goal
 

@@ -1,7 +1,6 @@
 use Rattle.std.proofs.Common.{◌≡◌, ℕ, ◌+◌, ◌-◌, List, length, ap, subst, arith}
 use Rattle.wbt_forecast_rows.specs.Small.{AreSmall}
-use Rattle.wbt_replay_moves.specs.Seen.{seen}
-use Rattle.wbt_replay_moves.specs.declared.state.Cpu.{Cpu}
+use Rattle.wbt_replay_order.proofs.Common.{seen, Cpu}
 use Rattle.wbt_forecast.specs.Kept.{all_checks, all_entries, told_since}
 use Rattle.wbt_forecast.proofs.Telling.Lists.{told_is}
 use Rattle.wbt_forecast.proofs.teller.Teller.count_in.Goals as goal

@@ -1,10 +1,8 @@
 use Rattle.std.proofs.Common.{ℕ, ◌<◌, ◌^◌, List, length, get_or, sym, ◌∙◌, ap, subst, arith}
-use Rattle.wbt_replay_moves.specs.Definition.State.{State, cpu_of, no_cpu}
-use Rattle.wbt_replay_moves.specs.declared.state.Cpu.{Cpu}
+use Rattle.wbt_replay_order.proofs.Common.{State, cpu_of, no_cpu, Cpu, domains}
 use Rattle.wbt_replay_order.proofs.Facts.Facts.{facts}
 use Rattle.wbt_replay_order.proofs.Outset.Sound.{opening_sound}
 use Rattle.wbt_replay.proofs.Ordering.Firsts.{opening_fits}
-use Rattle.wbt_journal.specs.Machine.{domains}
 use Rattle.wbt_forecast.proofs.Bases.{bases_small}
 use Rattle.wbt_forecast.proofs.teller.Teller.make.Goals as goal
 

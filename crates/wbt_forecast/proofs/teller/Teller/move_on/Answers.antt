@@ -1,6 +1,5 @@
 use Rattle.std.proofs.Common.{sym, subst}
-use Rattle.wbt_replay_moves.specs.Seen.{seen}
-use Rattle.wbt_replay_order.specs.Kept.Sound.{Sound}
+use Rattle.wbt_replay_order.proofs.Common.{seen, Sound}
 use Rattle.wbt_forecast_run.proofs.Runs.Letting.{let_on_range}
 use Rattle.wbt_forecast.proofs.teller.Teller.move_on.Goals as goal
 

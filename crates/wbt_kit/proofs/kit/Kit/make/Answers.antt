@@ -1,12 +1,9 @@
 use Rattle.std.proofs.Common.{ℕ, length, replicate, sym, ap, ◌∙◌}
 use Rattle.std.proofs.lemmas.List.{length-map, length-replicate}
-use Rattle.wbt_table.specs.declared.layout.Layout.{Layout}
-use Rattle.wbt_table.specs.Rule.{Cpus}
-use Rattle.wbt_published.specs.Known.{opening}
+use Rattle.wbt_kit.proofs.Common.{Layout, Cpus, opening, no_record}
 use Rattle.wbt_published.specs.Passes.{Seats as EstPass}
 use Rattle.wbt_queue.specs.Known.{opening as empty}
 use Rattle.wbt_queue.specs.Passes.{Seats as QueuePass}
-use Rattle.wbt_grant.specs.State.{no_record}
 use Rattle.std.specs.Prelude.{Some}
 use Rattle.wbt_kit.proofs.kit.Kit.make.Goals as goal
 

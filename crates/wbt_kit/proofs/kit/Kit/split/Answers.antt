@@ -1,6 +1,5 @@
 use Rattle.std.proofs.Common.{sym, subst}
-use Rattle.wbt_table.specs.Calls.{left_seat}
-use Rattle.wbt_table.specs.Seat.{Seated}
+use Rattle.wbt_kit.proofs.Common.{left_seat, Seated}
 use Rattle.wbt_kit.specs.Kit.{CpusSplit}
 use Rattle.wbt_kit.proofs.Joining.{cpus_split}
 use Rattle.wbt_kit.proofs.Seating.{own_cpus, seats_left, seats_right}

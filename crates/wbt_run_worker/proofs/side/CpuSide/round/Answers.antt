@@ -1,5 +1,5 @@
 use Rattle.std.proofs.Common.{◌+◌, Bool, refl, sym, ◌∙◌, subst, arith}
-use Rattle.wbt_run_worker.specs.Team.{team_of}
+use Rattle.wbt_run_worker.proofs.Common.{team_of}
 use Rattle.wbt_run_worker.specs.declared.round.JobOutcome.TheVariants as job_said
 use Rattle.wbt_run_worker.proofs.Going.{stands_more}
 use Rattle.wbt_run_worker.proofs.Rotating.{all_so, as_team, few_so, goes_after, none_goes, one_goes, passing_now, passing_over, passing_rested}

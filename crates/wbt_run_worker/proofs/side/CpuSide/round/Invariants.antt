@@ -1,6 +1,5 @@
 use Rattle.std.proofs.Common.{◌≡◌}
-use Rattle.wbt_run_worker.specs.Team.{team_of}
-use Rattle.wbt_run_worker.specs.Went.{StandsStay}
+use Rattle.wbt_run_worker.proofs.Common.{team_of, StandsStay}
 use Rattle.wbt_run_worker.proofs.Rotating.{Passing}
 use Rattle.wbt_run_worker.proofs.Rounding.{SoFar}
 use Rattle.wbt_run_worker.proofs.side.CpuSide.round.Given as goal

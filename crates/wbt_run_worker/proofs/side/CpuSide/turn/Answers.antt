@@ -1,7 +1,5 @@
 use Rattle.std.proofs.Common.{sym, ◌∙◌, subst}
-use Rattle.wbt_run_worker.specs.Answers.{JobAnswers}
-use Rattle.wbt_run_worker.specs.Rounds.{JobWaits}
-use Rattle.wbt_run_worker.specs.Team.{seen, team_of}
+use Rattle.wbt_run_worker.proofs.Common.{JobAnswers, JobWaits, seen, team_of}
 use Rattle.wbt_run_worker.specs.declared.round.JobOutcome.{JobOutcome}
 use Rattle.wbt_run_worker.specs.declared.side.Job.TheVariants.{Writers, Flusher}
 use Rattle.wbt_run_worker.specs.declared.side.CpuSide.{CpuSide}

@@ -1,8 +1,6 @@
 use Rattle.std.proofs.Common.{◌≡◌, ◌<◌, ℕ, List, length, map, set, get_or, refl, sym, ap, ◌∙◌, subst}
 use Rattle.std.proofs.lemmas.List.{map-set, set-get_or}
-use Rattle.wbt_run_worker.specs.Answers.{Goes, JobAnswers, job_by}
-use Rattle.wbt_run_worker.specs.Rounds.{JobTakes, JobWaits}
-use Rattle.wbt_run_worker.specs.Team.{Seen, seen, team_of}
+use Rattle.wbt_run_worker.proofs.Common.{Goes, JobAnswers, job_by, JobTakes, JobWaits, Seen, seen, team_of}
 use Rattle.wbt_run_worker.specs.declared.round.JobOutcome.{JobOutcome}
 use Rattle.wbt_run_worker.specs.declared.side.Job.TheVariants.{Flusher}
 use Rattle.wbt_run_worker.specs.declared.side.Post.{Post}

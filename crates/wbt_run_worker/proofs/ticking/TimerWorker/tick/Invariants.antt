@@ -1,5 +1,4 @@
-use Rattle.wbt_run_worker.specs.Ticking.{MayTick, Ticks}
-use Rattle.wbt_run_worker.specs.Voices.{TimerSpeaks}
+use Rattle.wbt_run_worker.proofs.Common.{MayTick, Ticks, TimerSpeaks}
 use Rattle.wbt_run_worker.proofs.TimerTurns.{HasGoneOn}
 use Rattle.wbt_run_worker.proofs.ticking.TimerWorker.tick.Given as goal
 

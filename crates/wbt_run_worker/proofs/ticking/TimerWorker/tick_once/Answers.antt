@@ -1,5 +1,5 @@
 use Rattle.std.proofs.Common.{inl, inr, ap, refl, ◌∙◌, rules}
-use Rattle.wbt_signals.specs.Signals.{Known}
+use Rattle.wbt_run_worker.proofs.Common.{Known}
 use Rattle.wbt_run_worker.proofs.Speaking.{timer_looked, timer_more}
 use Rattle.wbt_run_worker.proofs.Ticks.{ready_still, ticks_now}
 use Rattle.wbt_run_worker.proofs.TimerTurns.{looked_once, no_turn}

@@ -1,9 +1,8 @@
 use Rattle.std.proofs.Common.{◌≡◌, ◌+◌, ◌*◌, ◌^◌, ◌<◌, ℕ, get_or, List, sym, ap, ◌∙◌, subst, arith, to_z-of_z, rules, w64}
 use Rattle.std.specs.Slots.{slots_counts}
-use Rattle.wbt_counter.specs.Addends.{local_in}
-use Rattle.wbt_table.specs.Layout.{offsets, own_at, width}
+use Rattle.wbt_table.proofs.Common.{local_in, own_at, width, Counted, word_at, OwnFits}
+use Rattle.wbt_table.specs.Layout.{offsets}
 use Rattle.wbt_table.specs.declared.layout.Layout.{Layout}
-use Rattle.wbt_table.specs.Census.{Counted, word_at, OwnFits}
 use Rattle.wbt_table.proofs.Lists.{at_read}
 use Rattle.wbt_table.proofs.Places.{own_inside}
 use Rattle.wbt_table.proofs.census.Census.local.Goals as goal

@@ -1,9 +1,7 @@
 use Rattle.std.proofs.Common.{◌≡◌, Option, None, sym, ap, ◌∙◌, arith}
-use Rattle.wbt_counter.specs.Account.{amount, to_clear}
-use Rattle.wbt_counter.specs.Counters.{debt_to}
+use Rattle.wbt_table.proofs.Common.{amount, to_clear, debt_to, debts_in, Counted}
 use Rattle.wbt_table.specs.declared.state.CpuState.{CpuState}
-use Rattle.wbt_table.specs.Seat.{debts_in}
-use Rattle.wbt_table.specs.Census.{Counted, debt_at, kept_state}
+use Rattle.wbt_table.specs.Census.{debt_at, kept_state}
 use Rattle.wbt_table.proofs.Lists.{same_default}
 use Rattle.wbt_table.proofs.census.Census.owed.Goals as goal
 

@@ -1,7 +1,6 @@
 use Rattle.std.proofs.Common.{◌≡◌, ◌/◌, ◌^◌, ◌+◌, ℕ, get_or, List, sym, ap, ◌∙◌}
 use Rattle.wbt_book.specs.PageWords.{shift_of, bits_of}
-use Rattle.wbt_table.specs.Layout.{page_at}
-use Rattle.wbt_table.specs.Census.{Counted, word_at}
+use Rattle.wbt_table.proofs.Common.{page_at, Counted, word_at}
 use Rattle.wbt_table.proofs.Lists.{at_read}
 use Rattle.wbt_table.proofs.Closing.{bits_coded}
 use Rattle.wbt_table.proofs.census.Census.page.Goals as goal

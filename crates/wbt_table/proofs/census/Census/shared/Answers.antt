@@ -1,7 +1,7 @@
 use Rattle.std.proofs.Common.{◌≡◌, ◌+◌, ℕ, get_or, List, sym, ap, ◌∙◌, to_z-of_z, rules, w64}
-use Rattle.wbt_counter.specs.Word.{version_in, count_in}
-use Rattle.wbt_table.specs.Layout.{offsets, shared_at}
-use Rattle.wbt_table.specs.Census.{Counted, word_at}
+use Rattle.wbt_table.proofs.Common.{version_in, shared_at, Counted, word_at}
+use Rattle.wbt_counter.specs.Word.{count_in}
+use Rattle.wbt_table.specs.Layout.{offsets}
 use Rattle.wbt_table.proofs.Lists.{at_read}
 use Rattle.wbt_table.proofs.census.Census.shared.Goals as goal
 

@@ -1,5 +1,5 @@
 use Rattle.std.proofs.Common.{refl, sym, ap, ◌∙◌}
-use Rattle.wbt_grant.specs.declared.record.CpuRecord.{CpuRecord}
+use Rattle.wbt_table.proofs.Common.{CpuRecord}
 use Rattle.wbt_table.proofs.Keeping.{given_same, given_steps}
 use Rattle.wbt_table.proofs.Calling.{state_here, record_here}
 use Rattle.wbt_table.proofs.seat.CpuSeat.state.Goals as goal

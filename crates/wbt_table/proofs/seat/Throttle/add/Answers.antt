@@ -1,20 +1,8 @@
 use Rattle.std.proofs.Common.{◌≡◌, ℤ, List, Option, Some, None, unsigned_abs, refl, sym, ap, ◌∙◌, subst, to_z-of_z}
-use Rattle.wbt_counter.specs.declared.record.Debt.{Debt}
-use Rattle.wbt_counter.specs.declared.record.Debt.TheVariants.{Event, FoldDue}
-use Rattle.wbt_counter.specs.declared.record.Owed.{Owed}
-use Rattle.wbt_counter.specs.Word.{IsPackable}
-use Rattle.wbt_counter.specs.Account.{amount}
-use Rattle.wbt_counter.specs.Counters.{debt_to}
-use Rattle.wbt_grant.specs.declared.record.CpuRecord.{CpuRecord}
-use Rattle.wbt_grant.specs.Setting.{batch_of}
-use Rattle.wbt_grant.specs.Kinds.{add}
-use Rattle.wbt_grant.specs.Seats.{own_told, record_after}
+use Rattle.wbt_table.proofs.Common.{Debt, Event, FoldDue, Owed, IsPackable, amount, debt_to, CpuRecord, batch_of, add, own_told, record_after, setting, Shape, put_state, stepped, OwesFirst, OwesLater, with_due}
 use Rattle.wbt_table.specs.declared.layout.Layout.{Layout}
 use Rattle.wbt_table.specs.declared.state.Due.{Due}
 use Rattle.wbt_table.specs.declared.state.Due.TheVariants as due
-use Rattle.wbt_table.specs.Layout.{setting}
-use Rattle.wbt_table.specs.Seat.{Shape, put_state, stepped}
-use Rattle.wbt_table.specs.Settle.{OwesFirst, OwesLater, with_due}
 use Rattle.wbt_table.proofs.Calling.{state_here, cpu_here, ready_by}
 use Rattle.wbt_table.proofs.Slots.{debt_here, owes_next, owes_later}
 use Rattle.wbt_table.proofs.Settling.{OwnFound, SumIs, summed, sum_of_found, own_found_here, debts_reached, debts_paid, own_reached, reached_slot, paid_slot, batch_is_packable, held_debts, slot_seat, slot_makes, slot_holds}

@@ -1,5 +1,4 @@
-use Rattle.wbt_grant.specs.Kinds.{add}
-use Rattle.wbt_table.specs.Steps.{turn}
+use Rattle.wbt_table.proofs.Common.{add, turn}
 use Rattle.wbt_table.proofs.seat.Throttle.add.Given as goal
 
 abbrev pub ghosts-add : goal.ghosts-add

@@ -1,16 +1,9 @@
 use Rattle.std.proofs.Common.{◌≡◌, ℕ, Bool, true, List, sym, refl, ◌∙◌, subst}
-use Rattle.wbt_grant.specs.declared.record.CpuRecord.{CpuRecord}
-use Rattle.wbt_grant.specs.Setting.{Setting}
-use Rattle.wbt_grant.specs.Kinds.{claim}
-use Rattle.wbt_grant.specs.Seats.{record_after}
-use Rattle.wbt_table.specs.Layout.{setting}
-use Rattle.wbt_table.specs.Seat.{Changes}
-use Rattle.wbt_table.specs.Calls.{looked_at, tried, after_its_look, LogsTry}
+use Rattle.wbt_table.proofs.Common.{CpuRecord, Setting, claim, record_after, setting, Changes, looked_at, times_in, bits_at}
+use Rattle.wbt_table.specs.Calls.{tried, after_its_look, LogsTry}
 use Rattle.wbt_table.proofs.Seating.{has_changed, changes_twice, logs_try}
 use Rattle.wbt_table.proofs.Paying.{answered_at}
 use Rattle.wbt_table.proofs.Unheld.{look_holds}
-use Rattle.wbt_book.specs.Ledger.{times_in}
-use Rattle.wbt_book.specs.PageWords.{bits_at}
 use Rattle.wbt_table.proofs.seat.Throttle.claim.Goals as goal
 
 pub state-requires-2 : goal.state-requires-2

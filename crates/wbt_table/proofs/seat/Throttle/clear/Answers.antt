@@ -1,15 +1,6 @@
 use Rattle.std.proofs.Common.{◌≡◌, List, None, refl, sym, ap, ◌∙◌, subst, to_z-of_z}
-use Rattle.wbt_counter.specs.declared.record.Debt.{Debt}
-use Rattle.wbt_counter.specs.declared.record.Debt.TheVariants.{ClearDue}
-use Rattle.wbt_counter.specs.declared.record.Owed.{Owed}
-use Rattle.wbt_counter.specs.Account.{to_clear}
-use Rattle.wbt_counter.specs.Counters.{debt_to}
-use Rattle.wbt_grant.specs.Kinds.{clear}
-use Rattle.wbt_grant.specs.Seats.{record_after}
+use Rattle.wbt_table.proofs.Common.{Debt, ClearDue, Owed, to_clear, debt_to, clear, record_after, setting, Shape, put_state, stepped, OwesFirst, OwesLater, with_due}
 use Rattle.wbt_table.specs.declared.layout.Layout.{Layout}
-use Rattle.wbt_table.specs.Layout.{setting}
-use Rattle.wbt_table.specs.Seat.{Shape, put_state, stepped}
-use Rattle.wbt_table.specs.Settle.{OwesFirst, OwesLater, with_due}
 use Rattle.wbt_table.proofs.Calling.{state_here, cpu_here, ready_by}
 use Rattle.wbt_table.proofs.Slots.{debt_here, owes_later}
 use Rattle.wbt_table.proofs.Settling.{clear_slot, held_debts, slot_seat, slot_makes, slot_holds}

@@ -1,5 +1,4 @@
-use Rattle.wbt_grant.specs.Kinds.{clear}
-use Rattle.wbt_table.specs.Steps.{turn}
+use Rattle.wbt_table.proofs.Common.{clear, turn}
 use Rattle.wbt_table.proofs.seat.Throttle.clear.Given as goal
 
 abbrev pub ghosts-clear : goal.ghosts-clear

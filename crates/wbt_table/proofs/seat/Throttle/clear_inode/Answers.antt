@@ -1,8 +1,6 @@
 use Rattle.std.proofs.Common.{refl, sym, ap, ◌∙◌}
-use Rattle.wbt_grant.specs.Kinds.{unmark}
+use Rattle.wbt_table.proofs.Common.{unmark, setting, Shape}
 use Rattle.wbt_table.specs.declared.layout.Layout.{Layout}
-use Rattle.wbt_table.specs.Layout.{setting}
-use Rattle.wbt_table.specs.Seat.{Shape}
 use Rattle.wbt_table.proofs.Calling.{state_here, cpu_here, ready_by, quiet_seat, quiet_makes}
 use Rattle.wbt_table.proofs.QuietMarks.{unmark_quiet}
 use Rattle.wbt_table.proofs.Triples.{kept_by}

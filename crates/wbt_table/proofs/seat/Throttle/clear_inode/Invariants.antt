@@ -1,5 +1,4 @@
-use Rattle.wbt_grant.specs.Kinds.{unmark}
-use Rattle.wbt_table.specs.Steps.{turn}
+use Rattle.wbt_table.proofs.Common.{unmark, turn}
 use Rattle.wbt_table.proofs.seat.Throttle.clear_inode.Given as goal
 
 abbrev pub ghosts-unmark : goal.ghosts-unmark

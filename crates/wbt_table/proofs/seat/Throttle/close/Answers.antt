@@ -4,10 +4,8 @@ use lib.ListN.{get_elem?}
 use Rattle.atomic_table.proofs.Lists.{at_index}
 use Rattle.wbt_table.specs.declared.layout.Layout.{Layout}
 use Rattle.wbt_table.specs.declared.state.CpuState.{CpuState}
-use Rattle.wbt_table.specs.Layout.{setting}
-use Rattle.wbt_table.specs.Rule.{Cpus, Has, given, MayGive, put_record, Kept}
-use Rattle.wbt_table.specs.Seat.{Shape, Seated, States, Knows, with_grant}
-use Rattle.wbt_table.specs.Census.{Closes, OwnFits}
+use Rattle.wbt_table.proofs.Common.{setting, Cpus, Has, given, MayGive, put_record, Kept, Shape, Seated, States, Knows, with_grant, OwnFits}
+use Rattle.wbt_table.specs.Census.{Closes}
 use Rattle.wbt_table.proofs.Seating.{some_is}
 use Rattle.wbt_table.proofs.Joining.{followed_yet, one_follows, none_follows, either_is}
 use Rattle.wbt_table.proofs.Logging.{GivenTo, one_given, none_given_now}

@@ -1,5 +1,5 @@
 use Rattle.std.proofs.Common.{◌≡◌}
-use Rattle.wbt_table.specs.Seat.{with_grant}
+use Rattle.wbt_table.proofs.Common.{with_grant}
 use Rattle.wbt_table.proofs.Joining.{followed}
 use Rattle.wbt_table.proofs.Logging.{GivenTo}
 use Rattle.wbt_table.proofs.seat.Throttle.close.Given as goal

@@ -1,11 +1,8 @@
 use Rattle.std.proofs.Common.{◌≡◌, ℕ, ◌<◌, List, negsuc, length, get_or, refl, sym, ap, ◌∙◌, subst, arith}
-use Rattle.wbt_grant.specs.Kinds.{complete}
+use Rattle.wbt_table.proofs.Common.{complete, setting, inode_at, no_place, Shape, Seated, Makes, States, put_state, page_stepped, seated, CanComplete, owing_event}
 use Rattle.wbt_table.specs.declared.layout.Layout.{Layout}
 use Rattle.wbt_table.specs.declared.layout.Place.{Place}
 use Rattle.wbt_table.specs.declared.state.CpuState.{CpuState}
-use Rattle.wbt_table.specs.Layout.{setting, inode_at, no_place}
-use Rattle.wbt_table.specs.Seat.{Shape, Seated, Makes, States, put_state, page_stepped, seated}
-use Rattle.wbt_table.specs.Calls.{CanComplete, owing_event}
 use Rattle.wbt_table.proofs.Opening.{lawful_setting}
 use Rattle.wbt_table.proofs.Calling.{state_here, step_makes}
 use Rattle.wbt_table.proofs.Completing.{page_steps_here, ready_here, complete_seat}

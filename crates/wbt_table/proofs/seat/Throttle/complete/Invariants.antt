@@ -1,5 +1,4 @@
-use Rattle.wbt_grant.specs.Kinds.{complete}
-use Rattle.wbt_table.specs.Steps.{turn}
+use Rattle.wbt_table.proofs.Common.{complete, turn}
 use Rattle.wbt_table.proofs.seat.Throttle.complete.Given as goal
 
 abbrev pub ghosts-complete : goal.ghosts-complete

@@ -1,10 +1,7 @@
 use Rattle.std.proofs.Common.{◌≡◌, ℕ, refl, sym, ap, ◌∙◌, subst}
-use Rattle.wbt_grant.specs.Kinds.{count, IsWho}
-use Rattle.wbt_grant.specs.Seats.{cpu_for}
+use Rattle.wbt_table.proofs.Common.{count, cpu_for, setting, Has, Shape}
+use Rattle.wbt_grant.specs.Kinds.{IsWho}
 use Rattle.wbt_table.specs.declared.layout.Layout.{Layout}
-use Rattle.wbt_table.specs.Layout.{setting}
-use Rattle.wbt_table.specs.Rule.{Has}
-use Rattle.wbt_table.specs.Seat.{Shape}
 use Rattle.wbt_table.proofs.Calling.{state_here, record_here, ready_by, quiet_seat, quiet_makes}
 use Rattle.wbt_table.proofs.QuietLoads.{count_quiet, newest_found}
 use Rattle.wbt_table.proofs.Triples.{kept_by}

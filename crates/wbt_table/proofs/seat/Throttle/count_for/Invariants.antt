@@ -1,5 +1,4 @@
-use Rattle.wbt_grant.specs.Kinds.{count}
-use Rattle.wbt_table.specs.Steps.{turn}
+use Rattle.wbt_table.proofs.Common.{count, turn}
 use Rattle.wbt_table.proofs.seat.Throttle.count_for.Given as goal
 
 abbrev pub ghosts-count : goal.ghosts-count

@@ -1,12 +1,8 @@
 use Rattle.std.proofs.Common.{◌≡◌, ℕ, pos, refl, sym, ap, ◌∙◌, subst, arith}
-use Rattle.wbt_grant.specs.Kinds.{dirty}
+use Rattle.wbt_table.proofs.Common.{dirty, setting, Has, Shape, Seated, Makes, put_state, page_stepped, seated, CanDirty, owing_event}
 use Rattle.wbt_table.specs.declared.layout.Layout.{Layout}
 use Rattle.wbt_table.specs.declared.layout.Writer.{Writer}
 use Rattle.wbt_table.specs.declared.state.CpuState.{CpuState}
-use Rattle.wbt_table.specs.Layout.{setting}
-use Rattle.wbt_table.specs.Rule.{Has}
-use Rattle.wbt_table.specs.Seat.{Shape, Seated, Makes, put_state, page_stepped, seated}
-use Rattle.wbt_table.specs.Calls.{CanDirty, owing_event}
 use Rattle.wbt_table.proofs.Calling.{state_here}
 use Rattle.wbt_table.proofs.Dirtying.{page_steps_here, ready_here, already_seat, fresh_seat, dirty_changes}
 use Rattle.wbt_table.proofs.Triples.{kept_by, dirty_triples}

@@ -1,10 +1,7 @@
 use Rattle.std.proofs.Common.{◌≡◌, ℕ, ◌≤◌, refl, sym, ap, ◌∙◌, subst}
-use Rattle.wbt_num.specs.declared.limits.TheConstants.{LAST_SEQUENCE}
-use Rattle.wbt_grant.specs.Kinds.{thresh}
-use Rattle.wbt_grant.specs.Seats.{timer_after}
+use Rattle.wbt_table.proofs.Common.{LAST_SEQUENCE, thresh, timer_after, Shape}
 use Rattle.wbt_grant.proofs.Sequences.{sequence_drafted}
 use Rattle.wbt_table.specs.declared.layout.Layout.{Layout}
-use Rattle.wbt_table.specs.Seat.{Shape}
 use Rattle.wbt_table.proofs.Triples.{kept_ticked, sequence_known, sequences_after}
 use Rattle.wbt_table.proofs.seat.Throttle.draft.Goals as goal
 

@@ -1,11 +1,7 @@
 use Rattle.std.proofs.Common.{◌≡◌, ℕ, refl, sym, ap, ◌∙◌, arith}
-use Rattle.wbt_grant.specs.Kinds.{claim, last_found}
-use Rattle.wbt_grant.specs.declared.record.CpuRecord.{CpuRecord}
+use Rattle.wbt_table.proofs.Common.{claim, last_found, CpuRecord, bits_at, setting, Shape}
 use Rattle.wbt_table.specs.declared.layout.Layout.{Layout}
 use Rattle.wbt_book.specs.Book.{is_claimable}
-use Rattle.wbt_book.specs.PageWords.{bits_at}
-use Rattle.wbt_table.specs.Layout.{setting}
-use Rattle.wbt_table.specs.Seat.{Shape}
 use Rattle.wbt_table.proofs.Calling.{state_here, record_here, cpu_here, ready_by, quiet_seat, quiet_makes}
 use Rattle.wbt_table.proofs.Turning.{one_record}
 use Rattle.wbt_table.proofs.Paging.{last_given}

@@ -1,5 +1,4 @@
-use Rattle.wbt_grant.specs.Kinds.{claim}
-use Rattle.wbt_table.specs.Steps.{turn}
+use Rattle.wbt_table.proofs.Common.{claim, turn}
 use Rattle.wbt_table.proofs.seat.Throttle.exchange.Given as goal
 
 abbrev pub ghosts-claim : goal.ghosts-claim

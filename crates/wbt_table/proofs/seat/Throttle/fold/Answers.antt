@@ -1,14 +1,8 @@
 use Rattle.std.proofs.Common.{◌≡◌, ℤ, ◌+◌, Option, Some, refl, sym, ap, ◌∙◌, subst, to_z-of_z, w64}
-use Rattle.wbt_counter.specs.declared.record.Debt.TheVariants.{FoldDue, ClearDue}
-use Rattle.wbt_grant.specs.declared.record.CpuRecord.{CpuRecord}
-use Rattle.wbt_grant.specs.Kinds.{fold}
-use Rattle.wbt_grant.specs.Seats.{own_told, record_after}
+use Rattle.wbt_table.proofs.Common.{FoldDue, ClearDue, CpuRecord, fold, own_told, record_after, setting, Shape, put_state, stepped, OwesFirst, with_due}
 use Rattle.wbt_table.specs.declared.layout.Layout.{Layout}
 use Rattle.wbt_table.specs.declared.state.Due.{Due}
 use Rattle.wbt_table.specs.declared.state.Due.TheVariants as due
-use Rattle.wbt_table.specs.Layout.{setting}
-use Rattle.wbt_table.specs.Seat.{Shape, put_state, stepped}
-use Rattle.wbt_table.specs.Settle.{OwesFirst, with_due}
 use Rattle.wbt_table.proofs.Calling.{state_here, cpu_here, ready_by}
 use Rattle.wbt_table.proofs.Slots.{debt_here, owes_next}
 use Rattle.wbt_table.proofs.Settling.{fold_slot, held_own, slot_seat, slot_makes, slot_holds}

@@ -1,5 +1,4 @@
-use Rattle.wbt_grant.specs.Kinds.{fold}
-use Rattle.wbt_table.specs.Steps.{turn}
+use Rattle.wbt_table.proofs.Common.{fold, turn}
 use Rattle.wbt_table.proofs.seat.Throttle.fold.Given as goal
 
 abbrev pub ghosts-fold : goal.ghosts-fold

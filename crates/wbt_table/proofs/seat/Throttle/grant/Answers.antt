@@ -1,19 +1,11 @@
 use Rattle.std.proofs.Common.{◌≡◌, ℕ, Option, Some, get_or, set, refl, sym, ap, ◌∙◌, subst}
-use Rattle.wbt_grant.specs.Kinds.{MayGrant}
-use Rattle.wbt_grant.specs.Record.{granted}
+use Rattle.wbt_table.proofs.Common.{MayGrant, granted, setting, no_writer, CpuRecord, LogsGrant, Has, Logs, LogChanges, put_record, given, Seated, Shape, Changes, LogComes, Knows, States, IsSeat, seated, KeepsTriples, KeepsSequences, TimerRecord}
 use Rattle.wbt_table.specs.declared.layout.Layout.{Layout}
 use Rattle.wbt_table.specs.declared.state.CpuState.{CpuState}
-use Rattle.wbt_table.specs.Layout.{setting, no_writer}
-use Rattle.wbt_grant.specs.declared.record.CpuRecord.{CpuRecord}
 use Rattle.wbt_table.specs.declared.rule.Granted.{Granted}
-use Rattle.wbt_table.specs.History.{LogsGrant}
-use Rattle.wbt_table.specs.Rule.{Has, Logs, LogChanges, put_record, given}
-use Rattle.wbt_table.specs.Seat.{Seated, Shape, Changes, LogComes, Knows, States, IsSeat, seated}
 use Rattle.wbt_table.proofs.Calling.{state_here}
 use Rattle.wbt_table.proofs.Seating.{logs_weaker}
 use Rattle.wbt_table.proofs.Granting.{granted_seat, granted_changes}
-use Rattle.wbt_table.specs.Held.{KeepsTriples, KeepsSequences}
-use Rattle.wbt_grant.specs.declared.record.TimerRecord.{TimerRecord}
 use Rattle.wbt_table.proofs.Triples.{given_triples, triples_put}
 use Rattle.wbt_table.proofs.seat.Throttle.grant.Goals as goal
 

@@ -1,13 +1,7 @@
 use Rattle.std.proofs.Common.{◌≡◌, ℕ, List, get_or, sym, ap, ◌∙◌, subst}
-use Rattle.wbt_grant.specs.declared.record.CpuRecord.{CpuRecord}
-use Rattle.wbt_grant.specs.declared.record.DomainLimits.{DomainLimits}
-use Rattle.wbt_grant.specs.State.{held_of}
-use Rattle.wbt_num.specs.Limits.{IsLawful}
+use Rattle.wbt_table.proofs.Common.{CpuRecord, DomainLimits, held_of, IsLawful, KeepsTriples, triple_of, setting, Seated}
 use Rattle.wbt_table.specs.declared.answer.Triple.{Triple}
 use Rattle.wbt_table.specs.declared.layout.Layout.{Layout}
-use Rattle.wbt_table.specs.Held.{KeepsTriples, triple_of}
-use Rattle.wbt_table.specs.Layout.{setting}
-use Rattle.wbt_table.specs.Seat.{Seated}
 use Rattle.wbt_table.proofs.Calling.{state_here, record_here, cpu_here}
 use Rattle.wbt_table.proofs.Triples.{given_triples, triple_kept, triple_lawful}
 use Rattle.wbt_table.proofs.seat.Throttle.held_limits.Goals as goal

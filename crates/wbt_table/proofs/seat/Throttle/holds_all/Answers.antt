@@ -1,8 +1,7 @@
 use Rattle.std.proofs.Common.{refl, sym, ap, ◌∙◌, arith, true≢false}
-use Rattle.wbt_grant.specs.declared.record.CpuRecord.{CpuRecord}
+use Rattle.wbt_table.proofs.Common.{CpuRecord, Has, Shape, Seated}
 use Rattle.wbt_table.specs.declared.layout.Layout.{Layout}
-use Rattle.wbt_table.specs.Rule.{Has}
-use Rattle.wbt_table.specs.Seat.{Shape, Seated, as_cpu}
+use Rattle.wbt_table.specs.Seat.{as_cpu}
 use Rattle.wbt_table.proofs.Splitting.{cpu_of, no_timer}
 use Rattle.wbt_table.proofs.Trying.{one_further}
 use Rattle.wbt_table.proofs.seat.Throttle.holds_all.Goals as goal

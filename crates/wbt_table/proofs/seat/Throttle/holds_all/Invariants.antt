@@ -1,6 +1,5 @@
 use Rattle.std.proofs.Common.{ℕ, ◌<◌}
-use Rattle.wbt_grant.specs.declared.record.CpuRecord.{CpuRecord}
-use Rattle.wbt_table.specs.Rule.{Has}
+use Rattle.wbt_table.proofs.Common.{CpuRecord, Has}
 use Rattle.wbt_table.proofs.seat.Throttle.holds_all.Given as goal
 
 abbrev pub invariant-loop-cpu : goal.invariant-loop-cpu

@@ -1,9 +1,7 @@
 use Rattle.std.proofs.Common.{◌≡◌, ℕ, List, [], Option, None, sym, ap, ◌∙◌, subst, arith, ⊎_elim}
 use Rattle.wbt_table.specs.declared.layout.Layout.{Layout}
 use Rattle.wbt_table.specs.declared.seat.CpuSeat.TheInside.{Inside}
-use Rattle.wbt_table.specs.Rule.{Sat, or_else, merged, both_of}
-use Rattle.wbt_table.specs.Seat.{Shape, Seated, States, seated}
-use Rattle.wbt_table.specs.Held.{IsKept}
+use Rattle.wbt_table.proofs.Common.{Sat, or_else, merged, both_of, Shape, Seated, States, seated, IsKept}
 use Rattle.wbt_table.specs.declared.answer.Triple.{Triple}
 use Rattle.wbt_table.specs.declared.held.HeldLimits.{HeldLimits}
 use Rattle.wbt_table.specs.Calls.{joined_seat}

@@ -1,26 +1,15 @@
 use Rattle.std.proofs.Common.{◌≡◌, ℕ, ◌/◌, ◌%◌, ◌<◌, ◌≤◌, true, false, Some, [], ◌∷◌, All, eqb, sym, refl, ap, ◌∙◌, subst, eqb-true}
 use Rattle.std.proofs.lemmas.Bool.{and_parts}
-use Rattle.wbt_num.specs.Limits.{IsLawful}
-use Rattle.wbt_limits.specs.Words.{sequence_in}
-use Rattle.wbt_grant.specs.declared.record.CpuRecord.{CpuRecord}
-use Rattle.wbt_grant.specs.declared.record.Finding.TheVariants.{Sequence, Words}
+use Rattle.wbt_table.proofs.Common.{IsLawful, sequence_in, CpuRecord, Words, cpu_for, record_after, Setting, triple_of, setting, Has, MakesAll, at_once, is_whole_load, triple_in, first, middle, limits, found_of, held_of, IsKept, triple_number, domains, Shape, States, IsSeat, seated, put_state, stepped, with_grants}
+use Rattle.wbt_grant.specs.declared.record.Finding.TheVariants.{Sequence}
 use Rattle.wbt_grant.specs.Record.{beside}
-use Rattle.wbt_grant.specs.Seats.{cpu_for, record_after}
-use Rattle.wbt_grant.specs.Setting.{Setting}
 use Rattle.wbt_grant.proofs.Sequences.{found_here}
 use Rattle.wbt_table.specs.declared.layout.Layout.{Layout}
 use Rattle.wbt_table.specs.declared.answer.Triple.{Triple}
-use Rattle.wbt_table.specs.Held.{triple_of}
-use Rattle.wbt_table.specs.Layout.{setting}
-use Rattle.wbt_table.specs.Rule.{Has}
-use Rattle.wbt_table.specs.Calls.{MakesAll, whole_load, at_once, after_first, after_middle, is_whole_load, triple_in}
+use Rattle.wbt_table.specs.Calls.{whole_load, after_first, after_middle}
 use Rattle.wbt_table.proofs.Turning.{one_record}
-use Rattle.wbt_grant.specs.Kinds.{first, middle, limits, IsLoader, has_sequence, has_both}
-use Rattle.wbt_grant.specs.State.{found_of, held_of}
+use Rattle.wbt_grant.specs.Kinds.{IsLoader, has_sequence, has_both}
 use Rattle.wbt_table.specs.declared.state.CpuState.{CpuState}
-use Rattle.wbt_table.specs.Held.{IsKept, triple_number}
-use Rattle.wbt_table.specs.Layout.{domains}
-use Rattle.wbt_table.specs.Seat.{Shape, States, IsSeat, seated, put_state, stepped, with_grants}
 use Rattle.wbt_table.proofs.Lists.{set_set}
 use Rattle.wbt_table.proofs.Calling.{state_here}
 use Rattle.wbt_table.proofs.QuietLoads.{first_quiet, middle_quiet, limits_quiet}

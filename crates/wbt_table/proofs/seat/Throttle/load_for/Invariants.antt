@@ -1,5 +1,4 @@
-use Rattle.wbt_grant.specs.Kinds.{first, middle, limits}
-use Rattle.wbt_table.specs.Steps.{turn}
+use Rattle.wbt_table.proofs.Common.{first, middle, limits, turn}
 use Rattle.wbt_table.proofs.seat.Throttle.load_for.Given as goal
 
 abbrev pub ghosts-first : goal.ghosts-first

@@ -1,8 +1,6 @@
 use Rattle.std.proofs.Common.{refl, sym, ap, ◌∙◌, arith}
-use Rattle.wbt_grant.specs.Kinds.{look}
+use Rattle.wbt_table.proofs.Common.{look, setting, Shape}
 use Rattle.wbt_table.specs.declared.layout.Layout.{Layout}
-use Rattle.wbt_table.specs.Layout.{setting}
-use Rattle.wbt_table.specs.Seat.{Shape}
 use Rattle.wbt_table.proofs.Calling.{state_here, record_here, cpu_here, ready_by, quiet_seat, quiet_makes}
 use Rattle.wbt_table.proofs.Quiet.{look_quiet}
 use Rattle.wbt_table.proofs.Unheld.{held_found}

@@ -1,5 +1,4 @@
-use Rattle.wbt_grant.specs.Kinds.{look}
-use Rattle.wbt_table.specs.Steps.{turn}
+use Rattle.wbt_table.proofs.Common.{look, turn}
 use Rattle.wbt_table.proofs.seat.Throttle.look.Given as goal
 
 abbrev pub ghosts-look : goal.ghosts-look

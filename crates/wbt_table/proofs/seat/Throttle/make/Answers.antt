@@ -1,11 +1,8 @@
 use Rattle.std.proofs.Common.{◌≡◌, List, [], sym, ap, ◌∙◌, subst, ℕ, min, replicate, refl, Some}
 use Rattle.atomic_table.specs.Table.{opening}
-use Rattle.wbt_grant.specs.State.{no_record, opening as start}
+use Rattle.wbt_table.proofs.Common.{no_record, Kept, Sat, first_view, IsKept, States, with_grants, setting}
+use Rattle.wbt_grant.specs.State.{opening as start}
 use Rattle.wbt_table.specs.declared.layout.Layout.{Layout}
-use Rattle.wbt_table.specs.Rule.{Kept, Sat, first_view}
-use Rattle.wbt_table.specs.Held.{IsKept}
-use Rattle.wbt_table.specs.Seat.{States, with_grants}
-use Rattle.wbt_table.specs.Layout.{setting}
 use Rattle.wbt_table.proofs.Living.{opened}
 use Rattle.wbt_table.proofs.First.{first_kept, shown_first}
 use Rattle.wbt_table.proofs.seat.Throttle.make.Goals as goal

@@ -1,8 +1,6 @@
 use Rattle.std.proofs.Common.{◌≡◌, eqb-true, refl, sym, ap, ◌∙◌, subst}
-use Rattle.wbt_grant.specs.Kinds.{mark}
+use Rattle.wbt_table.proofs.Common.{mark, setting, Shape}
 use Rattle.wbt_table.specs.declared.layout.Layout.{Layout}
-use Rattle.wbt_table.specs.Layout.{setting}
-use Rattle.wbt_table.specs.Seat.{Shape}
 use Rattle.wbt_table.proofs.Calling.{state_here, cpu_here, ready_by, quiet_seat, quiet_makes}
 use Rattle.wbt_table.specs.Calls.{OwesInodeNothing, HasNoDirtyPage}
 use Rattle.wbt_table.proofs.Cleaning.{number_tells, mark_is_small, clean_here}

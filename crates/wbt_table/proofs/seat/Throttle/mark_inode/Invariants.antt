@@ -1,5 +1,4 @@
-use Rattle.wbt_grant.specs.Kinds.{mark}
-use Rattle.wbt_table.specs.Steps.{turn}
+use Rattle.wbt_table.proofs.Common.{mark, turn}
 use Rattle.wbt_table.proofs.seat.Throttle.mark_inode.Given as goal
 
 abbrev pub ghosts-mark : goal.ghosts-mark

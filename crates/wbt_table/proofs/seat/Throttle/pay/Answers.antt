@@ -1,13 +1,8 @@
 use Rattle.std.proofs.Common.{◌≡◌, Some, sym, ap, ◌∙◌, subst, to_z, of_z, to_z-of_z, rules, w64}
-use Rattle.wbt_counter.specs.declared.counter.Counter.{Counter}
-use Rattle.wbt_counter.specs.declared.record.Debt.TheVariants.{Event, ClearDue}
-use Rattle.wbt_counter.specs.declared.record.Owed.{Owed}
-use Rattle.wbt_counter.specs.Word.{IsPackable}
+use Rattle.wbt_table.proofs.Common.{Counter, Event, ClearDue, Owed, IsPackable, setting, IsTold, OwesFirst}
 use Rattle.wbt_table.specs.declared.layout.Layout.{Layout}
 use Rattle.wbt_table.specs.declared.state.Due.{Due}
-use Rattle.wbt_table.specs.Layout.{setting}
-use Rattle.wbt_table.specs.Seat.{IsTold, due_in, debt_of}
-use Rattle.wbt_table.specs.Settle.{OwesFirst}
+use Rattle.wbt_table.specs.Seat.{due_in, debt_of}
 use Rattle.wbt_table.proofs.Calling.{state_here}
 use Rattle.wbt_table.proofs.Slots.{none_owed, owes_here, told_here}
 use Rattle.wbt_table.proofs.Settling.{keeps_here}

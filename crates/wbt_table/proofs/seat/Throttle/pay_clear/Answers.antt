@@ -1,5 +1,5 @@
 use Rattle.std.proofs.Common.{ℕ, Bool, true, false}
-use Rattle.wbt_counter.specs.declared.record.Debt.TheVariants.{ClearDue}
+use Rattle.wbt_table.proofs.Common.{ClearDue}
 use Rattle.wbt_table.proofs.Paying.{answered_at, stop_pays, clear_pays}
 use Rattle.wbt_table.proofs.seat.Throttle.pay_clear.Goals as goal
 

@@ -1,5 +1,5 @@
 use Rattle.std.proofs.Common.{ℕ, Bool, true, None, false}
-use Rattle.wbt_counter.specs.declared.record.Debt.TheVariants.{Event}
+use Rattle.wbt_table.proofs.Common.{Event}
 use Rattle.wbt_table.proofs.Paying.{answered_at, stop_pays, all_pays, add_pays}
 use Rattle.wbt_table.proofs.seat.Throttle.pay_event.Goals as goal
 

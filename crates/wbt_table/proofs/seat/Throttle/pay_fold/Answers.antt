@@ -1,6 +1,5 @@
 use Rattle.std.proofs.Common.{ℕ, ◌+◌, Bool, ◌≡◌, ◌∙◌, to_z-of_z, true, false}
-use Rattle.wbt_counter.specs.Word.{version_in}
-use Rattle.wbt_counter.specs.declared.record.Debt.TheVariants.{FoldDue}
+use Rattle.wbt_table.proofs.Common.{version_in, FoldDue}
 use Rattle.wbt_table.proofs.Paying.{answered_at, stop_pays, fold_pays}
 use Rattle.wbt_table.proofs.seat.Throttle.pay_fold.Goals as goal
 

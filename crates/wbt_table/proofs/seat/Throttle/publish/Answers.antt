@@ -1,22 +1,13 @@
 use Rattle.std.proofs.Common.{◌≡◌, ◌≢◌, ℕ, suc, ◌%◌, ◌≤◌, Bool, true, false, List, [], ◌∷◌, Some, sym, refl, ap, ◌∙◌, subst, arith, true≢false}
 use Rattle.std.proofs.lemmas.Bool.Decides.{nat_tests}
-use Rattle.wbt_num.specs.declared.limits.Limits.{Limits}
-use Rattle.wbt_counter.specs.Sums.{put}
-use Rattle.wbt_counter.proofs.Sums.{put_same}
+use Rattle.wbt_table.proofs.Common.{Limits, put, put_same, TimerRecord, unseal, timer_after, Setting, stage_of, is_sealed, version_of, sequence_of, Made, setting, Shape, Seated, as_timer, at_once}
 use Rattle.wbt_grant.specs.declared.record.Stage.TheVariants.{Unsealed}
-use Rattle.wbt_grant.specs.declared.record.TimerRecord.{TimerRecord}
-use Rattle.wbt_grant.specs.Kinds.{unseal}
-use Rattle.wbt_grant.specs.Seats.{timer_after}
-use Rattle.wbt_grant.specs.Setting.{Setting}
-use Rattle.wbt_grant.specs.State.{stage_of, is_sealed, version_of, sequence_of}
 use Rattle.wbt_grant.proofs.Sequences.{stage_here, sealed_at, sequence_unsealed}
 use Rattle.wbt_table.specs.declared.answer.Put.{Put}
 use Rattle.wbt_table.specs.declared.answer.Put.TheVariants as put
 use Rattle.wbt_table.specs.declared.layout.Layout.{Layout}
-use Rattle.wbt_table.specs.History.{Made}
-use Rattle.wbt_table.specs.Layout.{setting}
-use Rattle.wbt_table.specs.Seat.{Shape, Seated, Times, as_timer}
-use Rattle.wbt_table.specs.Calls.{Puts, IsWholePut, IsCutPut, at_once, after_unseal, after_thresh, after_both, unsealing_step}
+use Rattle.wbt_table.specs.Seat.{Times}
+use Rattle.wbt_table.specs.Calls.{Puts, IsWholePut, IsCutPut, after_unseal, after_thresh, after_both, unsealing_step}
 use Rattle.wbt_table.proofs.Loading.{times_none, times_then}
 use Rattle.wbt_table.proofs.Seating.{some_is}
 use Rattle.wbt_table.proofs.Triples.{sequence_known, sequence_read, odd_is_unsealed}

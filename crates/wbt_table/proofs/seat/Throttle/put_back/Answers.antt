@@ -1,12 +1,9 @@
 use Rattle.std.proofs.Common.{◌≡◌, ℕ, ◌<◌, List, negsuc, length, get_or, refl, sym, ap, ◌∙◌, subst, arith}
-use Rattle.wbt_grant.specs.Kinds.{back, last_found}
-use Rattle.wbt_grant.specs.declared.record.CpuRecord.{CpuRecord}
+use Rattle.wbt_table.proofs.Common.{back, last_found, CpuRecord, setting, inode_at, no_place, Shape, Makes, put_state, stepped, page_stepped, seated, owing_event}
 use Rattle.wbt_table.specs.declared.layout.Layout.{Layout}
 use Rattle.wbt_table.specs.declared.layout.Place.{Place}
 use Rattle.wbt_table.specs.declared.state.CpuState.{CpuState}
-use Rattle.wbt_table.specs.Layout.{setting, inode_at, no_place}
-use Rattle.wbt_table.specs.Seat.{Shape, Makes, put_state, stepped, page_stepped, seated}
-use Rattle.wbt_table.specs.Calls.{CanGiveBack, owing_event}
+use Rattle.wbt_table.specs.Calls.{CanGiveBack}
 use Rattle.wbt_table.proofs.Opening.{lawful_setting}
 use Rattle.wbt_table.proofs.Calling.{state_here, record_here}
 use Rattle.wbt_table.proofs.Completing.{page_steps_here}

@@ -1,5 +1,4 @@
-use Rattle.wbt_grant.specs.Kinds.{back}
-use Rattle.wbt_table.specs.Steps.{turn}
+use Rattle.wbt_table.proofs.Common.{back, turn}
 use Rattle.wbt_table.proofs.seat.Throttle.put_back.Given as goal
 
 abbrev pub ghosts-back : goal.ghosts-back

@@ -1,16 +1,9 @@
 use Rattle.std.proofs.Common.{◌≡◌, ℕ, ◌≤◌, Bool, true, false, List, [], ◌∷◌, Some, sym, refl, ap, ◌∙◌, subst, arith}
 use Rattle.wbt_grant.specs.declared.record.Stage.TheVariants.{Drafted}
-use Rattle.wbt_grant.specs.declared.record.TimerRecord.{TimerRecord}
-use Rattle.wbt_grant.specs.Kinds.{thresh, publish}
-use Rattle.wbt_grant.specs.Seats.{timer_after}
-use Rattle.wbt_grant.specs.Setting.{Setting}
-use Rattle.wbt_grant.specs.State.{stage_of, is_sealed, sequence_of}
+use Rattle.wbt_table.proofs.Common.{TimerRecord, thresh, publish, timer_after, Setting, stage_of, is_sealed, sequence_of, setting, Shape, as_timer, Made}
 use Rattle.wbt_grant.proofs.Sequences.{stage_here, sequence_drafted}
 use Rattle.wbt_table.specs.declared.layout.Layout.{Layout}
-use Rattle.wbt_table.specs.Layout.{setting}
-use Rattle.wbt_table.specs.Seat.{Shape, as_timer}
 use Rattle.wbt_table.specs.Calls.{IsWholePut, drafting_step, sealing_step, after_thresh}
-use Rattle.wbt_table.specs.History.{Made}
 use Rattle.wbt_table.proofs.Loading.{times_none, times_then}
 use Rattle.wbt_table.proofs.Seating.{some_is}
 use Rattle.wbt_table.proofs.seat.Throttle.put_unsealed.Goals as goal

@@ -1,6 +1,5 @@
 use Rattle.std.specs.Prelude.{None}
-use Rattle.wbt_grant.specs.Kinds.{peak}
-use Rattle.wbt_table.specs.Steps.{turn}
+use Rattle.wbt_table.proofs.Common.{peak, turn}
 use Rattle.wbt_table.proofs.seat.Throttle.raise_peak.Given as goal
 
 abbrev pub ghosts-raise : goal.ghosts-raise

@@ -1,14 +1,8 @@
 use Rattle.std.proofs.Common.{◌≡◌, ℕ, suc, ◌+◌, ◌*◌, ◌<◌, ◌≤◌, not, refl, sym, ap, ◌∙◌, subst, arith}
-use Rattle.wbt_num.specs.declared.limits.TheConstants.{LAST_SEQUENCE}
-use Rattle.wbt_counter.specs.Sums.{one_if}
+use Rattle.wbt_table.proofs.Common.{LAST_SEQUENCE, one_if, publish, is_sealed, version_of, sequence_of, timer_after, domains, Shape}
 use Rattle.wbt_grant.specs.declared.record.Stage.{Stage}
-use Rattle.wbt_grant.specs.Kinds.{publish}
-use Rattle.wbt_grant.specs.State.{is_sealed, version_of, sequence_of}
-use Rattle.wbt_grant.specs.Seats.{timer_after}
 use Rattle.wbt_grant.proofs.Sequences.{sequence_published}
 use Rattle.wbt_table.specs.declared.layout.Layout.{Layout}
-use Rattle.wbt_table.specs.Layout.{domains}
-use Rattle.wbt_table.specs.Seat.{Shape}
 use Rattle.wbt_table.proofs.Triples.{kept_ticked, sequence_known, sequences_set}
 use Rattle.wbt_table.proofs.seat.Throttle.seal.Goals as goal
 

@@ -1,11 +1,8 @@
 use Rattle.std.proofs.Common.{ℕ, Bool, false, None}
 use Rattle.std.proofs.lemmas.Bool.{not-true, not-false}
-use Rattle.wbt_grant.specs.declared.record.CpuRecord.{CpuRecord}
-use Rattle.wbt_grant.specs.Setting.{Setting}
+use Rattle.wbt_table.proofs.Common.{CpuRecord, Setting, setting, Seated}
 use Rattle.wbt_table.specs.declared.state.Slot.TheVariants.{First, Second, Third}
 use Rattle.wbt_table.specs.declared.settle.Paid.{Paid}
-use Rattle.wbt_table.specs.Layout.{setting}
-use Rattle.wbt_table.specs.Seat.{Seated}
 use Rattle.wbt_table.specs.Calls.{SettlesLogged}
 use Rattle.wbt_table.specs.Settle.{PaysLogged}
 use Rattle.wbt_table.proofs.Slots.{all_from}

@@ -1,9 +1,7 @@
 use Rattle.std.proofs.Common.{◌≡◌, ◌≢◌, ℕ, List, length, replicate, set, Option, Some, None, sym, refl, ap, ◌∙◌, subst, arith}
 use Rattle.std.proofs.lemmas.List.{length-replicate}
 use Rattle.wbt_table.specs.declared.state.CpuState.{CpuState}
-use Rattle.wbt_table.specs.Rule.{Sat}
-use Rattle.wbt_table.specs.Held.{IsKept}
-use Rattle.wbt_table.specs.Seat.{Shape, Seated, States, seated}
+use Rattle.wbt_table.proofs.Common.{Sat, IsKept, Shape, Seated, States, seated}
 use Rattle.wbt_table.proofs.Lists.{at_less, at_read}
 use Rattle.wbt_table.proofs.Living.{timer_splits}
 use Rattle.wbt_table.proofs.Splitting.{timer_held, timer_left_seen, timer_right_seen, cpu_state, cpu_record, cpu_left_seen, cpu_right_seen, cpu_left_seat, cpu_right_seat, timer_right_kept, cpu_left_kept, cpu_right_kept}

@@ -1,6 +1,5 @@
 use Rattle.std.proofs.Common.{ℕ, sym, ap, ◌∙◌, subst, arith}
-use Rattle.wbt_table.specs.Rule.{Has}
-use Rattle.wbt_table.specs.Seat.{Shape}
+use Rattle.wbt_table.proofs.Common.{Has, Shape}
 use Rattle.wbt_table.proofs.Living.{splits}
 use Rattle.wbt_table.proofs.seat.Throttle.split_place.Goals as goal
 

@@ -1,5 +1,5 @@
 use Rattle.std.proofs.Common.{ap, ◌∙◌}
-use Rattle.wbt_table.specs.Seat.{Seated}
+use Rattle.wbt_table.proofs.Common.{Seated}
 use Rattle.wbt_table.proofs.QuietLoads.{newest_by_timer}
 use Rattle.wbt_table.proofs.seat.Throttle.timer_count.Goals as goal
 

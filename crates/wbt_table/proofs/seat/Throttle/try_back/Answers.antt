@@ -1,12 +1,6 @@
 use Rattle.std.proofs.Common.{◌≡◌, ℕ, ◌<◌, Bool, true, List, [], ◌∷◌, sym, refl, ap, ◌∙◌, subst}
-use Rattle.wbt_book.specs.Ledger.{times_in}
-use Rattle.wbt_book.specs.PageWords.{bits_at}
-use Rattle.wbt_grant.specs.declared.record.CpuRecord.{CpuRecord}
-use Rattle.wbt_grant.specs.Setting.{Setting}
-use Rattle.wbt_grant.specs.Kinds.{look, back}
-use Rattle.wbt_grant.specs.Seats.{record_after}
-use Rattle.wbt_table.specs.Layout.{setting}
-use Rattle.wbt_table.specs.Calls.{MakesAll, back_steps, at_once, after_look}
+use Rattle.wbt_table.proofs.Common.{times_in, bits_at, CpuRecord, Setting, look, back, record_after, setting, MakesAll, at_once}
+use Rattle.wbt_table.specs.Calls.{back_steps, after_look}
 use Rattle.wbt_table.proofs.Turning.{one_record}
 use Rattle.wbt_table.proofs.Seating.{has_changed}
 use Rattle.wbt_table.proofs.Keeping.{look_same}

@@ -1,11 +1,7 @@
 use Rattle.std.proofs.Common.{◌≡◌, ℕ, ◌<◌, refl, sym, ap, ◌∙◌, subst}
-use Rattle.wbt_grant.specs.Kinds.{unseal}
-use Rattle.wbt_grant.specs.State.{stage_of, is_sealed}
-use Rattle.wbt_grant.specs.Seats.{timer_after}
+use Rattle.wbt_table.proofs.Common.{unseal, stage_of, is_sealed, timer_after, domains, Shape}
 use Rattle.wbt_grant.proofs.Sequences.{sequence_unsealed}
 use Rattle.wbt_table.specs.declared.layout.Layout.{Layout}
-use Rattle.wbt_table.specs.Layout.{domains}
-use Rattle.wbt_table.specs.Seat.{Shape}
 use Rattle.wbt_table.proofs.Triples.{kept_ticked, sequence_known, sequences_set}
 use Rattle.wbt_table.proofs.seat.Throttle.unseal.Goals as goal
 

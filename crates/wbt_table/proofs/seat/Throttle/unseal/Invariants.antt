@@ -1,6 +1,5 @@
 use Rattle.std.specs.Prelude.{None}
-use Rattle.wbt_grant.specs.Kinds.{unseal}
-use Rattle.wbt_table.specs.Steps.{turn}
+use Rattle.wbt_table.proofs.Common.{unseal, turn}
 use Rattle.wbt_table.proofs.seat.Throttle.unseal.Given as goal
 
 abbrev pub ghosts-unseal : goal.ghosts-unseal

@@ -1,14 +1,7 @@
 use Rattle.std.proofs.Common.{◌≡◌, ◌+◌, ◌%◌, ◌^◌, refl, ap, ◌∙◌, arith, to_z-of_z}
-use Rattle.wbt_counter.specs.Account.{amount}
-use Rattle.wbt_counter.specs.Addends.{addend_of}
-use Rattle.wbt_counter.specs.Counters.{debt_to}
-use Rattle.wbt_grant.specs.declared.record.CpuRecord.{CpuRecord}
-use Rattle.wbt_grant.specs.Kinds.{add}
-use Rattle.wbt_table.specs.Layout.{own_at}
+use Rattle.wbt_table.proofs.Common.{amount, addend_of, debt_to, CpuRecord, add, own_at, GrantedStep, given, turn}
 use Rattle.wbt_table.proofs.Counting.{add_moves, of_record, debts_given}
 use Rattle.wbt_table.specs.declared.layout.Layout.{Layout}
-use Rattle.wbt_table.specs.Rule.{GrantedStep, given}
-use Rattle.wbt_table.specs.Steps.{turn}
 use Rattle.wbt_table.proofs.Turning.{turns, renamed, named_back}
 use Rattle.wbt_table.proofs.words.Words.add.Goals as goal
 

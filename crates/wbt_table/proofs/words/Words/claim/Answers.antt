@@ -2,14 +2,10 @@ use Rattle.std.proofs.Common.{refl, arith, eqb, ◌≡◌}
 use prog.Atomic.{either}
 use Rattle.wbt_book.specs.declared.event.Event.TheVariants as event
 use Rattle.wbt_book.specs.PageWords.{word_after}
-use Rattle.wbt_grant.specs.declared.record.CpuRecord.{CpuRecord}
-use Rattle.wbt_grant.specs.Kinds.{claim, last_found}
-use Rattle.wbt_table.specs.Layout.{page_at}
+use Rattle.wbt_table.proofs.Common.{CpuRecord, claim, last_found, page_at, GrantedStep, given, turn}
 use Rattle.wbt_table.proofs.Counting.{of_record}
 use Rattle.wbt_table.proofs.Paging.{claim_moves, last_given}
 use Rattle.wbt_table.specs.declared.layout.Layout.{Layout}
-use Rattle.wbt_table.specs.Rule.{GrantedStep, given}
-use Rattle.wbt_table.specs.Steps.{turn}
 use Rattle.wbt_table.proofs.Turning.{turns, renamed, named_back}
 use Rattle.wbt_table.proofs.words.Words.claim.Goals as goal
 

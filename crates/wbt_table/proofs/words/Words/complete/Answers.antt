@@ -1,11 +1,8 @@
 use Rattle.std.proofs.Common.{refl, arith, bit_and}
-use Rattle.wbt_book.specs.PageWords.{all_but, writeback_mask}
-use Rattle.wbt_grant.specs.Kinds.{complete}
-use Rattle.wbt_table.specs.Layout.{page_at}
+use Rattle.wbt_table.proofs.Common.{all_but, complete, page_at, GrantedStep, given, turn}
+use Rattle.wbt_book.specs.PageWords.{writeback_mask}
 use Rattle.wbt_table.proofs.Paging.{complete_moves}
 use Rattle.wbt_table.specs.declared.layout.Layout.{Layout}
-use Rattle.wbt_table.specs.Rule.{GrantedStep, given}
-use Rattle.wbt_table.specs.Steps.{turn}
 use Rattle.wbt_table.proofs.Turning.{turns, renamed, named_back}
 use Rattle.wbt_table.proofs.words.Words.complete.Goals as goal
 

@@ -1,11 +1,8 @@
 use Rattle.std.proofs.Common.{refl, arith, bit_or}
 use Rattle.wbt_book.specs.PageWords.{dirty_mask}
-use Rattle.wbt_grant.specs.Kinds.{dirty}
-use Rattle.wbt_table.specs.Layout.{page_at}
+use Rattle.wbt_table.proofs.Common.{dirty, page_at, GrantedStep, given, turn}
 use Rattle.wbt_table.proofs.Paging.{dirty_moves}
 use Rattle.wbt_table.specs.declared.layout.Layout.{Layout}
-use Rattle.wbt_table.specs.Rule.{GrantedStep, given}
-use Rattle.wbt_table.specs.Steps.{turn}
 use Rattle.wbt_table.proofs.Turning.{turns, renamed, named_back}
 use Rattle.wbt_table.proofs.words.Words.dirty.Goals as goal
 

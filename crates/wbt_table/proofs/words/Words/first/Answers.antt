@@ -1,10 +1,7 @@
 use Rattle.std.proofs.Common.{refl, arith}
-use Rattle.wbt_grant.specs.Kinds.{first}
-use Rattle.wbt_table.specs.Layout.{sequence_at}
+use Rattle.wbt_table.proofs.Common.{first, sequence_at, GrantedStep, given, turn}
 use Rattle.wbt_table.proofs.Limiting.{first_moves}
 use Rattle.wbt_table.specs.declared.layout.Layout.{Layout}
-use Rattle.wbt_table.specs.Rule.{GrantedStep, given}
-use Rattle.wbt_table.specs.Steps.{turn}
 use Rattle.wbt_table.proofs.Turning.{turns, renamed, named_back}
 use Rattle.wbt_table.proofs.words.Words.first.Goals as goal
 

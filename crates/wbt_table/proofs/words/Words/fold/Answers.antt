@@ -1,13 +1,8 @@
 use Rattle.std.proofs.Common.{◌≡◌, ◌+◌, ◌%◌, ◌^◌, refl, ap, ◌∙◌, arith, to_z-of_z}
 use Rattle.wbt_counter.specs.Addends.{fold_addend}
-use Rattle.wbt_grant.specs.declared.record.CpuRecord.{CpuRecord}
-use Rattle.wbt_grant.specs.Kinds.{fold}
-use Rattle.wbt_grant.specs.Seats.{own_told}
-use Rattle.wbt_table.specs.Layout.{setting, shared_at}
+use Rattle.wbt_table.proofs.Common.{CpuRecord, fold, own_told, setting, shared_at, GrantedStep, given, turn}
 use Rattle.wbt_table.proofs.Counting.{fold_moves, of_record, own_given}
 use Rattle.wbt_table.specs.declared.layout.Layout.{Layout}
-use Rattle.wbt_table.specs.Rule.{GrantedStep, given}
-use Rattle.wbt_table.specs.Steps.{turn}
 use Rattle.wbt_table.proofs.Turning.{turns, renamed, named_back}
 use Rattle.wbt_table.proofs.words.Words.fold.Goals as goal
 

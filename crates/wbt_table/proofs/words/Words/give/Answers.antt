@@ -1,9 +1,6 @@
 use Rattle.std.proofs.Common.{◌≡◌, ℕ, Option, subst}
-use Rattle.wbt_grant.specs.Setting.{Setting}
-use Rattle.wbt_table.specs.Layout.{setting}
+use Rattle.wbt_table.proofs.Common.{Setting, setting, Logs, LogChanges, MayGive, log_of, LogsGrant}
 use Rattle.wbt_table.specs.declared.rule.Granted.{Granted}
-use Rattle.wbt_table.specs.Rule.{Logs, LogChanges, MayGive}
-use Rattle.wbt_table.specs.History.{log_of, LogsGrant}
 use Rattle.wbt_table.proofs.Granting.{none_given, none_logged, grant_logged}
 use Rattle.wbt_table.proofs.words.Words.give.Goals as goal
 

@@ -1,8 +1,6 @@
 use Rattle.std.proofs.Common.{None, refl, arith}
-use Rattle.wbt_grant.specs.Kinds.{grant}
+use Rattle.wbt_table.proofs.Common.{grant, GrantedStep, turn}
 use Rattle.wbt_table.specs.declared.layout.Layout.{Layout}
-use Rattle.wbt_table.specs.Rule.{GrantedStep}
-use Rattle.wbt_table.specs.Steps.{turn}
 use Rattle.wbt_table.proofs.Granting.{grant_moves}
 use Rattle.wbt_table.proofs.Turning.{turns, renamed, named_back}
 use Rattle.wbt_table.proofs.words.Words.grant.Goals as goal

@@ -1,10 +1,7 @@
 use Rattle.std.proofs.Common.{refl, arith, bit_or}
-use Rattle.wbt_grant.specs.Kinds.{mark}
-use Rattle.wbt_table.specs.Layout.{mark_at}
+use Rattle.wbt_table.proofs.Common.{mark, mark_at, GrantedStep, given, turn}
 use Rattle.wbt_table.proofs.Marking.{mark_moves}
 use Rattle.wbt_table.specs.declared.layout.Layout.{Layout}
-use Rattle.wbt_table.specs.Rule.{GrantedStep, given}
-use Rattle.wbt_table.specs.Steps.{turn}
 use Rattle.wbt_table.proofs.Turning.{turns, renamed, named_back}
 use Rattle.wbt_table.proofs.words.Words.mark.Goals as goal
 

@@ -1,10 +1,7 @@
 use Rattle.std.proofs.Common.{refl, arith}
-use Rattle.wbt_grant.specs.Kinds.{middle}
-use Rattle.wbt_table.specs.Layout.{thresh_at}
+use Rattle.wbt_table.proofs.Common.{middle, thresh_at, GrantedStep, given, turn}
 use Rattle.wbt_table.proofs.Limiting.{middle_moves}
 use Rattle.wbt_table.specs.declared.layout.Layout.{Layout}
-use Rattle.wbt_table.specs.Rule.{GrantedStep, given}
-use Rattle.wbt_table.specs.Steps.{turn}
 use Rattle.wbt_table.proofs.Turning.{turns, renamed, named_back}
 use Rattle.wbt_table.proofs.words.Words.middle.Goals as goal
 

@@ -1,6 +1,6 @@
 use Rattle.std.proofs.Common.{ℕ, ◌+◌, ◌*◌, ◌<◌, sym, subst}
 use Rattle.wbt_table.specs.declared.words.Offsets.{Offsets}
-use Rattle.wbt_table.specs.Layout.{limits_from}
+use Rattle.wbt_table.proofs.Common.{limits_from}
 use Rattle.wbt_table.proofs.Places.{own_inside}
 use Rattle.wbt_table.proofs.words.Words.own_at.Goals as goal
 

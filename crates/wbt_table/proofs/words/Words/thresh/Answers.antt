@@ -1,11 +1,7 @@
 use Rattle.std.proofs.Common.{None, refl, arith}
-use Rattle.wbt_limits.specs.Words.{thresh_word_of}
-use Rattle.wbt_grant.specs.Kinds.{thresh}
-use Rattle.wbt_table.specs.Layout.{thresh_at}
+use Rattle.wbt_table.proofs.Common.{thresh_word_of, thresh, thresh_at, GrantedStep, turn}
 use Rattle.wbt_table.proofs.Limiting.{thresh_moves}
 use Rattle.wbt_table.specs.declared.layout.Layout.{Layout}
-use Rattle.wbt_table.specs.Rule.{GrantedStep}
-use Rattle.wbt_table.specs.Steps.{turn}
 use Rattle.wbt_table.proofs.Ticking.{ticks, ticks_renamed, ticked_back}
 use Rattle.wbt_table.proofs.words.Words.thresh.Goals as goal
 

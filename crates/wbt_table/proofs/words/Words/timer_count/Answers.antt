@@ -1,12 +1,7 @@
 use Rattle.std.proofs.Common.{None, refl, arith}
-use Rattle.wbt_grant.specs.declared.record.CpuRecord.{CpuRecord}
-use Rattle.wbt_grant.specs.declared.who.Who.TheVariants.{Timer}
-use Rattle.wbt_grant.specs.Kinds.{count}
-use Rattle.wbt_table.specs.Layout.{shared_at}
+use Rattle.wbt_table.proofs.Common.{CpuRecord, Timer, count, shared_at, GrantedStep, turn}
 use Rattle.wbt_table.proofs.Counting.{count_moves}
 use Rattle.wbt_table.specs.declared.layout.Layout.{Layout}
-use Rattle.wbt_table.specs.Rule.{GrantedStep}
-use Rattle.wbt_table.specs.Steps.{turn}
 use Rattle.wbt_table.proofs.Ticking.{ticks, ticks_renamed, ticked_back, whatever_record}
 use Rattle.wbt_table.proofs.words.Words.timer_count.Goals as goal
 

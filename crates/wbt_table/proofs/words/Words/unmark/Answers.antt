@@ -1,11 +1,7 @@
 use Rattle.std.proofs.Common.{refl, arith, bit_and}
-use Rattle.wbt_book.specs.PageWords.{all_but}
-use Rattle.wbt_grant.specs.Kinds.{unmark}
-use Rattle.wbt_table.specs.Layout.{mark_at}
+use Rattle.wbt_table.proofs.Common.{all_but, unmark, mark_at, GrantedStep, given, turn}
 use Rattle.wbt_table.proofs.Marking.{unmark_moves}
 use Rattle.wbt_table.specs.declared.layout.Layout.{Layout}
-use Rattle.wbt_table.specs.Rule.{GrantedStep, given}
-use Rattle.wbt_table.specs.Steps.{turn}
 use Rattle.wbt_table.proofs.Turning.{turns, renamed, named_back}
 use Rattle.wbt_table.proofs.words.Words.unmark.Goals as goal
 

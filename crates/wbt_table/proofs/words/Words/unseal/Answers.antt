@@ -1,10 +1,7 @@
 use Rattle.std.proofs.Common.{◌+◌, ◌%◌, ◌^◌, None, refl, arith}
-use Rattle.wbt_grant.specs.Kinds.{unseal}
-use Rattle.wbt_table.specs.Layout.{sequence_at}
+use Rattle.wbt_table.proofs.Common.{unseal, sequence_at, GrantedStep, turn}
 use Rattle.wbt_table.proofs.Limiting.{unseal_moves}
 use Rattle.wbt_table.specs.declared.layout.Layout.{Layout}
-use Rattle.wbt_table.specs.Rule.{GrantedStep}
-use Rattle.wbt_table.specs.Steps.{turn}
 use Rattle.wbt_table.proofs.Ticking.{ticks, ticks_renamed, ticked_back}
 use Rattle.wbt_table.proofs.words.Words.unseal.Goals as goal
 

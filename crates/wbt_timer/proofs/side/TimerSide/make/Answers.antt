@@ -1,5 +1,5 @@
 use Rattle.std.proofs.Common.{List, length, ap, arith}
-use Rattle.wbt_journal.specs.Machine.{domains}
+use Rattle.wbt_kit.proofs.Common.{domains}
 use Rattle.wbt_timer.specs.declared.side.DomainSide.{DomainSide}
 use Rattle.wbt_timer.proofs.Opened.{sides_long, first_is_side}
 use Rattle.wbt_timer.proofs.side.TimerSide.make.Goals as goal

@@ -1,8 +1,7 @@
 use Rattle.wbt_writer.proofs.cpu.WriterCpu.make.Goals as goal
 use Rattle.std.proofs.Common.{List, length, replicate, ap, ◌∙◌}
-use Rattle.wbt_writer.specs.Desk.{no_fractions}
-use Rattle.wbt_trace.specs.declared.trace.Context.{Context}
-use Rattle.wbt_trace.specs.declared.trace.Inode.{Inode}
+use Rattle.wbt_writer.proofs.Common.{no_fractions, Inode}
+use Rattle.wbt_kit.proofs.Common.{Context}
 use Rattle.wbt_writer.proofs.Opened.{first_lefts, opened_work}
 
 pub returns-clause-lefts : goal.returns-clause-lefts

@@ -1,10 +1,7 @@
 use Rattle.std.proofs.Common.{refl, subst}
-use Rattle.wbt_kit.specs.declared.turn.Turn.TheVariants.{Done}
-use Rattle.wbt_run_steps.proofs.Gating.{asked_none}
-use Rattle.wbt_run_steps.proofs.Logging.{none_as, takes_none}
-use Rattle.wbt_table.specs.Layout.{domains}
-use Rattle.wbt_writer.specs.Answers.{ToldAreHeld, Turned}
-use Rattle.wbt_writer.specs.Desk.{Desk, sight}
+use Rattle.wbt_writer.proofs.Common.{Done, asked_none, none_as, takes_none, domains, Turned, sight}
+use Rattle.wbt_writer.specs.Answers.{ToldAreHeld}
+use Rattle.wbt_writer.specs.Desk.{Desk}
 use Rattle.wbt_writer.specs.Exact.{WriterTakes}
 use Rattle.wbt_writer.proofs.Exacting.{puts_waiting, took_after}
 use Rattle.wbt_writer.proofs.Taking.{turned_ended}

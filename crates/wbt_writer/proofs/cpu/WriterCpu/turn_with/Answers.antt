@@ -1,11 +1,7 @@
 use Rattle.wbt_writer.proofs.cpu.WriterCpu.turn_with.Goals as goal
 use Rattle.wbt_writer.proofs.Taking.{turned_none}
 use Rattle.std.proofs.Common.{ap, refl}
-use Rattle.wbt_journal.specs.declared.entry.CpuJournal.{CpuJournal}
-use Rattle.wbt_writer.specs.Desk.{sight}
-use Rattle.wbt_run_steps.proofs.Gating.{asked_none}
-use Rattle.wbt_run_steps.proofs.Logging.{none_as, takes_none}
-use Rattle.wbt_table.specs.Layout.{domains}
+use Rattle.wbt_writer.proofs.Common.{CpuJournal, sight, asked_none, none_as, takes_none, domains}
 
 pub returns-then-is_err-clause-turned : goal.returns-then-is_err-clause-turned
 returns-then-is_err-clause-turned g c =

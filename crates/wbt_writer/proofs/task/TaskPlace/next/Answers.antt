@@ -1,7 +1,6 @@
 use Rattle.std.proofs.Common.{Option, arith, sym, ap, ◌∙◌}
 use Rattle.wbt_rules.specs.Pace.{pause_of}
-use Rattle.wbt_trace.specs.declared.trace.Action.TheVariants.{Write, Rest}
-use Rattle.wbt_trace.specs.declared.trace.Pace.{Pace}
+use Rattle.wbt_writer.proofs.Common.{Write, Rest, Pace}
 use Rattle.wbt_writer.proofs.Along.{found_in, is_there, next_pause, next_write, next_rest, page_fits}
 use Rattle.wbt_writer.proofs.task.TaskPlace.next.Goals as goal
 

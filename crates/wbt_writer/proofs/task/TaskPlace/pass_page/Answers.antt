@@ -1,7 +1,5 @@
 use Rattle.std.proofs.Common.{Option, arith, refl, ap, ◌∙◌}
-use Rattle.wbt_rules.specs.Pace.{since_after}
-use Rattle.wbt_trace.specs.declared.trace.Action.TheVariants.{Write}
-use Rattle.wbt_trace.specs.declared.trace.Pace.{Pace}
+use Rattle.wbt_writer.proofs.Common.{since_after, Write, Pace}
 use Rattle.wbt_writer.specs.Exact.{goes_on, was_last}
 use Rattle.wbt_writer.proofs.Along.{is_there, within, over, some_left, ahead_write, not_over, pages_found, no_rest_behind}
 use Rattle.std.proofs.lemmas.Option.{slice_get_within}

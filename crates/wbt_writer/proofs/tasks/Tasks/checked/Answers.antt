@@ -1,9 +1,6 @@
 use Rattle.std.proofs.Common.{◌∙◌, ap}
-use Rattle.wbt_journal.specs.Side.{settle}
-use Rattle.wbt_task.specs.History.{cpu_step}
-use Rattle.wbt_task.specs.declared.history.Event.TheVariants.{Checked}
+use Rattle.wbt_writer.proofs.Common.{settle, cpu_step, Checked, cpu_of, rest_after, task_at}
 use Rattle.wbt_writer.specs.declared.task.TaskPlace.{TaskPlace}
-use Rattle.wbt_writer.specs.Counted.{cpu_of, rest_after, task_at}
 use Rattle.wbt_writer.proofs.Putting.{apart, check_done, check_others, check_side, counted_put, fixed_both, here, stay_both}
 use Rattle.wbt_writer.proofs.tasks.Tasks.checked.Goals as goal
 

@@ -1,8 +1,7 @@
 use Rattle.std.proofs.Common.{◌∷◌, [], ap, sym, ◌∙◌, arith, length, subst, List}
 use Rattle.std.proofs.lemmas.List.{with_items_is}
-use Rattle.wbt_task.specs.History.{Along, Cpu, HasRoom, cpu_step}
-use Rattle.wbt_task.specs.declared.history.Writer.{Writer}
-use Rattle.wbt_task.proofs.Keeping.{same_writers}
+use Rattle.wbt_writer.proofs.Common.{Cpu, cpu_step, Writer, same_writers}
+use Rattle.wbt_task.specs.History.{Along, HasRoom}
 use Rattle.wbt_writer.proofs.Counting.{one_room, one_event}
 use Rattle.wbt_writer.proofs.tasks.Tasks.count.Goals as goal
 

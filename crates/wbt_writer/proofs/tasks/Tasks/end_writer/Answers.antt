@@ -1,9 +1,5 @@
 use Rattle.std.proofs.Common.{◌≡◌, sym, ◌∙◌, arith, ap, subst, get_or}
-use Rattle.wbt_task.specs.Counts.{AllHavePagesLeft}
-use Rattle.wbt_task.specs.History.{Cpu, writer_of}
-use Rattle.wbt_task.specs.declared.history.Event.TheVariants.{Ended}
-use Rattle.wbt_task.proofs.Keeping.{others_stay}
-use Rattle.wbt_writer.specs.Counted.{OnlyEnds, cpu_of, no_name}
+use Rattle.wbt_writer.proofs.Common.{AllHavePagesLeft, Cpu, writer_of, Ended, others_stay, OnlyEnds, cpu_of, no_name}
 use Rattle.std.proofs.lemmas.List.{get_or_read}
 use Rattle.wbt_trace.specs.declared.writers.Writer.{Writer as Name}
 use Rattle.wbt_writer.proofs.Counting.{ends_one, its_number, left_after}

@@ -1,7 +1,6 @@
 use Rattle.std.proofs.Common.{◌≡◌, ◌≢◌, ◌≤◌, ℕ, get_or}
-use Rattle.wbt_task.specs.Counts.{AllHavePagesLeft}
-use Rattle.wbt_task.specs.History.{cpu_after, writer_of}
-use Rattle.wbt_writer.specs.Counted.{KeepsFixed, OnlyEnds, cpu_of, ends_from, no_name}
+use Rattle.wbt_writer.proofs.Common.{AllHavePagesLeft, cpu_after, writer_of, KeepsFixed, OnlyEnds, cpu_of, no_name}
+use Rattle.wbt_writer.specs.Counted.{ends_from}
 use Rattle.wbt_writer.proofs.tasks.Tasks.end_writers.Given as goal
 
 abbrev pub invariant-loop-number : goal.invariant-loop-number

@@ -1,6 +1,5 @@
 use Rattle.std.proofs.Common.{ap, ◌∙◌, refl, replicate, length, ℕ}
-use Rattle.wbt_journal.specs.Side.{is_own_task}
-use Rattle.wbt_task.specs.History.{new_writer}
+use Rattle.wbt_writer.proofs.Common.{is_own_task, new_writer}
 use Rattle.wbt_writer.specs.declared.task.TaskPlace.{TaskPlace}
 use Rattle.wbt_writer.proofs.Seeing.{made, side_first}
 use Rattle.wbt_writer.proofs.tasks.Tasks.make.Goals as goal

@@ -1,5 +1,5 @@
 use Rattle.std.proofs.Common.{◌≡◌, ap, ◌∙◌, set}
-use Rattle.wbt_writer.specs.Counted.{task_at}
+use Rattle.wbt_writer.proofs.Common.{task_at}
 use Rattle.wbt_writer.specs.declared.task.TaskPlace.{TaskPlace}
 use Rattle.wbt_writer.proofs.Resting.{pause_keeps, pause_side}
 use Rattle.wbt_writer.proofs.tasks.Tasks.paused.Goals as goal

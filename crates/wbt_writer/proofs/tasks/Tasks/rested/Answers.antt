@@ -1,6 +1,5 @@
 use Rattle.std.proofs.Common.{◌≤◌, sym, ◌∙◌, ap, subst, arith, length, set, true}
-use Rattle.wbt_writer.specs.Ahead.{IsAlong}
-use Rattle.wbt_writer.specs.Counted.{task_at}
+use Rattle.wbt_writer.proofs.Common.{IsAlong, task_at}
 use Rattle.wbt_writer.specs.declared.task.TaskPlace.{TaskPlace}
 use Rattle.wbt_writer.proofs.Exacting.{next_at, put_here, rests_at}
 use Rattle.wbt_writer.proofs.Putting.{here}

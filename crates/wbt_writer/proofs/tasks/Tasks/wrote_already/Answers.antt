@@ -1,8 +1,6 @@
 use Rattle.std.proofs.Common.{◌∙◌, ap}
-use Rattle.wbt_journal.specs.Side.{settle}
-use Rattle.wbt_rules.specs.Pace.{pace_of}
+use Rattle.wbt_writer.proofs.Common.{settle, pace_of, task_at}
 use Rattle.wbt_writer.specs.declared.task.TaskPlace.{TaskPlace}
-use Rattle.wbt_writer.specs.Counted.{task_at}
 use Rattle.wbt_writer.proofs.Putting.{already, already_side, apart, here, moves_only, others_go_on, passed_same, passes_is, since_is, stands_is, stay_both, todo_same, written_same}
 use Rattle.wbt_writer.proofs.tasks.Tasks.wrote_already.Goals as goal
 

@@ -2,18 +2,12 @@ use Rattle.std.proofs.Common.{◌≡◌, ◌<◌, ◌≤◌, arith, length, refl
 use Rattle.std.specs.Prelude.{IfSome}
 use Rattle.std.proofs.lemmas.List.{length-set}
 use Rattle.wbt_fraction.specs.Several.{HasShare}
-use Rattle.wbt_journal.specs.Machine.{contexts}
-use Rattle.wbt_kit.specs.declared.kit.Seats.{Seats}
-use Rattle.wbt_pause.specs.Reads.{EachDomain, IsCounted}
+use Rattle.wbt_writer.proofs.Common.{contexts, IsCounted, context_at, writer_of, Seats, cpu_of, task_at, AreProper, fractions_of, no_fractions, DomainLoad}
+use Rattle.wbt_kit.proofs.Common.{same_default}
+use Rattle.wbt_pause.specs.Reads.{EachDomain}
 use Rattle.wbt_pause.specs.declared.reads.Reads.{Reads}
 use Rattle.wbt_published.specs.Passes.{Seats as EstPass}
-use Rattle.wbt_rules.specs.Things.{context_at}
-use Rattle.wbt_table.proofs.Lists.{same_default}
-use Rattle.wbt_task.specs.History.{writer_of}
-use Rattle.wbt_writer.specs.Counted.{cpu_of, task_at}
 use Rattle.wbt_writer.proofs.Asking.{asked_by_parts, parts_within}
-use Rattle.wbt_writer.specs.Desk.{AreProper, fractions_of, no_fractions}
-use Rattle.wbt_run_steps.specs.declared.loads.DomainLoad.{DomainLoad}
 use Rattle.wbt_writer.specs.declared.task.TaskPlace.{TaskPlace}
 use Rattle.wbt_writer.proofs.Standing.{at_asked, counted, group_load, in_fractions, in_homes, in_published}
 use Rattle.wbt_writer.proofs.Facts.{context_there, device_below}

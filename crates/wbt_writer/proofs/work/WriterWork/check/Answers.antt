@@ -1,22 +1,12 @@
 use Rattle.std.proofs.Common.{[], ◌≡◌, ◌<◌, ℕ, arith, length, refl, set, sym, ap, ◌∙◌, subst}
-use Rattle.wbt_journal.specs.Machine.{context_domain, contexts}
-use Rattle.wbt_journal.specs.declared.entry.CheckEntry.{CheckEntry}
-use Rattle.wbt_journal.specs.declared.entry.CpuJournal.{CpuJournal}
+use Rattle.wbt_writer.proofs.Common.{context_domain, contexts, CheckEntry, CpuJournal, setting, Seated, MakesEach, MakesSome, record_of, domains, given_by, Checks, KeepsFixed, OthersStay, cpu_of, is_due_at, rest_after, task_at, fractions_after, IsGoing, fractions_of, sight, IsGroup, asked_more, none_as}
 use Rattle.wbt_rules.specs.Things.{group_of}
-use Rattle.wbt_run_steps.specs.Made.{MakesEach, MakesSome}
-use Rattle.wbt_run_steps.specs.Records.{record_of}
-use Rattle.wbt_table.specs.Layout.{domains, setting}
-use Rattle.wbt_table.specs.Seat.{Seated}
 use Rattle.wbt_trace.specs.declared.writers.Writer.{Writer as Name}
-use Rattle.wbt_writer.specs.Asked.{given_by}
-use Rattle.wbt_writer.specs.Checks.{Checks, LoadsAlone}
+use Rattle.wbt_writer.specs.Checks.{LoadsAlone}
 use Rattle.std.proofs.Common.{true}
-use Rattle.wbt_writer.specs.Counted.{KeepsFixed, OthersStay, cpu_of, is_due_at, rest_after, task_at}
 use Rattle.wbt_writer.specs.Exact.{ChecksSome}
-use Rattle.wbt_writer.specs.Lines.{fractions_after}
 use Rattle.wbt_writer.specs.declared.tasks.Tasks.{Tasks}
-use Rattle.wbt_writer.specs.Desk.{IsGoing, fractions_of, sight}
-use Rattle.wbt_writer.specs.Loads.{IsGroup, check_steps}
+use Rattle.wbt_writer.specs.Loads.{check_steps}
 use Rattle.wbt_writer.specs.declared.task.TaskPlace.{TaskPlace}
 use Rattle.wbt_writer.specs.declared.work.WriterWork.{WriterWork}
 use Rattle.wbt_writer.proofs.Alone.{loads_alone}
@@ -25,9 +15,9 @@ use Rattle.wbt_writer.proofs.Erring.{on_err}
 use Rattle.wbt_writer.proofs.Facts.{among, context_there, its_own}
 use Rattle.wbt_writer.proofs.Standing.{group_below, in_contexts, seat_is, works_there, writer_there}
 use Rattle.wbt_writer.proofs.work.WriterWork.check.Goals as goal
-use Rattle.wbt_run_steps.proofs.Gating.{asked_more, asked_still, same_steps}
+use Rattle.wbt_run_steps.proofs.Gating.{asked_still, same_steps}
 use Rattle.wbt_writer.proofs.Giving.{given_steps}
-use Rattle.wbt_run_steps.proofs.Logging.{as_more, none_as}
+use Rattle.wbt_run_steps.proofs.Logging.{as_more}
 use Rattle.wbt_writer.proofs.Turning.{check_cuts, check_takes}
 
 pub group_of-group-requires : goal.group_of-group-requires

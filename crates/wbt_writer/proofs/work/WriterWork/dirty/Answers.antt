@@ -1,28 +1,16 @@
 use Rattle.wbt_writer.proofs.work.WriterWork.dirty.Goals as goal
 use Rattle.std.proofs.Common.{◌≡◌, ℕ, ◌+◌, ◌<◌, false, true, length, get_or, refl, sym, ap, ◌∙◌, subst, arith}
-use Rattle.wbt_journal.specs.Side.{all_writers, number_of, settle, with_page, write_fresh}
+use Rattle.wbt_writer.proofs.Common.{all_writers, number_of, settle, with_page, write_fresh, setting, Holds, Seated, Dirtied, Fresh, Already, inode_at, Trace, Seats, OnlyCpu, no_name, side_of, task_at, sight, once_made}
+use Rattle.wbt_kit.proofs.Common.{CanDirty, HasNoPageSteps, HasPageSteps, few_writers, dirty}
 use Rattle.wbt_journal.specs.declared.entry.Entry.TheVariants as entry
-use Rattle.wbt_kit.specs.declared.kit.Seats.{Seats}
-use Rattle.wbt_run_steps.specs.Records.{OnlyCpu}
-use Rattle.wbt_table.specs.Calls.{CanDirty, Dirties as TableDirties, HasNoPageSteps, HasPageSteps}
-use Rattle.wbt_table.specs.Layout.{setting}
-use Rattle.wbt_table.specs.Rule.{Holds}
-use Rattle.wbt_table.specs.Seat.{Seated}
-use Rattle.wbt_table.specs.declared.answer.Dirtied.{Dirtied}
-use Rattle.wbt_table.specs.declared.answer.Dirtied.TheVariants.{Fresh, Already}
-use Rattle.wbt_trace.specs.Sofar.{inode_at}
-use Rattle.wbt_trace.specs.declared.trace.Trace.{Trace}
+use Rattle.wbt_table.specs.Calls.{Dirties as TableDirties}
 use Rattle.wbt_run_laws.specs.Log.{with_entry}
-use Rattle.wbt_writer.specs.Counted.{no_name, side_of, task_at}
-use Rattle.wbt_writer.specs.Desk.{sight}
 use Rattle.wbt_writer.specs.Exact.{MovesAlong}
 use Rattle.wbt_writer.specs.declared.tasks.Tasks.{Tasks}
 use Rattle.wbt_writer.specs.declared.work.WriterWork.{WriterWork}
 use Rattle.wbt_writer.proofs.Dirtying.{already, at_kit, dirtied_as, fresh, has_page, inside, may, spent_is}
 use Rattle.wbt_writer.proofs.Places.{page_few}
-use Rattle.wbt_journal.proofs.Few.{few_writers}
-use Rattle.wbt_grant.specs.Kinds.{dirty}
-use Rattle.wbt_run_steps.proofs.Gating.{once_made, once_none}
+use Rattle.wbt_run_steps.proofs.Gating.{once_none}
 
 abbrev with_cpu : (seats : Seats) (cpu : Seated) → Seats
 with_cpu seats cpu = record { cpu = cpu; share = seats.share; est = seats.est; queue = seats.queue }

@@ -6,10 +6,8 @@ use Rattle.wbt_writer.proofs.Turning.{finish_cut, finish_marked, finish_paid}
 use Rattle.wbt_writer.proofs.Paid.{at_paid, fits_paid, paid_all, pays, stopped}
 use Rattle.std.proofs.Common.{Bool, refl, subst}
 use Rattle.wbt_run_steps.specs.Steps.{Settled}
-use Rattle.wbt_grant.specs.Kinds.{mark}
-use Rattle.wbt_run_steps.proofs.Gating.{asked_more, asked_once, once_made}
+use Rattle.wbt_writer.proofs.Common.{mark, setting, asked_more, asked_once, once_made}
 use Rattle.wbt_run_steps.proofs.Logging.{makes_as}
-use Rattle.wbt_table.specs.Layout.{setting}
 
 pub settle-requires : goal.settle-requires
 settle-requires g c = let fits = c.requires.at_kit.fits in record { seats = fits.seats_are; held = fits.held; owed = c.requires.owed; room = c.requires.room }

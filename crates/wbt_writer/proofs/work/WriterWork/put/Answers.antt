@@ -1,12 +1,10 @@
 use Rattle.std.proofs.Common.{◌≡◌, ℕ, ◌<◌, ◌⊎◌, inl, inr, Bool, true, false, List, length, get_or, set, refl, sym, ap, ◌∙◌, subst}
 use Rattle.std.proofs.lemmas.List.{get_or-set_same, length-set}
-use Rattle.wbt_kit.specs.declared.kit.Kit.{Kit}
-use Rattle.wbt_queue.specs.Order.{HasPut}
+use Rattle.wbt_writer.proofs.Common.{Kit, Has, Seated}
+use Rattle.wbt_kit.proofs.Common.{HasPut}
 use Rattle.wbt_queue.specs.Passes as queue
 use Rattle.wbt_run_steps.specs.Inodes.{PutsWhere, was_full, was_put}
 use Rattle.wbt_run_steps.specs.Queues.{OnlyDevice}
-use Rattle.wbt_table.specs.Rule.{Has}
-use Rattle.wbt_table.specs.Seat.{Seated}
 use Rattle.wbt_writer.proofs.work.WriterWork.put.Goals as goal
 
 -- it was put, or it waits

@@ -1,5 +1,5 @@
 use Rattle.std.proofs.Common.{◌≡◌, ◌<◌, ℕ, Bool, true, false, List, length, get_or, refl, sym, ◌∙◌, arith}
-use Rattle.wbt_table.proofs.Lists.{same_default}
+use Rattle.wbt_kit.proofs.Common.{same_default}
 use Rattle.wbt_writer.specs.Exact.{is_next}
 use Rattle.wbt_writer.proofs.work.WriterWork.put_next.Goals as goal
 

@@ -1,5 +1,4 @@
-use Rattle.wbt_writer.specs.Desk.{AreAt}
-use Rattle.wbt_writer.specs.Did.{OnlyPuts}
+use Rattle.wbt_writer.proofs.Common.{AreAt, OnlyPuts}
 use Rattle.wbt_writer.specs.Exact.{PutsBefore}
 use Rattle.wbt_writer.proofs.work.WriterWork.put_waiting.Given as goal
 

@@ -1,16 +1,12 @@
 use Rattle.wbt_writer.proofs.work.WriterWork.step.Goals as goal
 use Rattle.std.proofs.Common.{ap, ◌∙◌, [], ◌∷◌, true, false, ◌+◌, inl}
-use Rattle.wbt_journal.specs.Told.{wrote}
-use Rattle.wbt_writer.specs.Ahead.{first_page}
-use Rattle.wbt_writer.specs.Desk.{sight}
+use Rattle.wbt_writer.proofs.Common.{wrote, first_page, sight, asked_none, none_as, domains}
 use Rattle.wbt_writer.specs.declared.tasks.Tasks.{Tasks}
 use Rattle.wbt_writer.specs.Exact.{checks, pauses, rests, stops_checking, stops_writing, writes}
 use Rattle.wbt_writer.proofs.Exacting.{takes, takes_none, takes_some}
 use Rattle.wbt_writer.proofs.Going.{at_paused, at_rested, with_tasks, goes_on_by_check, goes_on_by_pause, goes_on_by_rest, goes_on_by_write, halted_by_check, halted_by_write, spent_by_write, turned_by_already, turned_by_check, turned_by_fresh, turned_by_pause, turned_by_rest}
 use Rattle.std.proofs.Common.{refl}
-use Rattle.wbt_run_steps.proofs.Gating.{asked_none}
-use Rattle.wbt_run_steps.proofs.Logging.{none_as, takes_none as rests_none}
-use Rattle.wbt_table.specs.Layout.{domains}
+use Rattle.wbt_run_steps.proofs.Logging.{takes_none as rests_none}
 
 pub returns-in-Ok-clause-turned : goal.returns-in-Ok-clause-turned
 returns-in-Ok-clause-turned g c = turned_by_check (g.C.Clock.told c.args.hands.now.clock.now) (g.G.Gate.said c.args.hands.now.gate.now) c.args.place.now.trace.now c.args.hands.now.kit.now c.args.place.now.cpu c.args.task c.args.now c.args.self.now c.args.seats.now c.args.pen.now.log c.begin.new.self c.begin.ensures.only c.requires.goes (sight c.check.new.self c.check.new.seats c.check.new.pen.log) c.in-Ok.ensures.checks

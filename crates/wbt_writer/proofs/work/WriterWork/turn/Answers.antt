@@ -1,12 +1,9 @@
 use Rattle.wbt_writer.proofs.work.WriterWork.turn.Goals as goal
-use Rattle.wbt_writer.specs.Desk.{sight}
+use Rattle.wbt_writer.proofs.Common.{sight, Done, Resting, asked_more, asked_none, none_as, takes_none, domains}
 use Rattle.std.proofs.Common.{refl}
-use Rattle.wbt_kit.specs.declared.turn.Turn.TheVariants.{Done, Resting}
 use Rattle.wbt_writer.proofs.Exacting.{puts_waiting, took_after}
 use Rattle.wbt_writer.proofs.Taking.{turned_done, turned_from, turned_resting}
-use Rattle.wbt_run_steps.proofs.Gating.{asked_more, asked_none}
-use Rattle.wbt_run_steps.proofs.Logging.{none_as, takes_none, turn_behind}
-use Rattle.wbt_table.specs.Layout.{domains}
+use Rattle.wbt_run_steps.proofs.Logging.{turn_behind}
 
 pub returns-in-Done-clause-turned : goal.returns-in-Done-clause-turned
 returns-in-Done-clause-turned g c = turned_done (g.C.Clock.told c.args.hands.now.clock.now) (g.G.Gate.said c.args.hands.now.gate.now) c.args.place.now.trace.now c.args.hands.now.kit.now c.args.place.now.cpu c.args.self.now c.put_waiting.new.self c.args.seats.now c.put_waiting.new.seats c.args.pen.now.log c.put_waiting.ensures.only c.put_waiting.ensures.at_kit c.told_moment-now.result c.in-Done.ensures

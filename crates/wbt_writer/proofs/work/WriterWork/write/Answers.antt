@@ -1,19 +1,12 @@
 use Rattle.wbt_run_steps.proofs.Asking.{stopped_by}
 use Rattle.wbt_writer.proofs.work.WriterWork.write.Goals as goal
 use Rattle.std.proofs.Common.{◌+◌, ap, subst}
-use Rattle.wbt_table.specs.Layout.{domains}
-use Rattle.wbt_table.specs.declared.answer.Dirtied.{Dirtied}
-use Rattle.wbt_writer.specs.Ahead.{first_page}
-use Rattle.wbt_writer.specs.Desk.{Sight, sight}
+use Rattle.wbt_writer.proofs.Common.{domains, Dirtied, first_page, Sight, sight, Dirties, StepsToDirty, asked_more, asked_none, asked_once, none_as, takes_none}
 use Rattle.wbt_writer.specs.Exact.{DirtiesPage, before_its_page, was_dirty}
-use Rattle.wbt_writer.specs.Writes.{Dirties}
-use Rattle.wbt_writer.specs.Kinds.{StepsToDirty}
 use Rattle.wbt_writer.proofs.Exacting.{write_took}
 use Rattle.wbt_writer.proofs.Turning.{write_again, write_fresh, write_none}
 use Rattle.wbt_writer.proofs.Writing.{stopped_first, writes_fresh, written_already}
 use Rattle.std.proofs.Common.{refl}
-use Rattle.wbt_run_steps.proofs.Gating.{asked_more, asked_none, asked_once}
-use Rattle.wbt_run_steps.proofs.Logging.{none_as, takes_none}
 
 pub returns-then-not-may_step-clause-writes : goal.returns-then-not-may_step-clause-writes
 returns-then-not-may_step-clause-writes g c =
