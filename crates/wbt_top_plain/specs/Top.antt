@@ -9,20 +9,12 @@ use Rattle.wbt_trace_text.specs.Writing.{trace_text}
 use Rattle.wbt_trace_text.specs.declared.fault.TraceFault.{TraceFault}
 use Rattle.wbt_trace.specs.declared.trace.Trace.{Trace}
 use Rattle.wbt_journal.specs.declared.journal.Ending.TheVariants as ending
-use Rattle.wbt_replay_order.specs.Claims.Ages.{AgedWereDue}
-use Rattle.wbt_replay_order.specs.Claims.Bound.{IsBounded, IsBoundedCloser, IsCounted, PrintsBound, PeaksArePrinted, HasEnded}
-use Rattle.wbt_replay_order.specs.Claims.Cleaned.{AreCleaned}
-use Rattle.wbt_replay_order.specs.Claims.Complete.{CompletesAll}
 use Rattle.wbt_replay_order.specs.Claims.Decided.{AreDecided}
-use Rattle.wbt_replay_order.specs.Claims.Ending.{EndsSo}
-use Rattle.wbt_replay_order.specs.Claims.Left.{TellsLeft}
 use Rattle.wbt_replay_order.specs.Claims.Path.{IsFollowed}
-use Rattle.wbt_replay_order.specs.Claims.Strict.{StaysWithinStrict}
-use Rattle.wbt_replay_order.specs.Claims.Unfailing.{NeverFails}
 use Rattle.wbt_replay_order.specs.Claims.Whole.{IsWhole}
 use Rattle.wbt_replay_order.specs.Definition.Run.{journal_of}
 use Rattle.wbt_journal.specs.Lawful as journal
-use Rattle.wbt_journal.specs.Lawful.{ChecksAreRight, CountsStayFresh, CountsSumFolds, EndingIsRight, EstimatesAreUp, FlushersAreInTurn, FoldsAreUp, FoundWereDirtied, FractionsAreOfShares, LedgerIsEven, LeftIsBounded, LeftPagesAreThere, NamesAreOfEstimates, NamesStayNew, PeriodsStayNew, TimerFollows, TimerHasOpened, TriplesAreOfTimer, TriplesStayNew, WaitsAreOwn, WritesAreInOrder}
+use Rattle.wbt_replay.specs.Claims.{AreAccounted, EndsByItself, GoesInOrder, HasPoints, StaysWithin}
 use Rattle.wbt_journal.specs.Text.{journal_text}
 use Rattle.wbt_law.specs.Law.{IsDecidable}
 use Rattle.wbt_law.specs.Reading.{IsAnswer as IsLawAnswer}
@@ -127,46 +119,24 @@ replay_text trace = journal_text (journal_of trace)
 -- points of a lawful journal, and so it is legal for the trace however the run ended; where the run isn't spent its ending is right too,
 -- and so the journal is lawful.
 pub record IsControlled (trace : Trace) : Type 0 where
+  -- At each moment of the run the steps and grants so far are those of the relation, which lead to the run's state.
   pub followed : IsFollowed trace
-  pub cleaned : AreCleaned trace
-  pub unfailing : NeverFails trace
-  pub counted : IsCounted trace
-  pub bound : PrintsBound trace
-  pub peaks : PeaksArePrinted trace
-  pub bounded : IsBounded (journal_of trace)
-  pub bounded_closer : IsBoundedCloser trace
-  pub strict : StaysWithinStrict trace
+  -- Each page that was dirtied was cleaned once, or is left and told.
+  pub pages : AreAccounted trace
+  -- Each count that is printed is exact, and at most its bound, which is printed beside it.
+  pub within : StaysWithin trace
+  -- Each check decides by what is printed with it, the estimate that it names and its writer's numbers, and pauses at most 200 ticks.
   pub decided : AreDecided trace
-  pub fresh : CountsStayFresh (journal_of trace)
-  pub sums : CountsSumFolds trace (journal_of trace)
-  pub found_were_dirtied : FoundWereDirtied (journal_of trace)
-  pub left : TellsLeft trace
-  pub whole : IsWhole (journal_of trace)
-  pub ended : HasEnded trace
-  pub ends : EndsSo trace
-  pub complete : CompletesAll trace
-  pub folds : FoldsAreUp trace (journal_of trace)
-  pub triples : TriplesAreOfTimer (journal_of trace)
-  pub triples_stay : TriplesStayNew (journal_of trace)
-  pub fractions : FractionsAreOfShares trace (journal_of trace)
-  pub periods : PeriodsStayNew (journal_of trace)
-  pub estimates : EstimatesAreUp trace (journal_of trace)
-  pub named : NamesAreOfEstimates trace (journal_of trace)
-  pub names : NamesStayNew (journal_of trace)
-  pub timer : TimerFollows trace (journal_of trace)
-  pub opened : TimerHasOpened trace (journal_of trace)
-  pub writes : WritesAreInOrder trace (journal_of trace)
-  pub checks : ChecksAreRight trace (journal_of trace)
-  pub flights : FlushersAreInTurn trace (journal_of trace)
-  pub own_waits : WaitsAreOwn trace (journal_of trace)
-  pub ages : AgedWereDue trace (journal_of trace)
-  pub ledger : LedgerIsEven trace (journal_of trace)
-  pub left_pages : LeftPagesAreThere trace (journal_of trace)
-  pub left_bounded : LeftIsBounded trace (journal_of trace)
-  pub parts : length (journal_of trace).cpus ≡ trace.cpus
-  pub legal : journal.IsLegal trace (journal_of trace)
+  -- The journal has each point of a lawful one but that on its ending, however the run ended.
+  pub points : HasPoints trace (journal_of trace)
+  -- Where the run isn't spent, the journal is lawful for the trace.
   pub lawful : ((journal_of trace).ending ≡ ending.Spent → ⊥) → journal.IsLawful trace (journal_of trace)
-  pub ending : ((journal_of trace).ending ≡ ending.Spent → ⊥) → EndingIsRight trace (journal_of trace)
+  -- What the journal's parts, steps and pages name is there.
+  pub whole : IsWhole (journal_of trace)
+  -- The run ends by itself, and is told as spent, halted or done where it is; where it is done every page was written and none is left.
+  pub ends : EndsByItself trace
+  -- Its steps are made by the order lines first, and then by rotation, in whole turns.
+  pub order : GoesInOrder trace
 
 -- The trace's run has a further step to make after the last one that a replay may have.
 abbrev pub IsSpent : (trace : Trace) → Type 0
