@@ -1,5 +1,6 @@
 -- What the claims of the ordered run follow from.
 pub mod Ages
+pub mod Alone
 pub mod Cleaned
 pub mod Checks
 pub mod Columns

@@ -8,7 +8,6 @@ use Rattle.wbt_counter.specs.declared.counter.Counter.TheVariants.{Domain, Conte
 use Rattle.wbt_counter.specs.declared.record.Fold.{Fold}
 use Rattle.wbt_counter.specs.declared.record.Reading.{Reading}
 use Rattle.wbt_book.specs.declared.event.Event.{Event}
-use Rattle.wbt_book.specs.declared.event.Event.TheVariants as event
 use Rattle.wbt_counter.specs.Counters.{is_same}
 use Rattle.wbt_counter.specs.History.{sum_of, at_least_zero}
 use Rattle.wbt_grant.specs.declared.record.DomainLimits.{DomainLimits}
@@ -23,15 +22,16 @@ use Rattle.wbt_grant.specs.State.{kept_of, held_of, sequence_of}
 use Rattle.wbt_grant.specs.Kinds.{Step, add, fold, clear, count, dirty, look, claim, complete, back, peak, unseal, thresh, publish, first, middle, limits, mark, unmark, grant, page_now, last_found, after, run, AreAllowed}
 use Rattle.wbt_strict.specs.Bound.{greatest_reading}
 use Rattle.wbt_strict.specs.Rule.{AreStrict}
-use Rattle.wbt_journal.specs.Counts.{reads_of}
+use Rattle.wbt_journal.specs.Counts.{fold_in, reads_of}
 use Rattle.wbt_journal.specs.Machine.{domains}
+use Rattle.wbt_journal.specs.Told.{Told, told_entry}
 use Rattle.wbt_journal.specs.Walk.{after as list_after}
 use Rattle.wbt_journal.specs.declared.entry.CheckEntry.{CheckEntry}
 use Rattle.wbt_journal.specs.declared.entry.DomainLine.{DomainLine}
 use Rattle.wbt_journal.specs.declared.entry.Entry.{Entry}
-use Rattle.wbt_journal.specs.declared.entry.Entry.TheVariants as entry
 use Rattle.wbt_journal.specs.declared.step.StepEntry.{StepEntry}
 use Rattle.wbt_journal.specs.declared.timer.TimerEntry.{TimerEntry}
+use Rattle.wbt_run_laws.specs.Grew.{event_in, found_in, onto}
 use Rattle.wbt_run_laws.specs.Held.{limits_of, WereHeld}
 use Rattle.wbt_run_laws.specs.Ticks.{published_after}
 use Rattle.wbt_task.specs.declared.allowance.Due.TheVariants as due
@@ -100,38 +100,42 @@ tells set (step ∷ steps) t = entries_of set step t ++ tells set steps (after s
 
 -- ---- what entries of a CPU tell
 
--- the events of the book that an entry tells, before older ones; the newest comes first
+-- what an entry tells by itself: one that names a check or an estimate tells nothing without their lists
+abbrev pub alone : (entry : Entry) → List Told
+alone entry = told_entry [] [] entry
+
+-- what an entry tells, before what older ones told
+abbrev pub told_with : {A : Type 0} (tells : Told → List A) (entry : Entry) (older : List A) → List A
+told_with tells entry older = onto tells (alone entry) older
+
+-- what entries tell, the newest first, before what older ones told
+abbrev pub told_onto : {A : Type 0} (tells : Told → List A) (older : List A) (entries : List Entry) → List A
+told_onto tells older [] = older
+told_onto tells older (e ∷ entries) = told_onto tells (told_with tells e older) entries
+
+-- the events of the book that an entry tells
 abbrev pub events_with : (entry : Entry) (older : List Event) → List Event
-events_with (entry.Write task page true) older = event.Dirty page ∷ older
-events_with (entry.Claimed flusher page) older = event.Claim page ∷ older
-events_with (entry.Done flusher page) older = event.Complete page ∷ older
-events_with (entry.Back flusher page absorbed) older = cond absorbed (event.Absorb page) (event.Redirty page) ∷ older
-events_with other older = older
+events_with entry older = told_with event_in entry older
 
--- the events of the book that entries tell, the newest first, before older ones
+-- those that entries tell
 abbrev pub events_told : (older : List Event) (entries : List Entry) → List Event
-events_told older [] = older
-events_told older (e ∷ entries) = events_told (events_with e older) entries
+events_told older entries = told_onto event_in older entries
 
--- likewise the folds
+-- the folds that an entry tells
 abbrev pub folds_with : (entry : Entry) (older : List Fold) → List Fold
-folds_with (entry.Folded made) older = made ∷ older
-folds_with other older = older
+folds_with entry older = told_with fold_in entry older
 
--- the folds that entries tell, the newest first, before older ones
+-- those that entries tell
 abbrev pub folds_told : (older : List Fold) (entries : List Entry) → List Fold
-folds_told older [] = older
-folds_told older (e ∷ entries) = folds_told (folds_with e older) entries
+folds_told older entries = told_onto fold_in older entries
 
--- and the pages that writes found dirty
+-- the pages of an entry whose write found them dirty
 abbrev pub founds_with : (entry : Entry) (older : List ℕ) → List ℕ
-founds_with (entry.Write task page false) older = page ∷ older
-founds_with other older = older
+founds_with entry older = told_with found_in entry older
 
--- the pages that writes found dirty, the newest first, before older ones
+-- those of entries
 abbrev pub founds_told : (older : List ℕ) (entries : List Entry) → List ℕ
-founds_told older [] = older
-founds_told older (e ∷ entries) = founds_told (founds_with e older) entries
+founds_told older entries = told_onto found_in older entries
 
 -- one load of a counter, with the version and the value that it found
 abbrev pub reading_of : (x : Counter) (told : Count) → Reading

@@ -1,10 +1,9 @@
 -- Each page that a write found dirty was dirtied by a write that the journal tells.
-use Rattle.std.proofs.Common.{◌≡◌, ℕ, ◌+◌, ◌<◌, ◌≤◌, Bool, true, false, cond, List, [], ◌∷◌, ◌++◌, length, map, flat_map, get_or, take, All, Option, Some, None, sum_by, count_by, sym, refl, ap, ◌∙◌, subst, arith}
-use Rattle.std.specs.List.{slice_get}
+use Rattle.std.proofs.Common.{◌≡◌, ℕ, ◌+◌, ◌<◌, ◌≤◌, Bool, false, cond, List, [], ◌∷◌, ◌++◌, length, map, flat_map, get_or, take, All, Option, Some, None, sum_by, count_by, sym, refl, ap, ◌∙◌, subst, arith}
 use Rattle.std.proofs.lemmas.List.{length-map}
 use Rattle.std.proofs.lemmas.List.Elements.{All-weaker}
 use Rattle.std.proofs.lemmas.List.Sums.{sum_by-cons, sum_by-append}
-use Rattle.wbt_replay_order.proofs.Common.{Trace, one_if, total_same, dirties, times, all_times, Event, Dirty, Claim, Complete, IsSetting, deeds_of, always_holds, Each, event_of, of_part, FoundWereDirtied, Told, one_checked, one_estimated, told_entry, told, CheckEntry, Entry, EstEntry, event_in, onto, eqb_turned, all_rest, each_of_all, each_weaker, each_joined, joined, told_is, State, cpu_of, Cpu, events_told, founds_told, IsFollowed, setting_of, most_moves, part_of, last_state, journal_of}
+use Rattle.wbt_replay_order.proofs.Common.{Trace, one_if, total_same, dirties, times, all_times, Event, Dirty, Claim, Complete, IsSetting, deeds_of, always_holds, Each, event_of, of_part, FoundWereDirtied, Told, told_entry, told, CheckEntry, Entry, EstEntry, event_in, onto, eqb_turned, all_rest, each_of_all, each_weaker, each_joined, joined, told_is, State, cpu_of, Cpu, events_told, founds_told, IsFollowed, setting_of, most_moves, part_of, last_state, journal_of}
 use Rattle.wbt_book.specs.declared.event.Event.TheVariants.{Redirty, Absorb}
 use Rattle.wbt_grant.specs.Laws.{Holds}
 use Rattle.wbt_grant.specs.Rule as was
@@ -12,11 +11,11 @@ use Rattle.wbt_grant.specs.State as throttle
 use Rattle.wbt_journal.specs.Effects.{found_of, listed}
 use Rattle.wbt_journal.specs.Leaves as leaves
 use Rattle.wbt_journal.specs.Leaves.{WasDirtied}
-use Rattle.wbt_journal.specs.declared.entry.Entry.TheVariants as entry
 use Rattle.wbt_run_laws.specs.Grew.{found_in}
 use Rattle.wbt_run_laws.proofs.Effects.{if_listed}
 use Rattle.wbt_run_laws.proofs.Lists.{all_front}
 use Rattle.wbt_run_laws.proofs.Parts.{records_sum}
+use Rattle.wbt_replay_points.proofs.Claims.Alone.{told_alone}
 use Rattle.wbt_replay_points.proofs.Claims.Counted.{state_of}
 use Rattle.wbt_replay_points.proofs.Claims.Sums.{part_at, cpus_are}
 
@@ -24,55 +23,11 @@ use Rattle.wbt_replay_points.proofs.Claims.Sums.{part_at, cpus_are}
 
 pub told_events : (checks : List CheckEntry) (ests : List EstEntry) (older : List Event) (entries : List Entry)
     → events_told older entries ≡ onto event_in (flat_map (told_entry checks ests) entries) older
-told_events checks ests older [] = refl
-told_events checks ests older (entry.Check place ∷ entries) = by_check (slice_get checks place) (told_events checks ests older entries)
-  where
-    by_check : (which : Option CheckEntry) → events_told older entries ≡ onto event_in (flat_map (told_entry checks ests) entries) older → events_told older entries ≡ onto event_in (one_checked which ++ flat_map (told_entry checks ests) entries) older
-    by_check None rest = rest
-    by_check (Some check) rest = rest
-told_events checks ests older (entry.Est place ∷ entries) = by_est (slice_get ests place) (told_events checks ests older entries)
-  where
-    by_est : (which : Option EstEntry) → events_told older entries ≡ onto event_in (flat_map (told_entry checks ests) entries) older → events_told older entries ≡ onto event_in (one_estimated which ++ flat_map (told_entry checks ests) entries) older
-    by_est None rest = rest
-    by_est (Some est) rest = rest
-told_events checks ests older (entry.Write task page true ∷ entries) = told_events checks ests (Dirty page ∷ older) entries
-told_events checks ests older (entry.Write task page false ∷ entries) = told_events checks ests older entries
-told_events checks ests older (entry.Claimed flusher page ∷ entries) = told_events checks ests (Claim page ∷ older) entries
-told_events checks ests older (entry.Done flusher page ∷ entries) = told_events checks ests (Complete page ∷ older) entries
-told_events checks ests older (entry.Folded fold ∷ entries) = told_events checks ests older entries
-told_events checks ests older (entry.Batch flusher pages now until ∷ entries) = told_events checks ests older entries
-told_events checks ests older (entry.Share domain context n ∷ entries) = told_events checks ests older entries
-told_events checks ests older (entry.Fault flusher pages ∷ entries) = told_events checks ests older entries
-told_events checks ests older (entry.Back flusher page absorbed ∷ entries) = told_events checks ests (cond absorbed (Absorb page) (Redirty page) ∷ older) entries
-told_events checks ests older (entry.Noticed flusher inode since ∷ entries) = told_events checks ests older entries
-told_events checks ests older (entry.Aged flusher inode due now ∷ entries) = told_events checks ests older entries
-told_events checks ests older (entry.Taken flusher inode ∷ entries) = told_events checks ests older entries
+told_events checks ests older entries = told_alone event_in (λ check. refl) (λ est. refl) checks ests older entries
 
 told_founds : (checks : List CheckEntry) (ests : List EstEntry) (older : List ℕ) (entries : List Entry)
     → founds_told older entries ≡ onto found_in (flat_map (told_entry checks ests) entries) older
-told_founds checks ests older [] = refl
-told_founds checks ests older (entry.Check place ∷ entries) = by_check (slice_get checks place) (told_founds checks ests older entries)
-  where
-    by_check : (which : Option CheckEntry) → founds_told older entries ≡ onto found_in (flat_map (told_entry checks ests) entries) older → founds_told older entries ≡ onto found_in (one_checked which ++ flat_map (told_entry checks ests) entries) older
-    by_check None rest = rest
-    by_check (Some check) rest = rest
-told_founds checks ests older (entry.Est place ∷ entries) = by_est (slice_get ests place) (told_founds checks ests older entries)
-  where
-    by_est : (which : Option EstEntry) → founds_told older entries ≡ onto found_in (flat_map (told_entry checks ests) entries) older → founds_told older entries ≡ onto found_in (one_estimated which ++ flat_map (told_entry checks ests) entries) older
-    by_est None rest = rest
-    by_est (Some est) rest = rest
-told_founds checks ests older (entry.Write task page true ∷ entries) = told_founds checks ests older entries
-told_founds checks ests older (entry.Write task page false ∷ entries) = told_founds checks ests (page ∷ older) entries
-told_founds checks ests older (entry.Claimed flusher page ∷ entries) = told_founds checks ests older entries
-told_founds checks ests older (entry.Done flusher page ∷ entries) = told_founds checks ests older entries
-told_founds checks ests older (entry.Folded fold ∷ entries) = told_founds checks ests older entries
-told_founds checks ests older (entry.Batch flusher pages now until ∷ entries) = told_founds checks ests older entries
-told_founds checks ests older (entry.Share domain context n ∷ entries) = told_founds checks ests older entries
-told_founds checks ests older (entry.Fault flusher pages ∷ entries) = told_founds checks ests older entries
-told_founds checks ests older (entry.Back flusher page absorbed ∷ entries) = told_founds checks ests older entries
-told_founds checks ests older (entry.Noticed flusher inode since ∷ entries) = told_founds checks ests older entries
-told_founds checks ests older (entry.Aged flusher inode due now ∷ entries) = told_founds checks ests older entries
-told_founds checks ests older (entry.Taken flusher inode ∷ entries) = told_founds checks ests older entries
+told_founds checks ests older entries = told_alone found_in (λ check. refl) (λ est. refl) checks ests older entries
 
 -- ---- dirtyings, by entries and by events
 

@@ -1,9 +1,8 @@
 -- Each count that a check prints is the sum of the folds of its counter, as the journal tells them, up to its version.
 use Rattle.std.proofs.Common.{◌≡◌, ℕ, zero, suc, ◌+◌, ◌<◌, true, List, [], ◌∷◌, ◌++◌, length, map, flat_map, get_or, take, Option, Some, None, IfSome, sym, refl, ap, ◌∙◌, subst, arith}
 use Rattle.std.proofs.lemmas.Bool.{lt-ltb}
-use Rattle.std.specs.List.{slice_get}
 use Rattle.std.proofs.lemmas.List.{length-map}
-use Rattle.wbt_replay_order.proofs.Common.{Trace, Count, Fold, Reading, IsSetting, always_holds, Load, fold_in, loads_in, loads_of, read_loads, cgroup_reads, Each, tells, items_from, Told, one_checked, one_estimated, told_entry, told, CheckEntry, DomainLine, Entry, EstEntry, group_of, onto, each_append, each_weaker, each_both, each_of_all, joined, told_is, each_cpu, each_item, global_line, cgroup_line, State, no_cpu, cpu_of, Cpu, ReplayTurn, IsDecided, EachFrom, AreDecided, folds_told, readings_with, readings_told, IsFollowed, setting_of, most_moves, part_of, last_state, journal_of, Facts}
+use Rattle.wbt_replay_order.proofs.Common.{Trace, Count, Fold, Reading, IsSetting, always_holds, Load, fold_in, loads_in, loads_of, of_part, effect, read_loads, cgroup_reads, Each, tells, items_from, Told, told_entry, told, CheckEntry, DomainLine, Entry, EstEntry, group_of, onto, each_weaker, each_both, each_of_all, joined, told_is, each_cpu, each_item, global_line, cgroup_line, State, no_cpu, cpu_of, Cpu, ReplayTurn, IsDecided, EachFrom, AreDecided, folds_told, readings_with, readings_told, IsFollowed, setting_of, most_moves, part_of, last_state, journal_of, Facts}
 use Rattle.wbt_counter.specs.declared.counter.Counter.TheVariants as counter
 use Rattle.wbt_grant.specs.Laws.{RecordsTell}
 use Rattle.wbt_grant.specs.SeatLaws.{IsRecordedSum}
@@ -12,11 +11,12 @@ use Rattle.wbt_grant.proofs.Seats.{readings_are_sums}
 use Rattle.wbt_journal.specs.Counts.{folds_in, IsSum, CountsAreSums}
 use Rattle.wbt_journal.specs.Lawful.{CountsSumFolds}
 use Rattle.wbt_journal.specs.Machine as machine
-use Rattle.wbt_journal.specs.declared.entry.Entry.TheVariants as entry
 use Rattle.wbt_run_laws.specs.Grew.{reading_of}
 use Rattle.wbt_run_laws.proofs.Folding.{many_folds, sums_are}
 use Rattle.wbt_replay_order.specs.Claims.Path.{line_readings}
+use Rattle.wbt_replay_points.proofs.Claims.Alone.{told_alone}
 use Rattle.wbt_replay_points.proofs.Claims.Counted.{state_of, rule_at}
+use Rattle.wbt_replay_points.proofs.Lawful.Told.{OfCheck, told_checks}
 use Rattle.wbt_replay_order.proofs.Lists.Places.{among_all}
 
 -- ---- what a part tells
@@ -24,64 +24,18 @@ use Rattle.wbt_replay_order.proofs.Lists.Places.{among_all}
 -- its folds, by its entries and by what they tell
 pub told_folds : (checks : List CheckEntry) (ests : List EstEntry) (older : List Fold) (entries : List Entry)
     → folds_told older entries ≡ onto fold_in (flat_map (told_entry checks ests) entries) older
-told_folds checks ests older [] = refl
-told_folds checks ests older (entry.Check place ∷ entries) = by_check (slice_get checks place) (told_folds checks ests older entries)
-  where
-    by_check : (which : Option CheckEntry) → folds_told older entries ≡ onto fold_in (flat_map (told_entry checks ests) entries) older → folds_told older entries ≡ onto fold_in (one_checked which ++ flat_map (told_entry checks ests) entries) older
-    by_check None rest = rest
-    by_check (Some check) rest = rest
-told_folds checks ests older (entry.Est place ∷ entries) = by_est (slice_get ests place) (told_folds checks ests older entries)
-  where
-    by_est : (which : Option EstEntry) → folds_told older entries ≡ onto fold_in (flat_map (told_entry checks ests) entries) older → folds_told older entries ≡ onto fold_in (one_estimated which ++ flat_map (told_entry checks ests) entries) older
-    by_est None rest = rest
-    by_est (Some est) rest = rest
-told_folds checks ests older (entry.Folded fold ∷ entries) = told_folds checks ests (fold ∷ older) entries
-told_folds checks ests older (entry.Write task page fresh ∷ entries) = told_folds checks ests older entries
-told_folds checks ests older (entry.Claimed flusher page ∷ entries) = told_folds checks ests older entries
-told_folds checks ests older (entry.Batch flusher pages now until ∷ entries) = told_folds checks ests older entries
-told_folds checks ests older (entry.Done flusher page ∷ entries) = told_folds checks ests older entries
-told_folds checks ests older (entry.Share domain context n ∷ entries) = told_folds checks ests older entries
-told_folds checks ests older (entry.Fault flusher pages ∷ entries) = told_folds checks ests older entries
-told_folds checks ests older (entry.Back flusher page absorbed ∷ entries) = told_folds checks ests older entries
-told_folds checks ests older (entry.Noticed flusher inode since ∷ entries) = told_folds checks ests older entries
-told_folds checks ests older (entry.Aged flusher inode due now ∷ entries) = told_folds checks ests older entries
-told_folds checks ests older (entry.Taken flusher inode ∷ entries) = told_folds checks ests older entries
-
--- what holds of each check holds of that at a place
-each_slice : (R : CheckEntry → Type 0) (checks : List CheckEntry) (place : ℕ) → Each R checks → IfSome (slice_get checks place) R
-each_slice R [] place each = tt
-each_slice R (check ∷ checks) zero each = each.0
-each_slice R (check ∷ checks) (suc place) each = each_slice R checks place each.1
+told_folds checks ests older entries = told_alone fold_in (λ check. refl) (λ est. refl) checks ests older entries
 
 -- what holds of the loads of each check holds of those of each entry
 pub told_loads : (P : Load → Type 0) (checks : List CheckEntry) (ests : List EstEntry) (entries : List Entry) → Each (λ (check : CheckEntry). Each P (loads_of check)) checks
     → Each (λ (e : Told). Each P (loads_in e)) (flat_map (told_entry checks ests) entries)
-told_loads P checks ests [] each = tt
-told_loads P checks ests (entry.Check place ∷ entries) each =
-    each_append (λ (e : Told). Each P (loads_in e)) (one_checked (slice_get checks place)) (flat_map (told_entry checks ests) entries)
-    (by_check (slice_get checks place) (each_slice (λ (check : CheckEntry). Each P (loads_of check)) checks place each)) (told_loads P checks ests entries each)
+told_loads P checks ests entries each =
+    each_weaker (OfCheck (λ (check : CheckEntry). Each P (loads_of check))) (λ (e : Told). Each P (loads_in e)) (λ e has. of_loads (effect e).check has)
+    (flat_map (told_entry checks ests) entries) (told_checks (λ (check : CheckEntry). Each P (loads_of check)) checks ests entries each)
   where
-    by_check : (which : Option CheckEntry) → IfSome which (λ (check : CheckEntry). Each P (loads_of check)) → Each (λ (e : Told). Each P (loads_in e)) (one_checked which)
-    by_check None has = tt
-    by_check (Some check) has = (has, tt)
-told_loads P checks ests (entry.Est place ∷ entries) each =
-    each_append (λ (e : Told). Each P (loads_in e)) (one_estimated (slice_get ests place)) (flat_map (told_entry checks ests) entries)
-    (by_est (slice_get ests place)) (told_loads P checks ests entries each)
-  where
-    by_est : (which : Option EstEntry) → Each (λ (e : Told). Each P (loads_in e)) (one_estimated which)
-    by_est None = tt
-    by_est (Some est) = (tt, tt)
-told_loads P checks ests (entry.Folded fold ∷ entries) each = (tt, told_loads P checks ests entries each)
-told_loads P checks ests (entry.Write task page fresh ∷ entries) each = (tt, told_loads P checks ests entries each)
-told_loads P checks ests (entry.Claimed flusher page ∷ entries) each = (tt, told_loads P checks ests entries each)
-told_loads P checks ests (entry.Batch flusher pages now until ∷ entries) each = (tt, told_loads P checks ests entries each)
-told_loads P checks ests (entry.Done flusher page ∷ entries) each = (tt, told_loads P checks ests entries each)
-told_loads P checks ests (entry.Share domain context n ∷ entries) each = (tt, told_loads P checks ests entries each)
-told_loads P checks ests (entry.Fault flusher pages ∷ entries) each = (tt, told_loads P checks ests entries each)
-told_loads P checks ests (entry.Back flusher page absorbed ∷ entries) each = (tt, told_loads P checks ests entries each)
-told_loads P checks ests (entry.Noticed flusher inode since ∷ entries) each = (tt, told_loads P checks ests entries each)
-told_loads P checks ests (entry.Aged flusher inode due now ∷ entries) each = (tt, told_loads P checks ests entries each)
-told_loads P checks ests (entry.Taken flusher inode ∷ entries) each = (tt, told_loads P checks ests entries each)
+    of_loads : (which : Option CheckEntry) → IfSome which (λ (check : CheckEntry). Each P (loads_of check)) → Each P (of_part [] loads_of which)
+    of_loads None has = tt
+    of_loads (Some check) has = has
 
 -- ---- what holds of all readings holds of each check's loads
 
