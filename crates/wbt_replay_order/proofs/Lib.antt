@@ -1,5 +1,6 @@
 pub mod Common
 pub mod Facts
+pub mod Walk
 pub mod Outset
 pub mod Lists
 pub mod Frames

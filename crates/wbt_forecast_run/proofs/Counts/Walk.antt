@@ -1,19 +1,17 @@
 -- At each moment of the run the steps tell the exact count of each domain.
-use Rattle.std.proofs.Common.{◌≡◌, ℕ, zero, suc, ◌+◌, ◌<◌, Bool, true, false, List, [], ◌∷◌, length, get_or, All, Option, Some, None, refl, sym, ◌∙◌, ap, subst, arith}
+use Rattle.std.proofs.Common.{◌≡◌, ℕ, ◌+◌, ◌<◌, true, List, [], ◌∷◌, length, get_or, All, refl, sym, ◌∙◌, ap, subst, arith}
 use Rattle.std.proofs.lemmas.List.{get_or_past}
-use Rattle.wbt_replay_order.proofs.Common.{Trace, make_step, make_timer_step, make_timer_move, begin_turn, State, no_cpu, cpu_of, with_cpu, begin_timer, with_timer, Actor, Cpu, ReplayJob, Stretch, Whose, TimerTodo, Todo, setting_of, after, ahead_of, is_nothing, turn_at, job_at, is_full, is_halted, spend, stop, cpu_on, timer_on, go_on, begin_job, begin, with_orders, begin_or_drop, follow, next_moment, at_moment, actor_at, place_after, chance_of, take, take_turn, seek_turn, next_turn, finish_turn, rotate_from, advance_by, advance, Facts, IsFlusherOn, IsJobOn, Suits, apply_all, Change, turn_changes, timer_step_changes, timer_move_changes, timer_turn_changes, moves_are_changes}
+use Rattle.wbt_replay_order.proofs.Common.{Trace, make_step, make_timer_step, make_timer_move, begin_turn, State, no_cpu, cpu_of, with_cpu, begin_timer, with_timer, Actor, Cpu, ReplayJob, Whose, TimerTodo, Todo, setting_of, after, job_at, is_full, is_halted, spend, stop, cpu_on, timer_on, go_on, begin_job, begin, advance, Facts, IsFlusherOn, IsJobOn, Suits, apply_all, Change, turn_changes, timer_step_changes, timer_move_changes, timer_turn_changes, moves_are_changes}
 use Rattle.wbt_replay_moves.specs.declared.state.Actor.TheVariants as actor
 use Rattle.wbt_replay_moves.specs.declared.state.ReplayJob.TheVariants as job
-use Rattle.wbt_replay_moves.specs.declared.state.Stretch.TheVariants as stretch
 use Rattle.wbt_replay_moves.specs.declared.state.Whose.TheVariants as whose
 use Rattle.wbt_replay_moves.specs.declared.todo.TimerTodo.TheVariants as timer_todo
 use Rattle.wbt_replay_moves.specs.declared.todo.Todo.TheVariants as todo
-use Rattle.wbt_replay_order.specs.declared.chance.Ahead.{Ahead}
-use Rattle.wbt_replay_order.specs.declared.chance.Ahead.TheVariants as ahead
 use Rattle.wbt_replay_order.specs.declared.chance.Chance.{Chance}
 use Rattle.wbt_replay_order.specs.declared.chance.Chance.TheVariants as chance
 use Rattle.wbt_replay_order.proofs.Facts.Lists.{either}
-use Rattle.wbt_replay_order.proofs.Frames.Chances.{IsSeeker, CanBegin, MayBegin, may_moved, turn_begins, chance_begins}
+use Rattle.wbt_replay_order.proofs.Walk.{turned, walked}
+use Rattle.wbt_replay_order.proofs.Frames.Chances.{IsSeeker, CanBegin, MayBegin, may_moved, turn_begins}
 use Rattle.wbt_replay_order.proofs.Growth.Quiet.{same_at}
 use Rattle.wbt_forecast_run.proofs.Counts.Booked.{IsBooked, IsSeated, behind_first}
 use Rattle.wbt_forecast_run.proofs.Counts.Looks.{IsTurnsOwn, still_after}
@@ -117,62 +115,14 @@ module _ (trace : Trace) (facts : Facts trace) (suits : Suits trace (setting_of 
       (record (cpu_of i s) { next = after (length (cpu_of i s).jobs) which }) refl
   begins actor.Timer which place s seats h can = h
 
-  takes : (a : Actor) (found : Chance) (s : State) → IsSeated trace s → IsBooked trace s → MayBegin a found s → IsBooked trace (take trace a found s)
-  takes a chance.Nothing s seats h may = h
-  takes a chance.GoesOn s seats h may = goes a s seats h
-  takes a (chance.Begins which place) s seats h may = begins a which place s seats h may
-  takes a chance.TimerBegins s seats h may = begun_timer trace s seats h
-
   module _ (s : State) (seats : IsSeated trace s) (h : IsBooked trace s) where
     seeks : (i : ℕ) → i < length s.cpus → IsSeeker (cpu_of i s)
     seeks i less = seats.seeks i (omega (arith, less, seats.many))
 
-    by_moment : (found : Option ℕ) → IsBooked trace (at_moment found s)
-    by_moment None = h
-    by_moment (Some moment) = h
-
-    by_turn : (a : Actor) → IsBooked trace (take_turn trace a s)
-    by_turn a = takes a (chance_of a s) (record s { rotation = Some a }) seats h (may_moved s.now s.orders (Some a) s a (chance_of a s) (chance_begins s seeks a))
-
-    by_seek : (tries place : ℕ) → IsBooked trace (seek_turn trace tries place s)
-    unfolding seek_turn
-    by_seek zero place = by_moment (next_moment s)
-    by_seek (suc tries) place = by_first (is_nothing (chance_of (actor_at place s) s)) (by_seek tries (after (length s.cpus + 1) place))
-      where
-        by_first : (b : Bool) → IsBooked trace (seek_turn trace tries (after (length s.cpus + 1) place) s)
-            → IsBooked trace (elim b as (λ _. State) [ true ↦ seek_turn trace tries (after (length s.cpus + 1) place) s | false ↦ take_turn trace (actor_at place s) s ])
-        by_first true later = later
-        by_first false later = by_turn (actor_at place s)
-
-    by_next : IsBooked trace (next_turn trace s)
-    by_next = by_seek (length s.cpus + 1) (place_after s.rotation s)
-
-    by_finish : (a : Actor) (next : Ahead) → IsBooked trace (finish_turn trace a next s)
-    by_finish a ahead.Step = goes a s seats h
-    by_finish a ahead.Silent = goes a s seats h
-    by_finish a ahead.Nothing = by_next
-
-    by_rotation : (turn : Option Actor) → IsBooked trace (rotate_from trace turn s)
-    by_rotation None = by_next
-    by_rotation (Some a) = by_finish a (ahead_of a s)
-
-    by_found : (a : Actor) (found : Chance) → MayBegin a found s → (more : List Stretch) → IsBooked trace (begin_or_drop trace a found more s)
-    by_found a chance.Nothing may more = h
-    by_found a chance.GoesOn may more = goes a s seats h
-    by_found a (chance.Begins which place) may more = begins a which place s seats h may
-    by_found a chance.TimerBegins may more = begun_timer trace s seats h
-
-    by_line : (a : Actor) (steps : ℕ) (next : Ahead) → ahead_of a s ≡ next → (more : List Stretch) → IsBooked trace (follow trace a steps next more s)
-    by_line a steps ahead.Silent is more = goes a s seats h
-    by_line a zero ahead.Step is more = h
-    by_line a (suc steps) ahead.Step is more = goes a (with_orders (stretch.Steps a steps ∷ more) s) seats h
-    by_line a zero ahead.Nothing is more = h
-    by_line a (suc steps) ahead.Nothing is more = by_found a (turn_at a s) (turn_begins s seeks a is) more
-
-    by_orders : (orders : List Stretch) → IsBooked trace (advance_by trace orders s)
-    by_orders [] = by_rotation s.rotation
-    by_orders (stretch.Tick ticks ∷ more) = h
-    by_orders (stretch.Steps a steps ∷ more) = by_line a steps (ahead_of a s) refl more
-
     pub advance_booked : IsBooked trace (advance trace s)
-    advance_booked = by_orders s.orders
+    advance_booked =
+        walked trace s (IsBooked trace) (λ orders rotation now. h) (λ orders rotation a. goes a (turned orders rotation s) seats h)
+        (λ orders rotation a which place idle is.
+        begins a which place (turned orders rotation s) seats h
+        (may_moved s.now orders rotation s a (chance.Begins which place) (subst (λ (found : Chance). MayBegin a found s) is (turn_begins s seeks a idle))))
+        (λ orders rotation a idle is. begun_timer trace (turned orders rotation s) seats h)

@@ -1,17 +1,13 @@
 -- What holds before a move and is kept by what isn't of the machine's things gives what each item makes of it.
-use Rattle.std.proofs.Common.{◌≡◌, ℕ, zero, suc, ◌+◌, Bool, true, false, List, [], ◌∷◌, length, get_or, Option, Some, None, refl}
-use Rattle.wbt_replay_order.proofs.Common.{Trace, make_step, make_move, make_timer_step, make_timer_move, begin_turn, State, cpu_of, with_cpu, begin_timer, with_timer, Actor, Cpu, ReplayJob, Stretch, Whose, TimerTodo, Todo, after, ahead_of, is_nothing, turn_at, job_at, is_full, is_halted, spend, stop, cpu_on, timer_on, go_on, begin_job, begin, with_orders, begin_or_drop, follow, next_moment, at_moment, actor_at, place_after, chance_of, take, take_turn, seek_turn, next_turn, finish_turn, rotate_from, advance_by, advance, Silent, Step, TimerSilent, TimerStep}
+use Rattle.std.proofs.Common.{◌≡◌, ℕ, ◌+◌, Bool, true, List, [], ◌∷◌, length, get_or, Option, refl}
+use Rattle.wbt_replay_order.proofs.Common.{Trace, make_step, make_move, make_timer_step, make_timer_move, begin_turn, State, cpu_of, with_cpu, begin_timer, with_timer, Actor, Cpu, ReplayJob, Stretch, Whose, TimerTodo, Todo, after, job_at, is_full, is_halted, spend, stop, cpu_on, timer_on, go_on, begin_job, begin, advance, Silent, Step, TimerSilent, TimerStep}
 use Rattle.wbt_replay_moves.specs.declared.state.Actor.TheVariants as actor
 use Rattle.wbt_replay_moves.specs.declared.state.ReplayJob.TheVariants as job
-use Rattle.wbt_replay_moves.specs.declared.state.Stretch.TheVariants as stretch
 use Rattle.wbt_replay_moves.specs.declared.state.Whose.TheVariants as whose
 use Rattle.wbt_replay_moves.specs.declared.todo.TimerTodo.TheVariants as timer_todo
 use Rattle.wbt_replay_moves.specs.declared.todo.Todo.TheVariants as todo
-use Rattle.wbt_replay_order.specs.declared.chance.Ahead.{Ahead}
-use Rattle.wbt_replay_order.specs.declared.chance.Ahead.TheVariants as ahead
-use Rattle.wbt_replay_order.specs.declared.chance.Chance.{Chance}
-use Rattle.wbt_replay_order.specs.declared.chance.Chance.TheVariants as chance
 use Rattle.wbt_replay_order.proofs.Facts.Lists.{either}
+use Rattle.wbt_replay_order.proofs.Walk.{turned, walked}
 
 -- what belongs to the run's order, and to no thing of the machine
 pub record Course : Type 0 where
@@ -101,68 +97,13 @@ module _ (trace : Trace) (P Q : State → Type 0) (weaker : (s : State) → P s 
       by_job i place (job_at n (cpu_of i s)) (record (cpu_of i s) { next = after (length (cpu_of i s).jobs) n }) s refl refl h
   by_begin actor.Timer n place s h = weaker s h
 
-  -- ---- the order lines
-
-  drops : (more : List Stretch) (s : State) → P s → Q (with_orders more s)
-  drops more s h = along (record (course_of s) { orders = more }) s h
-
-  by_found : (a : Actor) (found : Chance) (more : List Stretch) (s : State) → P s → Q (begin_or_drop trace a found more s)
-  by_found a chance.Nothing more s h = drops more s h
-  by_found a chance.GoesOn more s h = goes a s h
-  by_found a (chance.Begins n place) more s h = by_begin a n place s h
-  by_found a chance.TimerBegins more s h = timer_turns s h
-
-  by_line : (a : Actor) (steps : ℕ) (next : Ahead) (more : List Stretch) (s : State) → P s → Q (follow trace a steps next more s)
-  by_line a steps ahead.Silent more s h = goes a s h
-  by_line a zero ahead.Step more s h = drops more s h
-  by_line a (suc steps) ahead.Step more s h =
-      goes a (with_orders (stretch.Steps a steps ∷ more) s) (course (record (course_of s) { orders = stretch.Steps a steps ∷ more }) s h)
-  by_line a zero ahead.Nothing more s h = drops more s h
-  by_line a (suc steps) ahead.Nothing more s h = by_found a (turn_at a s) more s h
-
-  -- ---- the rotation
-
-  by_moment : (found : Option ℕ) (s : State) → P s → Q (at_moment found s)
-  by_moment None s h = weaker s h
-  by_moment (Some moment) s h = along (record (course_of s) { now = moment; rotation = None }) s h
-
-  by_take : (a : Actor) (found : Chance) (s : State) → P s → Q (take trace a found s)
-  by_take a chance.Nothing s h = weaker s h
-  by_take a chance.GoesOn s h = goes a s h
-  by_take a (chance.Begins n place) s h = by_begin a n place s h
-  by_take a chance.TimerBegins s h = timer_turns s h
-
-  by_turn : (a : Actor) (s : State) → P s → Q (take_turn trace a s)
-  by_turn a s h = by_take a (chance_of a s) (record s { rotation = Some a }) (course (record (course_of s) { rotation = Some a }) s h)
-
-  by_seek : (tries place : ℕ) (s : State) → P s → Q (seek_turn trace tries place s)
-  unfolding seek_turn
-  by_seek zero place s h = by_moment (next_moment s) s h
-  by_seek (suc tries) place s h = by_chance (is_nothing (chance_of (actor_at place s) s)) (by_seek tries (after (length s.cpus + 1) place) s h)
-    where
-      by_chance : (b : Bool) → Q (seek_turn trace tries (after (length s.cpus + 1) place) s)
-          → Q (elim b as (λ _. State) [ true ↦ seek_turn trace tries (after (length s.cpus + 1) place) s | false ↦ take_turn trace (actor_at place s) s ])
-      by_chance true more = more
-      by_chance false more = by_turn (actor_at place s) s h
-
-  by_next : (s : State) → P s → Q (next_turn trace s)
-  by_next s h = by_seek (length s.cpus + 1) (place_after s.rotation s) s h
-
-  by_finish : (a : Actor) (next : Ahead) (s : State) → P s → Q (finish_turn trace a next s)
-  by_finish a ahead.Step s h = goes a s h
-  by_finish a ahead.Silent s h = goes a s h
-  by_finish a ahead.Nothing s h = by_next s h
-
-  by_rotation : (turn : Option Actor) (s : State) → P s → Q (rotate_from trace turn s)
-  by_rotation None s h = by_next s h
-  by_rotation (Some a) s h = by_finish a (ahead_of a s) s h
-
   -- ---- the run
 
-  by_orders : (orders : List Stretch) (s : State) → P s → Q (advance_by trace orders s)
-  by_orders [] s h = by_rotation s.rotation s h
-  by_orders (stretch.Tick ticks ∷ more) s h = along (record (course_of s) { now = s.now + ticks; orders = more }) s h
-  by_orders (stretch.Steps a steps ∷ more) s h = by_line a steps (ahead_of a s) more s h
-
   pub advance_walks : (s : State) → P s → Q (advance trace s)
-  advance_walks s h = by_orders s.orders s h
+  advance_walks s h =
+      walked trace s Q (λ orders rotation now. along (record (course_of s) { orders = orders; rotation = rotation; now = now }) s h)
+      (λ orders rotation a. goes a (turned orders rotation s) (turn orders rotation)) (λ orders rotation a n place idle is. by_begin a n place (turned orders rotation s) (turn orders rotation))
+      (λ orders rotation a idle is. timer_turns (turned orders rotation s) (turn orders rotation))
+    where
+      turn : (orders : List Stretch) (rotation : Option Actor) → P (turned orders rotation s)
+      turn orders rotation = course (record (course_of s) { orders = orders; rotation = rotation }) s h

@@ -1,21 +1,18 @@
 -- Each move of a run names what is there.
-use Rattle.std.proofs.Common.{inl, ℕ, pos, zero, suc, ◌+◌, Bool, true, false, List, [], ◌∷◌, length, get_or, All, Option, Some, None, refl}
+use Rattle.std.proofs.Common.{inl, ℕ, pos, ◌+◌, true, List, [], ◌∷◌, length, get_or, All, Option, Some, None, refl}
 use Rattle.std.proofs.lemmas.List.Elements.{All-head}
-use Rattle.wbt_replay_order.proofs.Common.{after_period, Half, Trace, make_timer_step, make_timer_move, State, cpu_of, domain_of, with_cpu, begin_timer, with_timer, peak, is_time, periods, period_to, Actor, Cpu, ReplayJob, Stretch, TimerSilent, TimerStep, TimerTodo, Todo, actor_at, after, ahead_of, is_nothing, turn_at, job_at, is_full, is_halted, stop, cpu_on, timer_on, go_on, begin_job, begin, with_orders, begin_or_drop, follow, next_moment, at_moment, place_after, chance_of, take, take_turn, seek_turn, next_turn, finish_turn, rotate_from, tick, advance_by, advance, Facts, PartNamesInOrder, Naming, TimerItemFits, Sound}
+use Rattle.wbt_replay_order.proofs.Common.{after_period, Half, Trace, make_timer_step, make_timer_move, State, cpu_of, domain_of, with_cpu, begin_timer, with_timer, peak, is_time, periods, period_to, Actor, Cpu, ReplayJob, Stretch, TimerSilent, TimerStep, TimerTodo, Todo, after, job_at, is_full, is_halted, stop, cpu_on, timer_on, go_on, begin_job, begin, advance, Facts, PartNamesInOrder, Naming, TimerItemFits, Sound}
 use Rattle.wbt_grant.specs.declared.who.StepKind.TheVariants as kind
 use Rattle.wbt_replay_moves.specs.declared.state.Actor.TheVariants as who
 use Rattle.wbt_replay_moves.specs.declared.state.ReplayJob.TheVariants as job
-use Rattle.wbt_replay_moves.specs.declared.state.Stretch.TheVariants as stretch
 use Rattle.wbt_replay_moves.specs.declared.state.Whose.TheVariants as whose
 use Rattle.wbt_replay_moves.specs.declared.todo.TimerSilent.TheVariants as timer_silent
 use Rattle.wbt_replay_moves.specs.declared.todo.TimerStep.TheVariants as timer_step
 use Rattle.wbt_replay_moves.specs.declared.todo.TimerTodo.TheVariants as timer_todo
 use Rattle.wbt_replay_moves.specs.declared.todo.Todo.TheVariants as todo
-use Rattle.wbt_replay_order.specs.declared.chance.Ahead.{Ahead as Next}
 use Rattle.wbt_replay_order.specs.declared.chance.Ahead.TheVariants as next
-use Rattle.wbt_replay_order.specs.declared.chance.Chance.{Chance}
-use Rattle.wbt_replay_order.specs.declared.chance.Chance.TheVariants as chance
 use Rattle.wbt_replay_order.proofs.Facts.Lists.{either}
+use Rattle.wbt_replay_order.proofs.Walk.{clocked, turned, walked}
 use Rattle.wbt_replay_ends.proofs.Names.Items.{Reaches, reaches, step_logs, move_logs}
 use Rattle.wbt_replay_ends.proofs.Names.Changes.{turn_logs}
 use Rattle.wbt_replay_ends.proofs.Names.Logs.{Logs, quiet_logs, entry_logs, alone_logs, same_logs}
@@ -85,66 +82,17 @@ module _ (trace : Trace) (facts : Facts trace) (s : State) (reach : Reaches trac
   go_logs (who.Cpu i) = cpu_on_logs i (cpu_of i s).todo
   go_logs who.Timer = timer_on_logs s.timer.todo fits
 
-  take_logs : (i : Actor) (found : Chance) → Logs trace s (take trace i found s)
-  take_logs i chance.Nothing = λ h. h
-  take_logs i chance.GoesOn = go_logs i
-  take_logs i (chance.Begins n place) = begin_logs trace i n place s
-  take_logs i chance.TimerBegins = quiet_logs trace s (begin_timer s) refl refl
-
 -- ---- a move of the run
-
-module _ (trace : Trace) (facts : Facts trace) (s : State) (reach : Reaches trace s) (fits : All (TimerItemFits trace) s.timer.todo) where
-  clock_logs : (found : Option ℕ) → Logs trace s (at_moment found s)
-  clock_logs None = λ h. h
-  clock_logs (Some moment) = quiet_logs trace s (at_moment (Some moment) s) refl refl
-
-  placed_logs : (i : Actor) (found : Chance) → Logs trace s (take trace i found (record s { rotation = Some i }))
-  placed_logs i found h =
-      let u = record s { rotation = Some i } in
-      take_logs trace facts u (record { works = reach.works; phases = reach.phases }) fits i found (quiet_logs trace s u refl refl h)
-
-  seek_logs : (tries i : ℕ) → Logs trace s (seek_turn trace tries i s)
-  unfolding seek_turn
-  seek_logs zero i = clock_logs (next_moment s)
-  seek_logs (suc tries) i = by_chance (is_nothing (chance_of (actor_at i s) s)) (seek_logs tries (after (length s.cpus + 1) i))
-    where
-      by_chance : (b : Bool) → Logs trace s (seek_turn trace tries (after (length s.cpus + 1) i) s)
-          → Logs trace s (elim b as (λ _. State) [ true ↦ seek_turn trace tries (after (length s.cpus + 1) i) s | false ↦ take_turn trace (actor_at i s) s ])
-      by_chance true more = more
-      by_chance false more = placed_logs (actor_at i s) (chance_of (actor_at i s) s)
-
-  next_logs : Logs trace s (next_turn trace s)
-  next_logs = seek_logs (length s.cpus + 1) (place_after s.rotation s)
-
-  finish_logs : (i : Actor) (n : Next) → Logs trace s (finish_turn trace i n s)
-  finish_logs i next.Step = go_logs trace facts s reach fits i
-  finish_logs i next.Silent = go_logs trace facts s reach fits i
-  finish_logs i next.Nothing = next_logs
-
-  rotate_logs : (turn : Option Actor) → Logs trace s (rotate_from trace turn s)
-  rotate_logs None = next_logs
-  rotate_logs (Some i) = finish_logs i (ahead_of i s)
-
-  dropped_logs : (i : Actor) (found : Chance) (more : List Stretch) → Logs trace s (begin_or_drop trace i found more s)
-  dropped_logs i chance.Nothing more = quiet_logs trace s (with_orders more s) refl refl
-  dropped_logs i chance.GoesOn more = go_logs trace facts s reach fits i
-  dropped_logs i (chance.Begins n place) more = begin_logs trace i n place s
-  dropped_logs i chance.TimerBegins more = quiet_logs trace s (begin_timer s) refl refl
-
-  follow_logs : (i : Actor) (steps : ℕ) (n : Next) (more : List Stretch) → Logs trace s (follow trace i steps n more s)
-  follow_logs i steps next.Silent more = go_logs trace facts s reach fits i
-  follow_logs i zero next.Step more = quiet_logs trace s (with_orders more s) refl refl
-  follow_logs i (suc steps) next.Step more = λ h.
-      let u = with_orders (stretch.Steps i steps ∷ more) s in
-      go_logs trace facts u (record { works = reach.works; phases = reach.phases }) fits i (quiet_logs trace s u refl refl h)
-  follow_logs i zero next.Nothing more = quiet_logs trace s (with_orders more s) refl refl
-  follow_logs i (suc steps) next.Nothing more = dropped_logs i (turn_at i s) more
-
-  by_orders_logs : (orders : List Stretch) → Logs trace s (advance_by trace orders s)
-  by_orders_logs [] = rotate_logs s.rotation
-  by_orders_logs (stretch.Tick ticks ∷ more) = quiet_logs trace s (tick ticks more s) refl refl
-  by_orders_logs (stretch.Steps i steps ∷ more) = follow_logs i steps (ahead_of i s) more
 
 -- Each move keeps what is named.
 pub advance_logs : (trace : Trace) → Facts trace → (s : State) → Sound trace s → Naming trace s → Naming trace (advance trace s)
-advance_logs trace facts s sound h = by_orders_logs trace facts s (reaches trace s sound) sound.holds.timer.todo s.orders h
+advance_logs trace facts s sound =
+    walked trace s (Logs trace s) (λ orders rotation now. quiet_logs trace s (clocked orders rotation now s) refl refl)
+    (λ orders rotation actor h.
+    let reach = reaches trace s sound in
+    go_logs trace facts (turned orders rotation s) (record { works = reach.works; phases = reach.phases }) sound.holds.timer.todo actor (turn orders rotation h))
+    (λ orders rotation actor n place idle is h. begin_logs trace actor n place (turned orders rotation s) (turn orders rotation h))
+    (λ orders rotation actor idle is h. let u = turned orders rotation s in quiet_logs trace u (begin_timer u) refl refl (turn orders rotation h))
+  where
+    turn : (orders : List Stretch) (rotation : Option Actor) → Logs trace s (turned orders rotation s)
+    turn orders rotation = quiet_logs trace s (turned orders rotation s) refl refl

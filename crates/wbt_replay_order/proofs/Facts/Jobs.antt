@@ -1,8 +1,9 @@
 -- The jobs of the CPUs.
-use Rattle.std.proofs.Common.{◌≡◌, ℕ, zero, suc, ◌+◌, ◌<◌, ◌≤◌, Bool, true, false, cond, eqb, List, [], ◌∷◌, ◌++◌, length, get_or, All, refl, sym, ◌∙◌, ap, subst, arith, eq-eqb, eqb-true, length-append, count_by, ne_eqb}
-use Rattle.std.proofs.lemmas.List.{get_or_append_left, get_or_push}
+use Rattle.std.proofs.Common.{◌≡◌, ℕ, zero, suc, ◌+◌, ◌<◌, ◌≤◌, Bool, true, false, cond, eqb, List, [], ◌∷◌, ◌++◌, length, get_or, All, refl, sym, ◌∙◌, ap, subst, arith, eq-eqb, eqb-true, length-append, count_by, ne_eqb, ⊎_elim}
+use Rattle.std.proofs.lemmas.Bool.{cases_lt}
+use Rattle.std.proofs.lemmas.List.{get_or_append_left, get_or_past, get_or_push}
 use Rattle.std.proofs.lemmas.List.Sums.{sum_by_push}
-use Rattle.std.proofs.lemmas.List.Elements.{All-nil, All-cons}
+use Rattle.std.proofs.lemmas.List.Elements.{All-nil, All-cons, All-get_or}
 use Rattle.wbt_replay_order.proofs.Common.{FlusherLine, Trace, tasks_from, IsJobOn, IsFlusherOn, flusher_cpu, ReplayJob}
 use Rattle.wbt_replay_order.specs.Definition.Opening.{flushers_from, jobs_with}
 use Rattle.wbt_replay_order.specs.Kept.Facts.{is_job_of}
@@ -139,3 +140,10 @@ one_of_these f cpu number (line ∷ fs) known (suc k) less is on =
 pub one_job : (trace : Trace) (tasks : List ℕ) (f : ℕ) → f < length trace.flushers → count_by (is_job_of f) (jobs_with trace (flusher_cpu trace f) tasks) ≡ 1
 one_job trace [] f less = omega (arith, one_of_these f (flusher_cpu trace f) 0 trace.flushers [] f less (omega arith) refl)
 one_job trace (t ∷ ts) f less = omega (arith, one_of_these f (flusher_cpu trace f) 0 trace.flushers (job.Writer ∷ []) f less (omega arith) refl)
+
+-- a job of a CPU that is a flusher's is of one on the CPU
+pub flusher_on : (trace : Trace) (cpu f n : ℕ) (jobs : List ReplayJob) → All (IsJobOn trace cpu) jobs → get_or jobs n job.Writer ≡ job.Flusher f → IsFlusherOn trace cpu f
+flusher_on trace cpu f n jobs all is = ⊎_elim
+    (λ less. subst (IsJobOn trace cpu) is (All-get_or (IsJobOn trace cpu) jobs n job.Writer less all))
+    (λ past. let other : job.Writer ≡ job.Flusher f = sym (get_or_past jobs n job.Writer past) ∙ is in absurd (cc other))
+    (cases_lt n (length jobs))

@@ -1,24 +1,20 @@
 -- What quiet moves, checks, estimates and the timer's moves keep, each move keeps, and so it holds at each moment.
-use Rattle.std.proofs.Common.{◌≡◌, ℕ, zero, suc, ◌+◌, ◌<◌, Bool, true, false, List, [], ◌∷◌, length, get_or, refl, sym, ◌∙◌, ap, subst, arith, ⊎_elim, Option, Some, None}
+use Rattle.std.proofs.Common.{◌≡◌, ℕ, ◌+◌, ◌<◌, true, List, [], ◌∷◌, length, get_or, refl, sym, ◌∙◌, ap, subst, arith, ⊎_elim, Option}
 use Rattle.std.proofs.lemmas.Bool.{cases_lt}
 use Rattle.std.proofs.lemmas.List.{get_or_past, length-set}
-use Rattle.wbt_replay_order.proofs.Common.{Trace, decide_for, decide_by, estimate, make_step, make_move, make_timer_step, make_timer_move, begin_turn, State, no_cpu, cpu_of, with_cpu, task_of, begin_timer, with_timer, Actor, Cpu, Domain, ReplayJob, Stretch, ReplayTask, Whose, Writeback, Silent, Step, TimerSilent, TimerStep, TimerTodo, Todo, actor_at, after, ahead_of, turn_at, job_at, is_full, is_halted, is_nothing, spend, stop, cpu_on, timer_on, go_on, begin_job, begin, with_orders, begin_or_drop, follow, next_moment, at_moment, place_after, chance_of, take, take_turn, seek_turn, next_turn, finish_turn, rotate_from, tick, advance_by, advance, dirty, IsPlainMove}
+use Rattle.wbt_replay_order.proofs.Common.{Trace, decide_for, decide_by, estimate, make_step, make_move, make_timer_step, make_timer_move, begin_turn, State, no_cpu, cpu_of, with_cpu, task_of, begin_timer, with_timer, Actor, Cpu, Domain, ReplayJob, Stretch, ReplayTask, Whose, Writeback, Silent, Step, TimerSilent, TimerStep, TimerTodo, Todo, after, job_at, is_full, is_halted, spend, stop, cpu_on, timer_on, go_on, begin_job, begin, advance, dirty, IsPlainMove}
 use Rattle.wbt_replay_moves.specs.declared.state.Actor.TheVariants as who
 use Rattle.wbt_replay_moves.specs.declared.state.ReplayJob.TheVariants as job
-use Rattle.wbt_replay_moves.specs.declared.state.Stretch.TheVariants as stretch
 use Rattle.wbt_replay_moves.specs.declared.state.Whose.TheVariants as whose
 use Rattle.wbt_replay_moves.specs.declared.todo.Silent.TheVariants as silent
 use Rattle.wbt_replay_moves.specs.declared.todo.Step.TheVariants as step
 use Rattle.wbt_replay_moves.specs.declared.todo.TimerTodo.TheVariants as timer_todo
 use Rattle.wbt_replay_moves.specs.declared.todo.Todo.TheVariants as todo
-use Rattle.wbt_replay_order.specs.declared.chance.Ahead.{Ahead}
-use Rattle.wbt_replay_order.specs.declared.chance.Ahead.TheVariants as ahead
-use Rattle.wbt_replay_order.specs.declared.chance.Chance.{Chance}
-use Rattle.wbt_replay_order.specs.declared.chance.Chance.TheVariants as chance
 use Rattle.wbt_replay_order.proofs.Facts.Lists.{either}
 use Rattle.wbt_replay_order.proofs.Growth.Quiet.{HasNames, Quiet, still, same_at, quiet_cpu}
 use Rattle.wbt_replay_order.proofs.Written.Same.{told_by, Wrote, unwritten, wrote_cpu}
 use Rattle.wbt_replay_order.proofs.Growth.Calm.{calm_turn, calm_step, calm_move, quiet_dirty}
+use Rattle.wbt_replay_order.proofs.Walk.{clocked, turned, walked}
 use Rattle.wbt_replay_changes.specs.Plain.{IsPlainStep}
 
 -- the CPU's first item is taken
@@ -137,61 +133,14 @@ module _ (trace : Trace) (P : State → Type 0) (frame : (s u : State) → Quiet
 
   -- ---- the order
 
-  by_found : (actor : Actor) (found : Chance) (more : List Stretch) (s : State) → Can s.now s.domains s.cpus s.tasks s.contexts → P s → P (begin_or_drop trace actor found more s)
-  by_found actor chance.Nothing more s can h = frame s (with_orders more s) (still s) (unwritten s) h
-  by_found actor chance.GoesOn more s can h = by_actor actor s can h
-  by_found actor (chance.Begins job place) more s can h = by_begin actor job place s h
-  by_found actor chance.TimerBegins more s can h = begins s h
-
-  by_line : (actor : Actor) (steps : ℕ) (next : Ahead) (more : List Stretch) (s : State) → Can s.now s.domains s.cpus s.tasks s.contexts → P s → P (follow trace actor steps next more s)
-  by_line actor steps ahead.Silent more s can h = by_actor actor s can h
-  by_line actor zero ahead.Step more s can h = frame s (with_orders more s) (still s) (unwritten s) h
-  by_line actor (suc steps) ahead.Step more s can h =
-      let u = with_orders (stretch.Steps actor steps ∷ more) s in by_actor actor u can (frame s u (still s) (unwritten s) h)
-  by_line actor zero ahead.Nothing more s can h = frame s (with_orders more s) (still s) (unwritten s) h
-  by_line actor (suc steps) ahead.Nothing more s can h = by_found actor (turn_at actor s) more s can h
-
-  by_moment : (found : Option ℕ) (s : State) → P s → P (at_moment found s)
-  by_moment None s h = h
-  by_moment (Some moment) s h = frame s (at_moment (Some moment) s) (still s) (unwritten s) h
-
-  by_take : (actor : Actor) (found : Chance) (s : State) → Can s.now s.domains s.cpus s.tasks s.contexts → P s → P (take trace actor found s)
-  by_take actor chance.Nothing s can h = h
-  by_take actor chance.GoesOn s can h = by_actor actor s can h
-  by_take actor (chance.Begins job place) s can h = by_begin actor job place s h
-  by_take actor chance.TimerBegins s can h = begins s h
-
-  by_seek : (tries place : ℕ) (s : State) → Can s.now s.domains s.cpus s.tasks s.contexts → P s → P (seek_turn trace tries place s)
-  unfolding seek_turn
-  by_seek zero place s can h = by_moment (next_moment s) s h
-  by_seek (suc tries) place s can h = by_chance (is_nothing (chance_of (actor_at place s) s)) (by_seek tries (after (length s.cpus + 1) place) s can h)
-    where
-      by_chance : (b : Bool) → P (seek_turn trace tries (after (length s.cpus + 1) place) s)
-          → P (elim b as (λ _. State) [ true ↦ seek_turn trace tries (after (length s.cpus + 1) place) s | false ↦ take_turn trace (actor_at place s) s ])
-      by_chance true behind = behind
-      by_chance false behind =
-          let actor : Actor = actor_at place s in
-          let u : State = record s { rotation = Some actor } in by_take actor (chance_of actor s) u can (frame s u (still s) (unwritten s) h)
-
-  by_next : (s : State) → Can s.now s.domains s.cpus s.tasks s.contexts → P s → P (next_turn trace s)
-  by_next s can h = by_seek (length s.cpus + 1) (place_after s.rotation s) s can h
-
-  by_finish : (actor : Actor) (next : Ahead) (s : State) → Can s.now s.domains s.cpus s.tasks s.contexts → P s → P (finish_turn trace actor next s)
-  by_finish actor ahead.Step s can h = by_actor actor s can h
-  by_finish actor ahead.Silent s can h = by_actor actor s can h
-  by_finish actor ahead.Nothing s can h = by_next s can h
-
-  by_rotation : (turn : Option Actor) (s : State) → Can s.now s.domains s.cpus s.tasks s.contexts → P s → P (rotate_from trace turn s)
-  by_rotation None s can h = by_next s can h
-  by_rotation (Some actor) s can h = by_finish actor (ahead_of actor s) s can h
-
-  by_orders : (orders : List Stretch) (s : State) → Can s.now s.domains s.cpus s.tasks s.contexts → P s → P (advance_by trace orders s)
-  by_orders [] s can h = by_rotation s.rotation s can h
-  by_orders (stretch.Tick ticks ∷ more) s can h = frame s (tick ticks more s) (still s) (unwritten s) h
-  by_orders (stretch.Steps actor steps ∷ more) s can h = by_line actor steps (ahead_of actor s) more s can h
-
   pub advance_all : (s : State) → Can s.now s.domains s.cpus s.tasks s.contexts → P s → P (advance trace s)
-  advance_all s can h = by_orders s.orders s can h
+  advance_all s can h =
+      walked trace s P (λ orders rotation now. frame s (clocked orders rotation now s) (still s) (unwritten s) h) (λ orders rotation actor. by_actor actor (turned orders rotation s) can (turn orders rotation))
+      (λ orders rotation actor job place idle is. by_begin actor job place (turned orders rotation s) (turn orders rotation))
+      (λ orders rotation actor idle is. begins (turned orders rotation s) (turn orders rotation))
+    where
+      turn : (orders : List Stretch) (rotation : Option Actor) → P (turned orders rotation s)
+      turn orders rotation = frame s (turned orders rotation s) (still s) (unwritten s) h
 
 -- likewise where a write is no other move
 module _ (trace : Trace) (P : State → Type 0) (frame : (s u : State) → Quiet s u → P s → P u)

@@ -1,12 +1,11 @@
 -- The run was once just past each of its steps, since a move makes one step at most.
-use Rattle.std.proofs.Common.{◌≡◌, ℕ, zero, suc, ◌+◌, ◌<◌, inl, Bool, true, false, List, [], ◌∷◌, length, take, get_or, refl, sym, ◌∙◌, ap, subst, arith, Option, Some, None, ⊎_elim, length-append, pos, inr}
+use Rattle.std.proofs.Common.{◌≡◌, ℕ, zero, suc, ◌+◌, ◌<◌, inl, List, [], ◌∷◌, length, take, get_or, refl, sym, ◌∙◌, ap, subst, arith, Option, Some, None, ⊎_elim, length-append, pos, inr}
 use Rattle.std.proofs.lemmas.Bool.{cases_Bool, cases_lt}
 use Rattle.std.proofs.lemmas.List.{take-append-le, take_all}
-use Rattle.wbt_replay_order.proofs.Common.{Trace, after_period, Half, StepEntry, make_step, make_timer_step, make_timer_move, begin_turn, begin_for, State, cpu_of, with_cpu, domain_of, with_timer, period_to, is_time, periods, Actor, Cpu, ReplayJob, Stretch, Whose, TimerSilent, TimerStep, TimerTodo, Todo, opening, actor_at, after, ahead_of, turn_at, job_at, is_full, is_halted, is_nothing, is_ended, spend, stop, cpu_on, timer_on, go_on, begin_job, begin, with_orders, begin_or_drop, follow, next_moment, at_moment, place_after, chance_of, take_turn, seek_turn, next_turn, finish_turn, rotate_from, advance_by, advance, most_moves, state_at, last_state, turn_keeps}
+use Rattle.wbt_replay_order.proofs.Common.{Trace, after_period, Half, StepEntry, make_step, make_timer_step, make_timer_move, begin_turn, begin_for, State, cpu_of, with_cpu, domain_of, with_timer, period_to, is_time, periods, Actor, Cpu, ReplayJob, Whose, TimerSilent, TimerStep, TimerTodo, Todo, opening, after, job_at, is_full, is_halted, is_ended, spend, stop, cpu_on, timer_on, go_on, begin_job, begin, advance, most_moves, state_at, last_state, turn_keeps}
 use Rattle.wbt_grant.specs.declared.who.StepKind.TheVariants as kind
 use Rattle.wbt_replay_moves.specs.declared.state.Actor.TheVariants as who
 use Rattle.wbt_replay_moves.specs.declared.state.ReplayJob.TheVariants as job
-use Rattle.wbt_replay_moves.specs.declared.state.Stretch.TheVariants as stretch
 use Rattle.wbt_replay_moves.specs.declared.state.Whose.TheVariants as whose
 use Rattle.wbt_replay_moves.specs.declared.todo.TimerSilent.TheVariants as timer_silent
 use Rattle.wbt_replay_moves.specs.declared.todo.TimerStep.TheVariants as timer_step
@@ -14,14 +13,11 @@ use Rattle.wbt_replay_moves.specs.declared.todo.TimerTodo.TheVariants as timer_t
 use Rattle.wbt_replay_moves.specs.declared.todo.Todo.TheVariants as todo
 use Rattle.wbt_replay_order.specs.Claims.Bound.{WasPast}
 use Rattle.wbt_replay_order.specs.Definition.Order as order
-use Rattle.wbt_replay_order.specs.declared.chance.Ahead.{Ahead}
-use Rattle.wbt_replay_order.specs.declared.chance.Ahead.TheVariants as ahead
-use Rattle.wbt_replay_order.specs.declared.chance.Chance.{Chance}
-use Rattle.wbt_replay_order.specs.declared.chance.Chance.TheVariants as chance
 use Rattle.wbt_replay_order.proofs.Facts.Lists.{either}
 use Rattle.wbt_replay_order.proofs.Growth.Growing.{Grew, Steps, Silently, one_step, both_silent, grew_step, silent_change, then_silent, silent_move}
 use Rattle.wbt_replay_changes.proofs.Keeping.{for_keeps}
 use Rattle.wbt_replay_order.proofs.Growth.Runs.{run_last, run_stays}
+use Rattle.wbt_replay_order.proofs.Walk.{turned, walked}
 
 -- ---- the beginning of a turn
 
@@ -94,59 +90,10 @@ grew_actor : (trace : Trace) (actor : Actor) (s : State) → Anyone s (go_on tra
 grew_actor trace (who.Cpu i) s = (i, grew_cpu trace i (cpu_of i s).todo s)
 grew_actor trace who.Timer s = (length s.cpus, grew_timer trace s.timer.todo s)
 
-grew_found : (trace : Trace) (actor : Actor) (found : Chance) (more : List Stretch) (s : State) → Anyone s (begin_or_drop trace actor found more s)
-grew_found trace actor chance.Nothing more s = (0, inl refl)
-grew_found trace actor chance.GoesOn more s = grew_actor trace actor s
-grew_found trace actor (chance.Begins job place) more s = (0, inl (silent_begin trace actor job place s))
-grew_found trace actor chance.TimerBegins more s = (0, inl refl)
-
-grew_line : (trace : Trace) (actor : Actor) (steps : ℕ) (next : Ahead) (more : List Stretch) (s : State) → Anyone s (follow trace actor steps next more s)
-grew_line trace actor steps ahead.Silent more s = grew_actor trace actor s
-grew_line trace actor zero ahead.Step more s = (0, inl refl)
-grew_line trace actor (suc steps) ahead.Step more s = grew_actor trace actor (with_orders (stretch.Steps actor steps ∷ more) s)
-grew_line trace actor zero ahead.Nothing more s = (0, inl refl)
-grew_line trace actor (suc steps) ahead.Nothing more s = grew_found trace actor (turn_at actor s) more s
-
-silent_moment : (found : Option ℕ) (s : State) → Silently s (at_moment found s)
-silent_moment None s = refl
-silent_moment (Some moment) s = refl
-
-grew_take : (trace : Trace) (actor : Actor) (found : Chance) (s : State) → Anyone s (order.take trace actor found s)
-grew_take trace actor chance.Nothing s = (0, inl refl)
-grew_take trace actor chance.GoesOn s = grew_actor trace actor s
-grew_take trace actor (chance.Begins job place) s = (0, inl (silent_begin trace actor job place s))
-grew_take trace actor chance.TimerBegins s = (0, inl refl)
-
-grew_seek : (trace : Trace) (tries place : ℕ) (s : State) → Anyone s (seek_turn trace tries place s)
-unfolding seek_turn
-grew_seek trace zero place s = (0, inl (silent_moment (next_moment s) s))
-grew_seek trace (suc tries) place s = by_chance (is_nothing (chance_of (actor_at place s) s)) (grew_seek trace tries (after (length s.cpus + 1) place) s)
-  where
-    by_chance : (b : Bool) → Anyone s (seek_turn trace tries (after (length s.cpus + 1) place) s)
-        → Anyone s (elim b as (λ _. State) [ true ↦ seek_turn trace tries (after (length s.cpus + 1) place) s | false ↦ take_turn trace (actor_at place s) s ])
-    by_chance true behind = behind
-    by_chance false behind =
-        let actor : Actor = actor_at place s in grew_take trace actor (chance_of actor s) (record s { rotation = Some actor })
-
-grew_next : (trace : Trace) (s : State) → Anyone s (next_turn trace s)
-grew_next trace s = grew_seek trace (length s.cpus + 1) (place_after s.rotation s) s
-
-grew_finish : (trace : Trace) (actor : Actor) (next : Ahead) (s : State) → Anyone s (finish_turn trace actor next s)
-grew_finish trace actor ahead.Step s = grew_actor trace actor s
-grew_finish trace actor ahead.Silent s = grew_actor trace actor s
-grew_finish trace actor ahead.Nothing s = grew_next trace s
-
-grew_rotation : (trace : Trace) (turn : Option Actor) (s : State) → Anyone s (rotate_from trace turn s)
-grew_rotation trace None s = grew_next trace s
-grew_rotation trace (Some actor) s = grew_finish trace actor (ahead_of actor s) s
-
-grew_orders : (trace : Trace) (orders : List Stretch) (s : State) → Anyone s (advance_by trace orders s)
-grew_orders trace [] s = grew_rotation trace s.rotation s
-grew_orders trace (stretch.Tick ticks ∷ more) s = (0, inl refl)
-grew_orders trace (stretch.Steps actor steps ∷ more) s = grew_line trace actor steps (ahead_of actor s) more s
-
 pub advance_grows : (trace : Trace) (s : State) → (number : ℕ) × Grew number s.steps (advance trace s).steps s.timer.todo
-advance_grows trace s = grew_orders trace s.orders s
+advance_grows trace s =
+    walked trace s (Anyone s) (λ orders rotation now. (0, inl refl)) (λ orders rotation actor. grew_actor trace actor (turned orders rotation s))
+    (λ orders rotation actor job place idle is. (0, inl (silent_begin trace actor job place (turned orders rotation s)))) (λ orders rotation actor idle is. (0, inl refl))
 
 -- ---- the moments just past each step
 

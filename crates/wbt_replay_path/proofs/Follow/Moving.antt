@@ -1,14 +1,13 @@
 -- Each move of the run follows the step relation: items by their kinds, turns that begin, order lines, the rotation and the clock.
-use Rattle.std.proofs.Common.{◌≡◌, ℕ, zero, suc, ◌+◌, ◌<◌, ◌≤◌, Bool, true, false, Option, Some, None, List, [], ◌∷◌, length, get_or, All, refl, sym, ap, subst, arith, ⊎_elim}
+use Rattle.std.proofs.Common.{◌≡◌, ℕ, ◌<◌, ◌≤◌, true, false, Option, List, [], ◌∷◌, length, get_or, All, refl, sym, ap, subst, arith, ⊎_elim}
 use Rattle.std.proofs.lemmas.Bool.{cases_lt}
 use Rattle.std.proofs.lemmas.Bool.Decides.{nat_tests}
 use Rattle.std.proofs.lemmas.List.{get_or_past}
 use Rattle.std.proofs.lemmas.List.Elements.{All-head}
-use Rattle.wbt_replay_order.proofs.Common.{Trace, Setting, Rule, make_step, make_move, make_timer_step, make_timer_move, begin_turn, State, no_cpu, cpu_of, with_cpu, with_timer, Actor, Cpu, ReplayJob, Stretch, Whose, Silent, Step, TimerSilent, TimerStep, TimerTodo, Todo, first_cpu, actor_at, after, ahead_of, job_at, is_nothing, turn_at, is_full, is_halted, stop, step_or_stop, cpu_on, timer_on, go_on, begin_job, begin, begin_or_drop, follow, at_moment, next_moment, place_after, chance_of, take, take_turn, seek_turn, next_turn, finish_turn, rotate_from, advance_by, advance, Facts, IsJobOn, IsTaskOn, Suits, Follows, Moves, silently, Ranges, IsTurnOf, TimerItemFits, ItemFits}
+use Rattle.wbt_replay_order.proofs.Common.{Trace, Setting, Rule, make_step, make_move, make_timer_step, make_timer_move, begin_turn, State, no_cpu, cpu_of, with_cpu, with_timer, Actor, Cpu, ReplayJob, Stretch, Whose, Silent, Step, TimerSilent, TimerStep, TimerTodo, Todo, first_cpu, after, ahead_of, job_at, turn_at, is_full, is_halted, stop, step_or_stop, cpu_on, timer_on, go_on, begin_job, begin, advance, Facts, IsJobOn, IsTaskOn, Suits, Follows, Moves, silently, Ranges, IsTurnOf, TimerItemFits, ItemFits}
 use Rattle.wbt_grant.specs.State as throttle
 use Rattle.wbt_replay_moves.specs.declared.state.Actor.TheVariants as who
 use Rattle.wbt_replay_moves.specs.declared.state.ReplayJob.TheVariants as job
-use Rattle.wbt_replay_moves.specs.declared.state.Stretch.TheVariants as stretch
 use Rattle.wbt_replay_moves.specs.declared.state.Whose.TheVariants as whose
 use Rattle.wbt_replay_moves.specs.declared.todo.Silent.TheVariants as silent
 use Rattle.wbt_replay_moves.specs.declared.todo.Step.TheVariants as item
@@ -16,14 +15,14 @@ use Rattle.wbt_replay_moves.specs.declared.todo.TimerSilent.TheVariants as timer
 use Rattle.wbt_replay_moves.specs.declared.todo.TimerStep.TheVariants as timer_step
 use Rattle.wbt_replay_moves.specs.declared.todo.TimerTodo.TheVariants as timer_todo
 use Rattle.wbt_replay_moves.specs.declared.todo.Todo.TheVariants as todo
-use Rattle.wbt_replay_order.specs.declared.chance.Ahead.{Ahead}
 use Rattle.wbt_replay_order.specs.declared.chance.Ahead.TheVariants as ahead
 use Rattle.wbt_replay_order.specs.declared.chance.Chance.{Chance}
 use Rattle.wbt_replay_order.specs.declared.chance.Chance.TheVariants as chance
 use Rattle.wbt_replay_order.specs.Kept.Turns.{StepFits}
 use Rattle.wbt_replay_order.proofs.Facts.Lists.{either}
+use Rattle.wbt_replay_order.proofs.Walk.{turned, walked}
 use Rattle.wbt_replay_path.proofs.Follow.Begins.{begin_moves as turn_begun}
-use Rattle.wbt_replay_order.proofs.Frames.Chances.{IsPlace, IsSeeker, CanBegin, MayBegin, may_moved, turn_begins, chance_begins, turned_state}
+use Rattle.wbt_replay_order.proofs.Frames.Chances.{IsPlace, IsSeeker, CanBegin, MayBegin, may_moved, turn_begins, turned_state}
 use Rattle.wbt_replay_path.proofs.Follow.Counters.{add_moves, fold_moves, clear_moves}
 use Rattle.wbt_replay_path.proofs.Follow.Decided.{decide_moves}
 use Rattle.wbt_replay_path.proofs.Follow.Dirtying.{dirty_moves}
@@ -155,14 +154,11 @@ module _ (trace : Trace) (setting : Setting) (suits : Suits trace setting) (fact
       job_moves i (omega (arith, can.0, fits.ranges.cpus)) (after (length (cpu_of i s).jobs) which) can.1 which place (job_at which (cpu_of i s)) refl can.2 can.3
   begin_moves who.Timer which place can = absurd can
 
--- ---- orders, the rotation and the moment aren't followed
+-- ---- orders and the rotation aren't followed
 
-abbrev moved : (now : ℕ) (orders : List Stretch) (turn : Option Actor) (s : State) → State
-moved now orders turn s = record s { now = now; orders = orders; rotation = turn }
-
-moved_fits : (trace : Trace) (setting : Setting) (now : ℕ) (orders : List Stretch) (turn : Option Actor) (s : State) → Fits trace setting s
-    → Fits trace setting (moved now orders turn s)
-moved_fits trace setting now orders turn s fits =
+turned_fits : (trace : Trace) (setting : Setting) (orders : List Stretch) (turn : Option Actor) (s : State) → Fits trace setting s
+    → Fits trace setting (turned orders turn s)
+turned_fits trace setting orders turn s fits =
     let ranges = fits.ranges in
     record {
       ranges = record {
@@ -194,75 +190,27 @@ moved_fits trace setting now orders turn s fits =
 
 -- ---- the order
 
-module _ (trace : Trace) (setting : Setting) (suits : Suits trace setting) (facts : Facts trace) (t : throttle.State) (rule : Rule setting t) where
-  actor_moves : (s : State) → Fits trace setting s → Follows trace setting s t → (actor : Actor) → Moves trace setting s.steps (go_on trace actor s) t
-  actor_moves s fits h actor = go_on_moves trace setting suits facts s t fits rule h actor
+module _ (trace : Trace) (setting : Setting) (suits : Suits trace setting) (facts : Facts trace) (t : throttle.State) (rule : Rule setting t) (s : State) (fits : Fits trace setting s)
+    (h : Follows trace setting s t) where
+  seeks : (i : ℕ) → i < length s.cpus → IsSeeker (cpu_of i s)
+  seeks i below =
+      let placed = fits.placed i (omega (arith, below, fits.ranges.cpus)) in
+      record { next = placed.next; next_task = placed.next_task }
 
-  take_moves : (s : State) → Fits trace setting s → Follows trace setting s t → (actor : Actor) (found : Chance) → MayBegin actor found s → Moves trace setting s.steps (take trace actor found s) t
-  take_moves s fits h actor chance.Nothing may = silently refl h
-  take_moves s fits h actor chance.GoesOn may = actor_moves s fits h actor
-  take_moves s fits h actor (chance.Begins which place) may = begin_moves trace setting suits facts s t fits rule h actor which place may
-  take_moves s fits h actor chance.TimerBegins may = begin_timer_moves trace setting suits s t fits.ranges h may
+  -- who has nothing ahead may begin what it was found to begin, also where it is another's turn
+  may_begin : (orders : List Stretch) (rotation : Option Actor) (actor : Actor) (found : Chance) → ahead_of actor s ≡ ahead.Nothing → turn_at actor s ≡ found
+      → MayBegin actor found (turned orders rotation s)
+  may_begin orders rotation actor found idle is =
+      may_moved s.now orders rotation s actor found (subst (λ (c : Chance). MayBegin actor c s) is (turn_begins s seeks actor idle))
 
-  module _ (s : State) (fits : Fits trace setting s) (h : Follows trace setting s t) where
-    seeks : (i : ℕ) → i < length s.cpus → IsSeeker (cpu_of i s)
-    seeks i below =
-        let placed = fits.placed i (omega (arith, below, fits.ranges.cpus)) in
-        record { next = placed.next; next_task = placed.next_task }
-
-    clock_moves : (found : Option ℕ) → Moves trace setting s.steps (at_moment found s) t
-    clock_moves None = silently refl h
-    clock_moves (Some moment) = silently refl h
-
-    turn_moves : (actor : Actor) → Moves trace setting s.steps (take_turn trace actor s) t
-    turn_moves actor =
-        take_moves (moved s.now s.orders (Some actor) s) (moved_fits trace setting s.now s.orders (Some actor) s fits) h actor (chance_of actor s)
-        (may_moved s.now s.orders (Some actor) s actor (chance_of actor s) (chance_begins s seeks actor))
-
-    seek_moves : (tries place : ℕ) → Moves trace setting s.steps (seek_turn trace tries place s) t
-    unfolding seek_turn
-    seek_moves zero place = clock_moves (next_moment s)
-    seek_moves (suc tries) place =
-        by_first (is_nothing (chance_of (actor_at place s) s)) (seek_moves tries (after (length s.cpus + 1) place)) (turn_moves (actor_at place s))
-      where
-        by_first : (b : Bool) → Moves trace setting s.steps (seek_turn trace tries (after (length s.cpus + 1) place) s) t
-            → Moves trace setting s.steps (take_turn trace (actor_at place s) s) t
-            → Moves trace setting s.steps (elim b as (λ _. State)
-            [ true ↦ seek_turn trace tries (after (length s.cpus + 1) place) s | false ↦ take_turn trace (actor_at place s) s ]) t
-        by_first true later now = later
-        by_first false later now = now
-
-    next_moves : Moves trace setting s.steps (next_turn trace s) t
-    next_moves = seek_moves (length s.cpus + 1) (place_after s.rotation s)
-
-    finish_moves : (actor : Actor) (next : Ahead) → Moves trace setting s.steps (finish_turn trace actor next s) t
-    finish_moves actor ahead.Step = actor_moves s fits h actor
-    finish_moves actor ahead.Silent = actor_moves s fits h actor
-    finish_moves actor ahead.Nothing = next_moves
-
-    rotate_moves : (turn : Option Actor) → Moves trace setting s.steps (rotate_from trace turn s) t
-    rotate_moves None = next_moves
-    rotate_moves (Some actor) = finish_moves actor (ahead_of actor s)
-
-    drop_moves : (actor : Actor) (found : Chance) → MayBegin actor found s → (more : List Stretch) → Moves trace setting s.steps (begin_or_drop trace actor found more s) t
-    drop_moves actor chance.Nothing may more = silently refl h
-    drop_moves actor chance.GoesOn may more = actor_moves s fits h actor
-    drop_moves actor (chance.Begins which place) may more = take_moves s fits h actor (chance.Begins which place) may
-    drop_moves actor chance.TimerBegins may more = take_moves s fits h actor chance.TimerBegins may
-
-    follow_moves : (actor : Actor) (steps : ℕ) (next : Ahead) → ahead_of actor s ≡ next → (more : List Stretch) → Moves trace setting s.steps (follow trace actor steps next more s) t
-    follow_moves actor steps ahead.Silent is more = actor_moves s fits h actor
-    follow_moves actor zero ahead.Step is more = silently refl h
-    follow_moves actor (suc steps) ahead.Step is more =
-        actor_moves (moved s.now (stretch.Steps actor steps ∷ more) s.rotation s) (moved_fits trace setting s.now (stretch.Steps actor steps ∷ more) s.rotation s fits) h actor
-    follow_moves actor zero ahead.Nothing is more = silently refl h
-    follow_moves actor (suc steps) ahead.Nothing is more = drop_moves actor (turn_at actor s) (turn_begins s seeks actor is) more
-
-    advance_by_moves : (orders : List Stretch) → Moves trace setting s.steps (advance_by trace orders s) t
-    advance_by_moves [] = rotate_moves s.rotation
-    advance_by_moves (stretch.Tick ticks ∷ more) = silently refl h
-    advance_by_moves (stretch.Steps actor steps ∷ more) = follow_moves actor steps (ahead_of actor s) refl more
-
-    -- each move of the run
-    pub advance_moves : Moves trace setting s.steps (advance trace s) t
-    advance_moves = advance_by_moves s.orders
+  -- each move of the run
+  pub advance_moves : Moves trace setting s.steps (advance trace s) t
+  advance_moves =
+      walked trace s (λ (u : State). Moves trace setting s.steps u t) (λ orders rotation now. silently refl h)
+      (λ orders rotation actor. go_on_moves trace setting suits facts (turned orders rotation s) t (turned_fits trace setting orders rotation s fits) rule h actor)
+      (λ orders rotation actor which place idle is.
+      begin_moves trace setting suits facts (turned orders rotation s) t (turned_fits trace setting orders rotation s fits) rule h actor which place
+      (may_begin orders rotation actor (chance.Begins which place) idle is))
+      (λ orders rotation actor idle is.
+      begin_timer_moves trace setting suits (turned orders rotation s) t (turned_fits trace setting orders rotation s fits).ranges h
+      (may_begin orders rotation actor chance.TimerBegins idle is))

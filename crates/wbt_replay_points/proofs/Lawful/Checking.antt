@@ -35,7 +35,8 @@ use Rattle.wbt_replay_points.proofs.Lawful.Same.{told_of, told_same, task_view, 
 use Rattle.wbt_replay_points.proofs.Lawful.Sides.{DecidesAmong, goes, nth_more, leads_on, IsLonger, same_longer, views, among, HasSide, HasSides, alone_in, longer_then, sides_move, side_by}
 use Rattle.wbt_replay_points.proofs.Lawful.Siding.{View, is_waiting}
 use Rattle.wbt_replay_points.proofs.Lawful.Standing.{StandsAs, leaked_by, writes_quietly, known_stands, fresh_stands, checked_writer_is, check_is_due, check_stands, end_stands, may_end, rest_stands}
-use Rattle.wbt_replay_points.proofs.Lawful.Walk.{turned, advance_seen, starts_of}
+use Rattle.wbt_replay_order.proofs.Walk.{turned}
+use Rattle.wbt_replay_points.proofs.Lawful.Walk.{advance_seen, starts_of}
 use Rattle.wbt_replay_order.proofs.Lists.Numbered.{is_there}
 use Rattle.wbt_replay_order.proofs.Written.Dirtying.{pages_before}
 use Rattle.wbt_replay_order.proofs.Written.Same.{pages_of, to_write}

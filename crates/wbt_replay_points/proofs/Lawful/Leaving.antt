@@ -13,7 +13,7 @@ use Rattle.wbt_replay_moves.specs.declared.todo.Todo.TheVariants as todo
 use Rattle.wbt_replay_order.proofs.Facts.Lists.{either}
 use Rattle.wbt_replay_points.proofs.Lawful.Now.{WritesNow, counted_cpu}
 use Rattle.wbt_replay_points.proofs.Lawful.Same.{log_of}
-use Rattle.wbt_replay_points.proofs.Lawful.Walk.{turned}
+use Rattle.wbt_replay_order.proofs.Walk.{turned}
 
 -- ---- a page is written
 

@@ -7,7 +7,7 @@ use Rattle.wbt_replay_moves.specs.declared.todo.Todo.TheVariants as todo
 use Rattle.wbt_replay_points.proofs.Lawful.Items as items
 use Rattle.wbt_replay_points.proofs.Lawful.Now.{WritesNow, DecidesNow, EndsNow, ScansNow, CompletesNow, EstimatesNow, entry_of, ListsNow, Starts}
 use Rattle.wbt_replay_points.proofs.Lawful.Same.{log_of, Hidden, GoesOn}
-use Rattle.wbt_replay_points.proofs.Lawful.Walk.{turned}
+use Rattle.wbt_replay_order.proofs.Walk.{turned}
 use Rattle.wbt_expiry.specs.Waiting.{Waiting as Wheel}
 
 module _ (trace : Trace) (facts : Facts trace) (R : State → State → Type 0) (hide : (s u : State) → Hidden s u → R s u) (thens : (s u v : State) → R s u → R u v → R s v)

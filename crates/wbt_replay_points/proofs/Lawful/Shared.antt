@@ -24,7 +24,8 @@ use Rattle.wbt_replay_points.proofs.Lawful.Now.{DecidesNow, EndsNow, ScansNow, C
 use Rattle.wbt_replay_points.proofs.Lawful.Leaving.{KnownWrites, FreshWrites, over_known, over_fresh}
 use Rattle.wbt_replay_points.proofs.Lawful.Logs.{IsInOrder, told_logged, order_logged, told_checked, order_checked, told_estimated, order_estimated, IsTold}
 use Rattle.wbt_replay_points.proofs.Lawful.Same.{log_of, told_of, Hidden, noted_of}
-use Rattle.wbt_replay_points.proofs.Lawful.Walk.{turned, advance_seen, starts_of}
+use Rattle.wbt_replay_order.proofs.Walk.{turned}
+use Rattle.wbt_replay_points.proofs.Lawful.Walk.{advance_seen, starts_of}
 use Rattle.std.proofs.lemmas.List.Elements.{All-head}
 use Rattle.std.proofs.lemmas.List.Sums.{sum_by-cons, sum_by-append}
 use Rattle.std.proofs.lemmas.Nat.{shr_le}

@@ -21,7 +21,8 @@ use Rattle.wbt_replay_order.proofs.Facts.Lists.{either}
 use Rattle.wbt_replay_points.proofs.Lawful.Plainly.{steps_seen, moves_seen, see_turn}
 use Rattle.wbt_replay_points.proofs.Lawful.Same.{Hidden}
 use Rattle.wbt_replay_points.proofs.Lawful.Timing.{IsTimedIn, lines_of, loaded, raised, unsealed, drafted, published, unbegun, begun, rests, turns, AreFirst, are_first, opened_first}
-use Rattle.wbt_replay_points.proofs.Lawful.Walk.{turned, advance_seen, starts_of}
+use Rattle.wbt_replay_order.proofs.Walk.{turned}
+use Rattle.wbt_replay_points.proofs.Lawful.Walk.{advance_seen, starts_of}
 
 fun_same : (f g : ℕ → ℕ) → ((n : ℕ) → f n ≡ g n) → f ≡ g
 fun_same f g same = fun_ext same

@@ -1,26 +1,21 @@
 -- A move of a run, from what each item, each turn and each move of the timer does.
-use Rattle.std.proofs.Common.{◌≡◌, ℕ, zero, suc, ◌+◌, ◌<◌, Bool, true, false, not, ◌&&◌, cond, leb, List, [], ◌∷◌, length, get_or, Option, Some, None, refl, sym, ap, subst, ⊎_elim, All, arith, ◌∙◌}
+use Rattle.std.proofs.Common.{◌≡◌, ℕ, zero, suc, ◌+◌, ◌<◌, Bool, true, false, not, ◌&&◌, cond, leb, List, [], ◌∷◌, length, get_or, Option, refl, sym, ap, subst, ⊎_elim, All, arith, ◌∙◌}
 use Rattle.std.proofs.lemmas.Bool.{cases_lt}
 use Rattle.std.proofs.lemmas.List.{get_or_past}
-use Rattle.wbt_replay_order.proofs.Common.{Trace, make_step, make_move, make_timer_step, make_timer_move, begin_turn, State, no_cpu, cpu_of, with_cpu, task_of, is_drained, begin_timer, with_timer, Actor, Cpu, ReplayJob, Stretch, Whose, Silent, Step, TimerSilent, TimerStep, TimerTodo, Todo, actor_at, after, ahead_of, todo_ahead, timer_todo_ahead, timer_turn, turn_at, task_turn, job_turn, job_at, seek_job, is_task_ready, is_full, is_halted, is_nothing, spend, stop, cpu_on, timer_on, go_on, begin_job, begin, begin_or_drop, follow, next_moment, at_moment, place_after, chance_of, chance_by, take, take_turn, seek_turn, next_turn, finish_turn, rotate_from, tick, advance_by, advance, Facts, IsFlusherOn, IsJobOn, Sound}
+use Rattle.wbt_replay_order.proofs.Common.{Trace, make_step, make_move, make_timer_step, make_timer_move, begin_turn, State, no_cpu, cpu_of, with_cpu, task_of, is_drained, begin_timer, with_timer, Actor, Cpu, ReplayJob, Stretch, Whose, Silent, Step, TimerSilent, TimerStep, TimerTodo, Todo, after, ahead_of, todo_ahead, timer_todo_ahead, timer_turn, turn_at, task_turn, job_turn, job_at, seek_job, is_task_ready, is_full, is_halted, is_nothing, spend, stop, cpu_on, timer_on, go_on, begin_job, begin, advance, Facts, IsFlusherOn, IsJobOn, Sound}
 use Rattle.wbt_replay_moves.specs.declared.state.Actor.TheVariants as who
 use Rattle.wbt_replay_moves.specs.declared.state.ReplayJob.TheVariants as job
-use Rattle.wbt_replay_moves.specs.declared.state.Stretch.TheVariants as stretch
 use Rattle.wbt_replay_moves.specs.declared.state.Whose.TheVariants as whose
 use Rattle.wbt_replay_moves.specs.declared.todo.TimerTodo.TheVariants as timer_todo
 use Rattle.wbt_replay_moves.specs.declared.todo.Todo.TheVariants as todo
-use Rattle.wbt_replay_order.specs.declared.chance.Ahead.{Ahead}
 use Rattle.wbt_replay_order.specs.declared.chance.Ahead.TheVariants as ahead
 use Rattle.wbt_replay_order.specs.declared.chance.Chance.{Chance}
 use Rattle.wbt_replay_order.specs.declared.chance.Chance.TheVariants as chance
+use Rattle.wbt_replay_order.proofs.Facts.Jobs.{flusher_on}
 use Rattle.wbt_replay_order.proofs.Facts.Lists.{either}
+use Rattle.wbt_replay_order.proofs.Walk.{clocked, turned, walked}
 use Rattle.wbt_replay_points.proofs.Lawful.Same.{log_of, Hidden, still, hide_cpu, GoesOn, same_turn}
 use Rattle.wbt_replay_points.proofs.Lawful.Now.{Starts}
-use Rattle.std.proofs.lemmas.List.Elements.{All-get_or}
-
--- the same where it is another's turn in the rotation, with other order lines
-abbrev pub turned : (orders : List Stretch) (rotation : Option Actor) (s : State) → State
-turned orders rotation s = record s { orders = orders; rotation = rotation }
 
 -- A flusher that a job of a CPU names is one of the CPU.
 pub starts_of : (trace : Trace) → Facts trace → (s : State) → Sound trace s → (i n f : ℕ) → job_at n (cpu_of i s) ≡ job.Flusher f → Starts trace i (whose.Flusher f) s
@@ -28,19 +23,13 @@ starts_of trace facts s sound i n f is = ⊎_elim
     (λ less.
     let inside : i < trace.cpus = omega (arith, less, sound.holds.cpus.many) in
     let all : All (IsJobOn trace i) (cpu_of i s).jobs = subst (All (IsJobOn trace i)) (sym (sound.holds.cpus.each i inside).jobs) (facts.jobs i) in
-    let on : IsFlusherOn trace i f = job_there (cpu_of i s).jobs all is in
+    let on : IsFlusherOn trace i f = flusher_on trace i f n (cpu_of i s).jobs all is in
     (less, on, omega (arith, on.there, sound.holds.flushers.many)))
     (λ past. absurd (no_writer (sym (get_or_past [] n job.Writer (omega arith)) ∙ (sym (ap (λ (c : Cpu). get_or c.jobs n job.Writer) (get_or_past s.cpus i no_cpu past)) ∙ is))))
     (cases_lt i (length s.cpus))
   where
     no_writer : job.Writer ≡ job.Flusher f → ⊥
     no_writer e = cc e
-
-    job_there : (js : List ReplayJob) → All (IsJobOn trace i) js → get_or js n job.Writer ≡ job.Flusher f → IsFlusherOn trace i f
-    job_there js all e = ⊎_elim
-        (λ l. subst (IsJobOn trace i) e (All-get_or (IsJobOn trace i) js n job.Writer l all))
-        (λ past. absurd (no_writer (sym (get_or_past js n job.Writer past) ∙ e)))
-        (cases_lt n (length js))
 
 module _ (trace : Trace) (R : State → State → Type 0) (hide : (s u : State) → Hidden s u → R s u) (thens : (s u v : State) → R s u → R u v → R s v) (s0 : State)
     (starts : (i n f : ℕ) → job_at n (cpu_of i s0) ≡ job.Flusher f → Starts trace i (whose.Flusher f) s0)
@@ -173,73 +162,19 @@ module _ (trace : Trace) (R : State → State → Type 0) (hide : (s u : State) 
   turn_begins (who.Cpu i) none = cpu_begins i none
   turn_begins who.Timer none = timer_begins none
 
-  chance_begins : (actor : Actor) (next : Ahead) → ahead_of actor s0 ≡ next → Begins actor (chance_by next actor s0)
-  chance_begins actor ahead.Step is = tt
-  chance_begins actor ahead.Silent is = tt
-  chance_begins actor ahead.Nothing is = turn_begins actor is
-
   -- ---- the order
 
-  by_take : (orders : List Stretch) (rotation : Option Actor) (actor : Actor) (found : Chance) → Begins actor found → R (m orders rotation) (take trace actor found (m orders rotation))
-  by_take orders rotation actor chance.Nothing may = same (m orders rotation)
-  by_take orders rotation actor chance.GoesOn may = by_actor orders rotation actor
-  by_take orders rotation actor (chance.Begins n place) may = by_begin orders rotation actor n place may
-  by_take orders rotation actor chance.TimerBegins may = begins orders rotation may.0 may.1
-
-  -- from the state itself
-  itself : (actor : Actor) → R s0 (go_on trace actor s0)
-  itself actor = by_actor s0.orders s0.rotation actor
-
-  by_found : (actor : Actor) (found : Chance) (more : List Stretch) → Begins actor found → R s0 (begin_or_drop trace actor found more s0)
-  by_found actor chance.Nothing more may = ordered more s0.rotation
-  by_found actor chance.GoesOn more may = itself actor
-  by_found actor (chance.Begins n place) more may = by_begin s0.orders s0.rotation actor n place may
-  by_found actor chance.TimerBegins more may = begins s0.orders s0.rotation may.0 may.1
-
-  by_line : (actor : Actor) (count : ℕ) (next : Ahead) (more : List Stretch) → ahead_of actor s0 ≡ next → R s0 (follow trace actor count next more s0)
-  by_line actor count ahead.Silent more is = itself actor
-  by_line actor zero ahead.Step more is = ordered more s0.rotation
-  by_line actor (suc count) ahead.Step more is =
-      let orders : List Stretch = stretch.Steps actor count ∷ more in
-      thens s0 (m orders s0.rotation) (go_on trace actor (m orders s0.rotation)) (ordered orders s0.rotation) (by_actor orders s0.rotation actor)
-  by_line actor zero ahead.Nothing more is = ordered more s0.rotation
-  by_line actor (suc count) ahead.Nothing more is = by_found actor (turn_at actor s0) more (turn_begins actor is)
-
-  by_moment : (found : Option ℕ) → R s0 (at_moment found s0)
-  by_moment None = same s0
-  by_moment (Some moment) = hide s0 (at_moment (Some moment) s0) (still s0)
-
-  by_turn : (actor : Actor) → R s0 (take_turn trace actor s0)
-  by_turn actor =
-      let u = m s0.orders (Some actor) in
-      thens s0 u (take_turn trace actor s0) (ordered s0.orders (Some actor)) (by_take s0.orders (Some actor) actor (chance_of actor s0) (chance_begins actor (ahead_of actor s0) refl))
-
-  by_seek : (tries place : ℕ) → R s0 (seek_turn trace tries place s0)
-  unfolding seek_turn
-  by_seek zero place = by_moment (next_moment s0)
-  by_seek (suc tries) place = by_chance (is_nothing (chance_of (actor_at place s0) s0)) (by_seek tries (after (length s0.cpus + 1) place)) (by_turn (actor_at place s0))
-    where
-      by_chance : (b : Bool) → R s0 (seek_turn trace tries (after (length s0.cpus + 1) place) s0) → R s0 (take_turn trace (actor_at place s0) s0)
-          → R s0 (elim b as (λ _. State) [ true ↦ seek_turn trace tries (after (length s0.cpus + 1) place) s0 | false ↦ take_turn trace (actor_at place s0) s0 ])
-      by_chance true behind now = behind
-      by_chance false behind now = now
-
-  by_next : R s0 (next_turn trace s0)
-  by_next = by_seek (length s0.cpus + 1) (place_after s0.rotation s0)
-
-  by_finish : (actor : Actor) (next : Ahead) → R s0 (finish_turn trace actor next s0)
-  by_finish actor ahead.Step = itself actor
-  by_finish actor ahead.Silent = itself actor
-  by_finish actor ahead.Nothing = by_next
-
-  by_rotation : (turn : Option Actor) → R s0 (rotate_from trace turn s0)
-  by_rotation None = by_next
-  by_rotation (Some actor) = by_finish actor (ahead_of actor s0)
-
-  by_orders : (orders : List Stretch) → R s0 (advance_by trace orders s0)
-  by_orders [] = by_rotation s0.rotation
-  by_orders (stretch.Tick ticks ∷ more) = hide s0 (tick ticks more s0) (still s0)
-  by_orders (stretch.Steps actor count ∷ more) = by_line actor count (ahead_of actor s0) more refl
+  -- it began where it has nothing to do
+  may_begin : (actor : Actor) (found : Chance) → ahead_of actor s0 ≡ ahead.Nothing → turn_at actor s0 ≡ found → Begins actor found
+  may_begin actor found idle is = subst (Begins actor) is (turn_begins actor idle)
 
   pub advance_seen : R s0 (advance trace s0)
-  advance_seen = by_orders s0.orders
+  advance_seen =
+      walked trace s0 (R s0) (λ orders rotation now. hide s0 (clocked orders rotation now s0) (still s0))
+      (λ orders rotation actor. thens s0 (m orders rotation) (go_on trace actor (m orders rotation)) (ordered orders rotation) (by_actor orders rotation actor))
+      (λ orders rotation actor n place idle is.
+      thens s0 (m orders rotation) (begin trace actor n place (m orders rotation)) (ordered orders rotation)
+      (by_begin orders rotation actor n place (may_begin actor (chance.Begins n place) idle is)))
+      (λ orders rotation actor idle is.
+      let may : Begins actor chance.TimerBegins = may_begin actor chance.TimerBegins idle is in
+      thens s0 (m orders rotation) (begin_timer (m orders rotation)) (ordered orders rotation) (begins orders rotation may.0 may.1))

@@ -1,9 +1,7 @@
 -- Who makes the next move: the order lines and the rotation keep the state sound.
-use Rattle.std.proofs.Common.{◌≡◌, ◌≢◌, ℕ, zero, suc, ◌<◌, ◌≤◌, Bool, true, false, cond, leb, not, ◌&&◌, List, [], ◌∷◌, length, get_or, All, ⊎_elim, refl, sym, ◌∙◌, subst, arith, Option}
-use Rattle.std.proofs.lemmas.Bool.{cases_lt}
-use Rattle.std.proofs.lemmas.List.{get_or_past}
+use Rattle.std.proofs.Common.{◌≡◌, ◌≢◌, ℕ, zero, suc, ◌<◌, ◌≤◌, Bool, true, false, cond, leb, not, ◌&&◌, List, [], ◌∷◌, length, get_or, All, refl, sym, ◌∙◌, subst, arith, Option}
 use Rattle.std.proofs.lemmas.List.Elements.{All-get_or}
-use Rattle.wbt_replay_order.proofs.Common.{Trace, State, cpu_of, task_of, flusher_of, is_drained, Actor, Cpu, ReplayJob, ReplayTask, TimerTodo, Todo, after, todo_ahead, timer_todo_ahead, cpu_ahead, ahead_of, is_task_ready, is_phase_ready, task_turn, job_turn, job_at, is_nothing, seek_job, turn_at, begin_job, begin, Facts, IsFlusherOn, IsTaskOn, IsJobOn, Sound, HasRoom}
+use Rattle.wbt_replay_order.proofs.Common.{Trace, State, cpu_of, task_of, flusher_of, is_drained, Actor, Cpu, ReplayJob, ReplayTask, TimerTodo, Todo, after, todo_ahead, timer_todo_ahead, cpu_ahead, ahead_of, is_task_ready, is_phase_ready, task_turn, job_turn, job_at, is_nothing, seek_job, turn_at, begin_job, begin, Facts, IsTaskOn, IsJobOn, Sound, HasRoom}
 use Rattle.wbt_replay_moves.specs.declared.state.Actor.TheVariants as who
 use Rattle.wbt_replay_moves.specs.declared.state.ReplayJob.TheVariants as job
 use Rattle.wbt_replay_moves.specs.declared.state.Whose.TheVariants as whose
@@ -12,6 +10,7 @@ use Rattle.wbt_replay_moves.specs.declared.todo.Todo.TheVariants as todo
 use Rattle.wbt_replay_order.specs.declared.chance.Ahead.{Ahead}
 use Rattle.wbt_replay_order.specs.declared.chance.Ahead.TheVariants as ahead
 use Rattle.wbt_replay_order.specs.declared.chance.Chance.TheVariants as chance
+use Rattle.wbt_replay_order.proofs.Facts.Jobs.{flusher_on}
 use Rattle.wbt_replay_order.proofs.Facts.Actors.{there_by_ahead, there_by_turn}
 use Rattle.wbt_replay_ranges.proofs.Sound.Begins.{after_less, turn_begins}
 use Rattle.wbt_replay_ranges.proofs.Sound.Moves.{Keeps, Lives}
@@ -116,14 +115,8 @@ module _ (trace : Trace) (facts : Facts trace) (s : State) (sound : Sound trace 
       let h = sound.holds.cpus.each i less in
       let all : All (IsJobOn trace i) (cpu_of i s).jobs = subst (All (IsJobOn trace i)) (sym h.jobs) (facts.jobs i) in
       is_done trace facts i less _ (turn_begins trace facts i less s sound room live idle (after (length (cpu_of i s).jobs) n) (cpu_of i s).next_task (whose.Flusher f)
-      (λ some. after_less (length (cpu_of i s).jobs) n some) h.next_task (job_there (cpu_of i s).jobs n all is)
+      (λ some. after_less (length (cpu_of i s).jobs) n some) h.next_task (flusher_on trace i f n (cpu_of i s).jobs all is)
       (λ m e. absurd (cc e)))
-    where
-      job_there : (js : List ReplayJob) (n : ℕ) → All (IsJobOn trace i) js → get_or js n job.Writer ≡ job.Flusher f → IsFlusherOn trace i f
-      job_there js n all e = ⊎_elim
-          (λ l. subst (IsJobOn trace i) e (All-get_or (IsJobOn trace i) js n job.Writer l all))
-          (λ past. let other : job.Writer ≡ job.Flusher f = sym (get_or_past js n job.Writer past) ∙ e in absurd (cc other))
-          (cases_lt n (length js))
 
 -- ---- whoever's turn it is in the rotation
 

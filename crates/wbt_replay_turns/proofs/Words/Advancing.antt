@@ -1,21 +1,17 @@
 -- What moves of actors keep, each move of a run keeps, and so it holds at each moment.
-use Rattle.std.proofs.Common.{◌≡◌, ℕ, zero, suc, ◌+◌, ◌<◌, Bool, true, false, not, ◌&&◌, cond, leb, List, [], ◌∷◌, length, Option, Some, None, ⊎_elim, refl, sym, ◌∙◌, subst, arith}
+use Rattle.std.proofs.Common.{◌≡◌, ℕ, zero, suc, ◌<◌, Bool, true, false, not, ◌&&◌, cond, leb, List, [], ◌∷◌, length, Option, ⊎_elim, refl, sym, ◌∙◌, subst, arith}
 use Rattle.std.proofs.lemmas.Bool.{cases_Bool, and_parts, not-true, cond-false}
-use Rattle.wbt_replay_order.proofs.Common.{domains, StepEntry, Trace, State, cpu_of, is_drained, begin_timer, Actor, Cpu, Domain, Stretch, TimerTodo, Todo, opening, todo_ahead, timer_todo_ahead, ahead_of, turn_at, chance_by, chance_of, go_on, begin, with_orders, begin_or_drop, follow, next_moment, at_moment, next_turn, finish_turn, rotate_from, place_after, actor_at, seek_job, advance_by, advance, is_ended, state_at, Ending, ArePaced, StaysInRange}
+use Rattle.wbt_replay_order.proofs.Common.{domains, StepEntry, Trace, State, cpu_of, is_drained, begin_timer, Actor, Cpu, Domain, Stretch, TimerTodo, Todo, opening, todo_ahead, timer_todo_ahead, ahead_of, turn_at, go_on, begin, seek_job, advance, is_ended, state_at, Ending, ArePaced, StaysInRange}
 use Rattle.wbt_replay_moves.specs.declared.state.Actor.TheVariants as who
-use Rattle.wbt_replay_moves.specs.declared.state.Stretch.TheVariants as stretch
 use Rattle.wbt_replay_moves.specs.declared.todo.TimerTodo.TheVariants as timer_todo
 use Rattle.wbt_replay_moves.specs.declared.todo.Todo.TheVariants as todo
-use Rattle.wbt_replay_order.specs.Definition.Order as order
-use Rattle.wbt_replay_order.specs.declared.chance.Ahead.{Ahead}
 use Rattle.wbt_replay_order.specs.declared.chance.Ahead.TheVariants as ahead
-use Rattle.wbt_replay_order.specs.declared.chance.Chance.{Chance}
 use Rattle.wbt_replay_order.specs.declared.chance.Chance.TheVariants as chance
 use Rattle.wbt_replay_order.proofs.Facts.Actors.{there_by_turn}
+use Rattle.wbt_replay_order.proofs.Walk.{turned, walked}
 use Rattle.wbt_replay_order.proofs.Growth.Runs.{run_none, run_last, run_stays}
 use Rattle.wbt_replay_turns.specs.Laws.{EndsWell}
 use Rattle.wbt_replay_turns.proofs.Lines.Moves.{never_times}
-use Rattle.wbt_replay_turns.proofs.Seeking.{Sought, finds, finds_none, sought}
 
 -- what is needed of a state for a move
 pub record ReadyIn (trace : Trace) (steps : List StepEntry) (cpus : List Cpu) (ds : List Domain) : Type 0 where
@@ -62,73 +58,23 @@ module _ (trace : Trace) (P : State → Type 0)
     (begins : (i job place : ℕ) (s : State) → Ready trace s → P s → i < length s.cpus → (cpu_of i s).todo ≡ [] → P (begin trace (who.Cpu i) job place s))
     (times : (s : State) → Ready trace s → P s → s.timer.todo ≡ [] → P (begin_timer s)) where
   module _ (s : State) (ready : Ready trace s) (h : P s) where
-    placed : (turn : Option Actor) → P (record s { rotation = turn })
-    placed turn = free s s.now s.orders turn h
+    turn : (orders : List Stretch) (rotation : Option Actor) → P (turned orders rotation s)
+    turn orders rotation = free s s.now orders rotation h
 
-    lined : (orders : List Stretch) → P (with_orders orders s)
-    lined orders = free s s.now orders s.rotation h
+    by_begin : (orders : List Stretch) (rotation : Option Actor) (a : Actor) (n place : ℕ) → ahead_of a s ≡ ahead.Nothing → turn_at a s ≡ chance.Begins n place
+        → P (begin trace a n place (turned orders rotation s))
+    by_begin orders rotation (who.Cpu i) n place idle is = begins i n place (turned orders rotation s) ready (turn orders rotation) (there_by_turn s i n place is) (free_cpu s i n place idle is)
+    by_begin orders rotation who.Timer n place idle is = turn orders rotation
 
-    -- the turn that an actor was found to begin, or its next move, also where the rotation was changed
-    by_chance : (a : Actor) (turn : Option Actor) (next : Ahead) → ahead_of a s ≡ next → (found : Chance) → chance_by next a s ≡ found
-        → Ending trace (order.take trace a found (record s { rotation = turn })) → P (order.take trace a found (record s { rotation = turn }))
-    by_chance a turn next is chance.Nothing found ending = placed turn
-    by_chance a turn next is chance.GoesOn found ending = goes a (record s { rotation = turn }) ready (placed turn) ending
-    by_chance (who.Cpu i) turn ahead.Nothing is (chance.Begins n place) found ending = begins i n place (record s { rotation = turn }) ready (placed turn) (there_by_turn s i n place found) (free_cpu s i n place is found)
-    by_chance (who.Cpu i) turn ahead.Step is (chance.Begins n place) found ending = absurd (cc found)
-    by_chance (who.Cpu i) turn ahead.Silent is (chance.Begins n place) found ending = absurd (cc found)
-    by_chance who.Timer turn next is (chance.Begins n place) found ending = placed turn
-    by_chance (who.Cpu i) turn ahead.Nothing is chance.TimerBegins found ending = absurd (never_times i s found)
-    by_chance (who.Cpu i) turn ahead.Step is chance.TimerBegins found ending = absurd (cc found)
-    by_chance (who.Cpu i) turn ahead.Silent is chance.TimerBegins found ending = absurd (cc found)
-    by_chance who.Timer turn ahead.Nothing is chance.TimerBegins found ending = times (record s { rotation = turn }) ready (placed turn) (free_timer s is found)
-    by_chance who.Timer turn ahead.Step is chance.TimerBegins found ending = absurd (cc found)
-    by_chance who.Timer turn ahead.Silent is chance.TimerBegins found ending = absurd (cc found)
-
-    by_moment : (found : Option ℕ) → P (at_moment found s)
-    by_moment None = h
-    by_moment (Some m) = free s m s.orders None h
-
-    by_search : (u : State) → Sought trace s (place_after s.rotation s) u → Ending trace u → P u
-    by_search u (finds d inside passed some is) ending =
-        let a : Actor = actor_at _ s in
-        subst P (sym is) (by_chance a (Some a) (ahead_of a s) refl (chance_of a s) refl (subst (Ending trace) is ending))
-    by_search u (finds_none passed is) ending = subst P (sym is) (by_moment (next_moment s))
-
-    by_next : Ending trace (next_turn trace s) → P (next_turn trace s)
-    by_next = by_search (next_turn trace s) (sought trace s)
-
-    by_finish : (a : Actor) (next : Ahead) → Ending trace (finish_turn trace a next s) → P (finish_turn trace a next s)
-    by_finish a ahead.Step = goes a s ready h
-    by_finish a ahead.Silent = goes a s ready h
-    by_finish a ahead.Nothing = by_next
-
-    by_rotation : (turn : Option Actor) → Ending trace (rotate_from trace turn s) → P (rotate_from trace turn s)
-    by_rotation None = by_next
-    by_rotation (Some a) = by_finish a (ahead_of a s)
-
-    by_found : (a : Actor) → ahead_of a s ≡ ahead.Nothing → (found : Chance) → turn_at a s ≡ found → (more : List Stretch)
-        → Ending trace (begin_or_drop trace a found more s) → P (begin_or_drop trace a found more s)
-    by_found a none chance.Nothing is more ending = lined more
-    by_found a none chance.GoesOn is more ending = goes a s ready h ending
-    by_found (who.Cpu i) none (chance.Begins n place) is more ending = begins i n place s ready h (there_by_turn s i n place is) (free_cpu s i n place none is)
-    by_found who.Timer none (chance.Begins n place) is more ending = h
-    by_found (who.Cpu i) none chance.TimerBegins is more ending = absurd (never_times i s is)
-    by_found who.Timer none chance.TimerBegins is more ending = times s ready h (free_timer s none is)
-
-    by_line : (a : Actor) (steps : ℕ) (next : Ahead) → ahead_of a s ≡ next → (more : List Stretch) → Ending trace (follow trace a steps next more s) → P (follow trace a steps next more s)
-    by_line a steps ahead.Silent is more ending = goes a s ready h ending
-    by_line a zero ahead.Step is more ending = lined more
-    by_line a (suc steps) ahead.Step is more ending = goes a (with_orders (stretch.Steps a steps ∷ more) s) ready (lined (stretch.Steps a steps ∷ more)) ending
-    by_line a zero ahead.Nothing is more ending = lined more
-    by_line a (suc steps) ahead.Nothing is more ending = by_found a is (turn_at a s) refl more ending
-
-    by_orders : (orders : List Stretch) → Ending trace (advance_by trace orders s) → P (advance_by trace orders s)
-    by_orders [] = by_rotation s.rotation
-    by_orders (stretch.Tick ticks ∷ more) = λ ending. free s (s.now + ticks) more s.rotation h
-    by_orders (stretch.Steps a steps ∷ more) = by_line a steps (ahead_of a s) refl more
+    by_tick : (orders : List Stretch) (rotation : Option Actor) (a : Actor) → ahead_of a s ≡ ahead.Nothing → turn_at a s ≡ chance.TimerBegins → P (begin_timer (turned orders rotation s))
+    by_tick orders rotation (who.Cpu i) idle is = absurd (never_times i s is)
+    by_tick orders rotation who.Timer idle is = times (turned orders rotation s) ready (turn orders rotation) (free_timer s idle is)
 
     on_move : Ending trace (advance trace s) → P (advance trace s)
-    on_move = by_orders s.orders
+    on_move =
+        walked trace s (λ (u : State). Ending trace u → P u) (λ orders rotation now ending. free s now orders rotation h)
+        (λ orders rotation a ending. goes a (turned orders rotation s) ready (turn orders rotation) ending)
+        (λ orders rotation a n place idle is ending. by_begin orders rotation a n place idle is) (λ orders rotation a idle is ending. by_tick orders rotation a idle is)
 
   -- what is needed of a state holds at each moment
   module _ (stays : StaysInRange trace) (h : EndsWell trace) (first : P (opening trace)) where
