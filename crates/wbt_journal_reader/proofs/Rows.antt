@@ -1,14 +1,11 @@
 -- A row is fixed by the word and the fields of its line.
-use Rattle.std.proofs.Common.{◌≡◌, ℕ, ◌^◌, ◌<◌, ◌≤◌, zero, suc, ℤ, pos, negsuc, Bool, true, false, nat_lt, if◌then◌else◌, List, [], ◌∷◌, Option, Some, None, refl, sym, ap, subst, arith}
+use Rattle.std.proofs.Common.{◌≡◌, ℕ, ◌^◌, ◌<◌, ◌≤◌, zero, suc, pos, negsuc, Bool, true, false, nat_lt, if◌then◌else◌, List, [], ◌∷◌, Option, Some, None, IfSome, refl, sym, ◌∙◌, ap, subst, arith}
 use Rattle.std.proofs.lemmas.Bool.Decides.{nat_tests}
-use Rattle.wbt_counter.specs.declared.counter.Counter.{Counter}
 use Rattle.wbt_counter.specs.declared.counter.Counter.TheVariants as counter
-use Rattle.wbt_pause.specs.declared.decision.Kind.{Kind}
 use Rattle.wbt_pause.specs.declared.decision.Kind.TheVariants as kind
 use Rattle.wbt_journal.specs.declared.entry.Entry.TheVariants as entry
 use Rattle.wbt_journal.specs.declared.field.Field.{Field}
 use Rattle.wbt_journal.specs.declared.field.Field.TheVariants.{Name, Int, Domain, Context}
-use Rattle.wbt_journal.specs.declared.journal.Ending.{Ending}
 use Rattle.wbt_journal.specs.declared.journal.Ending.TheVariants as ending
 use Rattle.wbt_journal_reader.specs.declared.row.Row.{Row}
 use Rattle.wbt_journal_reader.specs.declared.row.Row.TheVariants as row
@@ -17,54 +14,118 @@ use Rattle.wbt_journal.specs.declared.word.Word.{Word}
 use Rattle.wbt_journal.specs.declared.word.Word.TheVariants as word
 use Rattle.wbt_journal.specs.Each.{Each}
 use Rattle.wbt_journal_reader.specs.Fields.{InRange}
-use Rattle.wbt_journal.specs.Forms.{Form, small, big, signed, counter, name, IsOf, HasForm}
+use Rattle.wbt_journal.specs.Forms.{Form, small, big, signed, counter, name, IsOf, AreOf, forms_of, HasForm}
 use Rattle.wbt_journal.specs.Line.{Line, line, num}
 use Rattle.wbt_journal.specs.Lines.{counter_field, fresh_field, back_field, kind_field, bits_field, ending_field}
 use Rattle.wbt_journal_reader.specs.RowOf as of
+use Rattle.wbt_journal_reader.specs.RowOf.{FieldKind, Shape}
 use Rattle.wbt_journal_reader.specs.Rows.{row_lines, IsPlainRow}
+
+-- ---- the values of a line
+
+-- a value for each kind
+abbrev Values : (kinds : List FieldKind) → Type 0
+Values [] = Unit {0}
+Values (k ∷ ks) = of.Value k × Values ks
+
+-- the field that tells a value
+abbrev field_for : (k : FieldKind) (v : of.Value k) → Field
+field_for of.small n = num n
+field_for of.big n = num n
+field_for of.signed z = Int z
+field_for of.counted c = counter_field c
+field_for of.fresh b = fresh_field b
+field_for of.decided k = kind_field k
+field_for of.absorbed b = back_field b
+field_for of.bits n = bits_field n
+field_for of.ended e = ending_field e
+
+-- the fields that tell values
+abbrev fields_for : (ks : List FieldKind) (vs : Values ks) → List Field
+fields_for [] vs = []
+fields_for (k ∷ ks) vs = field_for k vs.0 ∷ fields_for ks vs.1
+
+-- the row of values
+abbrev row_for : (ks : List FieldKind) (row_with : of.RowWith ks) (vs : Values ks) → Row
+row_for [] r vs = r
+row_for (k ∷ ks) row_with vs = row_for ks (row_with vs.0) vs.1
+
+-- the form of a kind's fields
+abbrev form_of : (k : FieldKind) → Form
+form_of of.small = small
+form_of of.big = big
+form_of of.signed = signed
+form_of of.counted = counter
+form_of other = name
+
+-- the forms of fields of these kinds
+abbrev forms_for : (ks : List FieldKind) → List Form
+forms_for [] = []
+forms_for (k ∷ ks) = form_of k ∷ forms_for ks
+
+-- the bits of a page that is left are some of two; each other value is good
+abbrev IsGood : (k : FieldKind) (v : of.Value k) → Type 0
+IsGood of.bits n = (1 ≤ n) × (n ≤ 3)
+IsGood other v = Unit {0}
+
+-- each of the values is good
+abbrev AreGood : (ks : List FieldKind) (vs : Values ks) → Type 0
+AreGood [] vs = Unit {0}
+AreGood (of.bits ∷ ks) vs = IsGood of.bits vs.0 × AreGood ks vs.1
+AreGood (other ∷ ks) vs = AreGood ks vs.1
 
 -- ---- a value is told by its field
 
-small_again : (n : ℕ) → n < 2 ^ 32 → of.small_of (num n) ≡ Some n
-small_again n less = let is : nat_lt n (2 ^ 32) ≡ true = grind (arith, nat_tests) in rw is refl
+value_again : (k : FieldKind) (v : of.Value k) → IsOf (form_of k) (field_for k v) → IsGood k v → of.value_of k (field_for k v) ≡ Some v
+value_again of.small n less good = let is : nat_lt n (2 ^ 32) ≡ true = grind (arith, nat_tests) in rw is refl
+value_again of.big n less good = let is : nat_lt n (2 ^ 64) ≡ true = grind (arith, nat_tests) in rw is refl
+value_again of.signed (pos n) less good = let is : nat_lt n (2 ^ 63) ≡ true = grind (arith, nat_tests) in rw is refl
+value_again of.signed (negsuc n) less good = let is : nat_lt n (2 ^ 63) ≡ true = grind (arith, nat_tests) in rw is refl
+value_again of.counted (counter.Domain d) form good = refl
+value_again of.counted (counter.Context c) form good = refl
+value_again of.fresh true form good = refl
+value_again of.fresh false form good = refl
+value_again of.decided kind.Free form good = refl
+value_again of.decided kind.Go form good = refl
+value_again of.decided kind.Exempt form good = refl
+value_again of.decided kind.Wait form good = refl
+value_again of.absorbed true form good = refl
+value_again of.absorbed false form good = refl
+value_again of.bits zero form good = absurd (omega (arith, good.0))
+value_again of.bits (suc zero) form good = refl
+value_again of.bits (suc (suc zero)) form good = refl
+value_again of.bits (suc (suc (suc zero))) form good = refl
+value_again of.bits (suc (suc (suc (suc n)))) form good = absurd (omega (arith, good.1))
+value_again of.ended ending.Done form good = refl
+value_again of.ended ending.Halted form good = refl
+value_again of.ended ending.Spent form good = refl
+value_again of.ended ending.Faulted form good = refl
 
-big_again : (n : ℕ) → n < 2 ^ 64 → of.big_of (num n) ≡ Some n
-big_again n less = let is : nat_lt n (2 ^ 64) ≡ true = grind (arith, nat_tests) in rw is refl
+values_again : (ks : List FieldKind) (row_with : of.RowWith ks) (vs : Values ks) → AreOf (forms_for ks) (fields_for ks vs) → AreGood ks vs
+    → of.told_by ks row_with (fields_for ks vs) ≡ Some (row_for ks row_with vs)
+values_again [] r vs form good = refl
+values_again (of.bits ∷ ks) row_with vs form good =
+    ap (λ (told : Option (of.Value of.bits)). of.with_value told (λ v. of.told_by ks (row_with v) (fields_for ks vs.1))) (value_again of.bits vs.0 form.0 good.0)
+    ∙ values_again ks (row_with vs.0) vs.1 form.1 good.1
+values_again (k ∷ ks) row_with vs form good =
+    ap (λ (told : Option (of.Value k)). of.with_value told (λ v. of.told_by ks (row_with v) (fields_for ks vs.1))) (value_again k vs.0 form.0 tt)
+    ∙ values_again ks (row_with vs.0) vs.1 form.1 good
 
-signed_again : (z : ℤ) → IsOf signed (Int z) → of.signed_of (Int z) ≡ Some z
-signed_again (pos n) less = let is : nat_lt n (2 ^ 63) ≡ true = grind (arith, nat_tests) in rw is refl
-signed_again (negsuc n) less = let is : nat_lt n (2 ^ 63) ≡ true = grind (arith, nat_tests) in rw is refl
+one_each : (ks : List FieldKind) (vs : Values ks) → of.as_many ks (fields_for ks vs) ≡ true
+one_each [] vs = refl
+one_each (k ∷ ks) vs = one_each ks vs.1
 
-counter_again : (c : Counter) → of.counter_of (counter_field c) ≡ Some c
-counter_again (counter.Domain d) = refl
-counter_again (counter.Context c) = refl
+-- what is printed of a shape's values is read as their row
+told_again : (s : Shape) (vs : Values s.kinds) → AreOf (forms_for s.kinds) (fields_for s.kinds vs) → AreGood s.kinds vs
+    → of.row_by (Some s) (fields_for s.kinds vs) ≡ Some (row_for s.kinds s.row_with vs)
+told_again s vs form good =
+    ap (λ (b : Bool). if b then of.told_by s.kinds s.row_with (fields_for s.kinds vs) else None) (one_each s.kinds vs)
+    ∙ values_again s.kinds s.row_with vs form good
 
-fresh_again : (b : Bool) → of.fresh_of (fresh_field b) ≡ Some b
-fresh_again true = refl
-fresh_again false = refl
-
-kind_again : (k : Kind) → of.kind_of (kind_field k) ≡ Some k
-kind_again kind.Free = refl
-kind_again kind.Go = refl
-kind_again kind.Exempt = refl
-kind_again kind.Wait = refl
-
-absorbed_again : (b : Bool) → of.absorbed_of (back_field b) ≡ Some b
-absorbed_again true = refl
-absorbed_again false = refl
-
-bits_again : (n : ℕ) → 1 ≤ n → n ≤ 3 → of.bits_of (bits_field n) ≡ Some n
-bits_again zero some few = absurd (omega (arith, some))
-bits_again (suc zero) some few = refl
-bits_again (suc (suc zero)) some few = refl
-bits_again (suc (suc (suc zero))) some few = refl
-bits_again (suc (suc (suc (suc n)))) some few = absurd (omega (arith, few))
-
-ending_again : (e : Ending) → of.ending_of (ending_field e) ≡ Some e
-ending_again ending.Done = refl
-ending_again ending.Halted = refl
-ending_again ending.Spent = refl
-ending_again ending.Faulted = refl
+-- the shape, where there is one
+abbrev shape_in : (which : Option Shape) → Shape
+shape_in None = record { kinds = []; row_with = row.Timer }
+shape_in (Some s) = s
 
 -- ---- a row is told by its line
 
@@ -74,38 +135,41 @@ Again r [] = Unit {0}
 Again r (l ∷ more) = of.row_of l.word l.fields ≡ Some r
 
 pub row_again : (r : Row) → IsPlainRow r → Each HasForm (row_lines r) → Again r (row_lines r)
-row_again row.Timer plain form = refl
-row_again (row.Timed (timed.Limits d now l)) plain form = rw (small_again d form.0.0, big_again now form.0.1.0, big_again l.thresh form.0.1.1.0, big_again l.bg form.0.1.1.1.0, big_again l.hard form.0.1.1.1.1.0) refl
-row_again (row.Timed (timed.Period d k)) plain form = rw (small_again d form.0.0, big_again k form.0.1.0) refl
-row_again (row.Cpu c) plain form = rw (big_again c form.0.0) refl
-row_again (row.Entry (entry.Write t p b)) plain form = rw (small_again t form.0.0, small_again p form.0.1.0, fresh_again b) refl
-row_again (row.Entry (entry.Folded f)) plain form = rw (counter_again f.counter, big_again f.version form.0.1.0, signed_again f.delta form.0.1.1.0) refl
-row_again (row.Read x) plain form = rw (small_again x.domain form.0.0, big_again x.triple form.0.1.0, big_again x.limits.thresh form.0.1.1.0, big_again x.limits.bg form.0.1.1.1.0, big_again x.limits.hard form.0.1.1.1.1.0, big_again x.count.version form.0.1.1.1.1.1.0, signed_again x.count.value form.0.1.1.1.1.1.1.0, big_again x.share.period form.0.1.1.1.1.1.1.1.0, big_again x.share.num form.0.1.1.1.1.1.1.1.1.0, big_again x.share.den form.0.1.1.1.1.1.1.1.1.1.0) refl
-row_again (row.Count w x) plain form = rw (small_again w form.0.0, big_again x.version form.0.1.0, signed_again x.value form.0.1.1.0) refl
+row_again row.Timer plain form = told_again (shape_in (of.shape_of word.Timer)) tt form.0 tt
+row_again (row.Timed (timed.Limits d now l)) plain form = told_again (shape_in (of.shape_of word.Limits)) (d, (now, (l.thresh, (l.bg, (l.hard, tt))))) form.0 tt
+row_again (row.Timed (timed.Period d k)) plain form = told_again (shape_in (of.shape_of word.Period)) (d, (k, tt)) form.0 tt
+row_again (row.Cpu c) plain form = told_again (shape_in (of.shape_of word.Cpu)) (c, tt) form.0 tt
+row_again (row.Entry (entry.Write t p b)) plain form = told_again (shape_in (of.shape_of word.Write)) (t, (p, (b, tt))) form.0 tt
+row_again (row.Entry (entry.Folded f)) plain form = told_again (shape_in (of.shape_of word.Fold)) (f.counter, (f.version, (f.delta, tt))) form.0 tt
+row_again (row.Read x) plain form = told_again (shape_in (of.shape_of word.Read)) (x.domain, (x.triple, (x.limits.thresh, (x.limits.bg, (x.limits.hard, (x.count.version, (x.count.value, (x.share.period, (x.share.num, (x.share.den, tt)))))))))) form.0 tt
+row_again (row.Count w x) plain form = told_again (shape_in (of.shape_of word.Count)) (w, (x.version, (x.value, tt))) form.0 tt
 row_again (row.Check x) plain form =
-    rw (small_again x.task form.0.0, small_again x.context form.0.1.0, big_again x.now form.0.1.1.0, big_again x.estimate form.0.1.1.1.0, kind_again x.decision.kind, big_again x.decision.pause form.0.1.1.1.1.1.0, big_again x.decision.left form.0.1.1.1.1.1.1.0, big_again x.decision.task.nr_dirtied form.0.1.1.1.1.1.1.1.0, big_again x.decision.task.nr_dirtied_pause form.0.1.1.1.1.1.1.1.1.0, big_again x.decision.task.paused_when form.0.1.1.1.1.1.1.1.1.1.0) (ap (λ (b : Bool). Some (row.Check (record x { decision = record x.decision { exceeded = b } }))) (sym plain))
-row_again (row.Entry (entry.Claimed f p)) plain form = rw (small_again f form.0.0, small_again p form.0.1.0) refl
-row_again (row.Entry (entry.Batch f n now until)) plain form = rw (small_again f form.0.0, small_again n form.0.1.0, big_again now form.0.1.1.0, big_again until form.0.1.1.1.0) refl
-row_again (row.Entry (entry.Done f p)) plain form = rw (small_again f form.0.0, small_again p form.0.1.0) refl
-row_again (row.Entry (entry.Share d w n)) plain form = rw (small_again d form.0.0, small_again w form.0.1.0, big_again n form.0.1.1.0) refl
-row_again (row.Estimate x) plain form = rw (small_again x.context form.0.0, big_again x.estimate.version form.0.1.0, big_again x.estimate.bw form.0.1.1.0, big_again x.estimate.avg form.0.1.1.1.0, big_again x.estimate.ratelimit form.0.1.1.1.1.0, big_again x.estimate.balanced form.0.1.1.1.1.1.0, big_again x.estimate.written_stamp form.0.1.1.1.1.1.1.0, big_again x.estimate.dirtied_stamp form.0.1.1.1.1.1.1.1.0, big_again x.estimate.at form.0.1.1.1.1.1.1.1.1.0) refl
-row_again (row.Entry (entry.Fault f n)) plain form = rw (small_again f form.0.0, small_again n form.0.1.0) refl
-row_again (row.Entry (entry.Back f p b)) plain form = rw (small_again f form.0.0, small_again p form.0.1.0, absorbed_again b) refl
-row_again (row.Entry (entry.Noticed f i since)) plain form = rw (small_again f form.0.0, small_again i form.0.1.0, big_again since form.0.1.1.0) refl
-row_again (row.Entry (entry.Aged f i due now)) plain form = rw (small_again f form.0.0, small_again i form.0.1.0, big_again due form.0.1.1.0, big_again now form.0.1.1.1.0) refl
-row_again (row.Entry (entry.Taken f i)) plain form = rw (small_again f form.0.0, small_again i form.0.1.0) refl
-row_again (row.Left x) plain form = rw (small_again x.page form.0.0, bits_again x.word plain.0 plain.1) refl
-row_again (row.Census a b) plain form = rw (big_again a form.0.0, big_again b form.0.1.0) refl
-row_again (row.Totals a b) plain form = rw (big_again a form.0.0, big_again b form.0.1.0) refl
-row_again (row.End e) plain form = rw (ending_again e) refl
+    told_again (shape_in (of.shape_of word.Check)) (x.task, (x.context, (x.now, (x.estimate, (x.decision.kind, (x.decision.pause, (x.decision.left, (x.decision.task.nr_dirtied, (x.decision.task.nr_dirtied_pause, (x.decision.task.paused_when, tt)))))))))) form.0 tt
+    ∙ ap (λ (b : Bool). Some (row.Check (record x { decision = record x.decision { exceeded = b } }))) (sym plain)
+row_again (row.Entry (entry.Claimed f p)) plain form = told_again (shape_in (of.shape_of word.Claim)) (f, (p, tt)) form.0 tt
+row_again (row.Entry (entry.Batch f n now until)) plain form = told_again (shape_in (of.shape_of word.Batch)) (f, (n, (now, (until, tt)))) form.0 tt
+row_again (row.Entry (entry.Done f p)) plain form = told_again (shape_in (of.shape_of word.Done)) (f, (p, tt)) form.0 tt
+row_again (row.Entry (entry.Share d w n)) plain form = told_again (shape_in (of.shape_of word.Share)) (d, (w, (n, tt))) form.0 tt
+row_again (row.Estimate x) plain form = told_again (shape_in (of.shape_of word.Est)) (x.context, (x.estimate.version, (x.estimate.bw, (x.estimate.avg, (x.estimate.ratelimit, (x.estimate.balanced, (x.estimate.written_stamp, (x.estimate.dirtied_stamp, (x.estimate.at, tt))))))))) form.0 tt
+row_again (row.Entry (entry.Fault f n)) plain form = told_again (shape_in (of.shape_of word.Fault)) (f, (n, tt)) form.0 tt
+row_again (row.Entry (entry.Back f p b)) plain form = told_again (shape_in (of.shape_of word.Back)) (f, (p, (b, tt))) form.0 tt
+row_again (row.Entry (entry.Noticed f i since)) plain form = told_again (shape_in (of.shape_of word.Notice)) (f, (i, (since, tt))) form.0 tt
+row_again (row.Entry (entry.Aged f i due now)) plain form = told_again (shape_in (of.shape_of word.Age)) (f, (i, (due, (now, tt)))) form.0 tt
+row_again (row.Entry (entry.Taken f i)) plain form = told_again (shape_in (of.shape_of word.Take)) (f, (i, tt)) form.0 tt
+row_again (row.Left x) plain form = told_again (shape_in (of.shape_of word.Left)) (x.page, (x.word, tt)) form.0 (plain, tt)
+row_again (row.Census a b) plain form = told_again (shape_in (of.shape_of word.Census)) (a, (b, tt)) form.0 tt
+row_again (row.Totals a b) plain form = told_again (shape_in (of.shape_of word.Totals)) (a, (b, tt)) form.0 tt
+row_again (row.End e) plain form = told_again (shape_in (of.shape_of word.End)) (e, tt) form.0 tt
 row_again (row.Entry (entry.Check place)) plain form = tt
 row_again (row.Entry (entry.Est place)) plain form = tt
 
 -- ---- a field is fixed by its value
 
-pub record Back (form : Form) (f g : Field) : Type 0 where
-  pub is : f ≡ g
-  pub of : IsOf form f
+-- the field is the value's, and the value is good
+record Back (k : FieldKind) (f : Field) (v : of.Value k) : Type 0 where
+  pub is : f ≡ field_for k v
+  pub of : IsOf (form_of k) f
+  pub good : IsGood k v
 
 none_some : {A : Type 0} (a : A) → None ≡ Some a → ⊥
 none_some a is = cc
@@ -113,75 +177,44 @@ none_some a is = cc
 some_once : {A : Type 0} (a b : A) → Some a ≡ Some b → a ≡ b
 some_once a b is = cc
 
-tested : {A : Type 0} (b : Bool) (a c : A) → (if b then Some a else None) ≡ Some c → (b ≡ true) × (a ≡ c)
-tested true a c is = (refl, some_once a c is)
+tested : {A : Type 0} (b : Bool) (a : Option A) (c : A) → (if b then a else None) ≡ Some c → (b ≡ true) × (a ≡ Some c)
+tested true a c is = (refl, is)
 tested false a c is = absurd (none_some c is)
 
-small_back : (f : Field) (n : ℕ) → of.small_of f ≡ Some n → Back small f (num n)
-small_back (Int (pos m)) n is =
-    let t = tested (nat_lt m (2 ^ 32)) m n is in let less : m < 2 ^ 32 = grind (arith, nat_tests, t.0) in record { is = ap num t.1; of = less }
-small_back other n is = absurd (none_some n is)
+limited : (n most : ℕ) {A : Type 0} (a c : A) → (if nat_lt n most then Some a else None) ≡ Some c → (n < most) × (a ≡ c)
+limited n most a c is = let t = tested (nat_lt n most) (Some a) c is in (grind (arith, nat_tests, t.0), some_once a c t.1)
 
-big_back : (f : Field) (n : ℕ) → of.big_of f ≡ Some n → Back big f (num n)
-big_back (Int (pos m)) n is =
-    let t = tested (nat_lt m (2 ^ 64)) m n is in let less : m < 2 ^ 64 = grind (arith, nat_tests, t.0) in record { is = ap num t.1; of = less }
-big_back other n is = absurd (none_some n is)
-
-signed_back : (f : Field) (z : ℤ) → of.signed_of f ≡ Some z → Back signed f (Int z)
-signed_back (Int (pos m)) z is =
-    let t = tested (nat_lt m (2 ^ 63)) (pos m) z is in let less : m < 2 ^ 63 = grind (arith, nat_tests, t.0) in record { is = ap Int t.1; of = less }
-signed_back (Int (negsuc m)) z is =
-    let t = tested (nat_lt m (2 ^ 63)) (negsuc m) z is in let less : m < 2 ^ 63 = grind (arith, nat_tests, t.0) in record { is = ap Int t.1; of = less }
-signed_back other z is = absurd (none_some z is)
-
-counter_back : (f : Field) (c : Counter) → InRange f → of.counter_of f ≡ Some c → Back counter f (counter_field c)
-counter_back (Domain d) c range is = record { is = ap counter_field (some_once (counter.Domain d) c is); of = range }
-counter_back (Context d) c range is = record { is = ap counter_field (some_once (counter.Context d) c is); of = range }
-counter_back other c range is = absurd (none_some c is)
-
-bits_have : (f : Field) (n : ℕ) → of.bits_of f ≡ Some n → (1 ≤ n) × (n ≤ 3)
-bits_have (Name word.Dirty) n is = let same = some_once 1 n is in (omega (arith, same), omega (arith, same))
-bits_have (Name word.Writeback) n is = let same = some_once 2 n is in (omega (arith, same), omega (arith, same))
-bits_have (Name word.Both) n is = let same = some_once 3 n is in (omega (arith, same), omega (arith, same))
-bits_have other n is = absurd (none_some n is)
-
-fresh_back : (f : Field) (v : Bool) → of.fresh_of f ≡ Some v → Back name f (fresh_field v)
-fresh_back (Name word.Fresh) v is = record { is = ap fresh_field (some_once true v is); of = tt }
-fresh_back (Name word.Already) v is = record { is = ap fresh_field (some_once false v is); of = tt }
-fresh_back other v is = absurd (none_some v is)
-
-kind_back : (f : Field) (v : Kind) → of.kind_of f ≡ Some v → Back name f (kind_field v)
-kind_back (Name word.Free) v is = record { is = ap kind_field (some_once kind.Free v is); of = tt }
-kind_back (Name word.Go) v is = record { is = ap kind_field (some_once kind.Go v is); of = tt }
-kind_back (Name word.Exempt) v is = record { is = ap kind_field (some_once kind.Exempt v is); of = tt }
-kind_back (Name word.Wait) v is = record { is = ap kind_field (some_once kind.Wait v is); of = tt }
-kind_back other v is = absurd (none_some v is)
-
-absorbed_back : (f : Field) (v : Bool) → of.absorbed_of f ≡ Some v → Back name f (back_field v)
-absorbed_back (Name word.Absorbed) v is = record { is = ap back_field (some_once true v is); of = tt }
-absorbed_back (Name word.Dirty) v is = record { is = ap back_field (some_once false v is); of = tt }
-absorbed_back other v is = absurd (none_some v is)
-
-bits_back : (f : Field) (v : ℕ) → of.bits_of f ≡ Some v → Back name f (bits_field v)
-bits_back (Name word.Dirty) v is = record { is = ap bits_field (some_once 1 v is); of = tt }
-bits_back (Name word.Writeback) v is = record { is = ap bits_field (some_once 2 v is); of = tt }
-bits_back (Name word.Both) v is = record { is = ap bits_field (some_once 3 v is); of = tt }
-bits_back other v is = absurd (none_some v is)
-
-ending_back : (f : Field) (v : Ending) → of.ending_of f ≡ Some v → Back name f (ending_field v)
-ending_back (Name word.Done) v is = record { is = ap ending_field (some_once ending.Done v is); of = tt }
-ending_back (Name word.Halted) v is = record { is = ap ending_field (some_once ending.Halted v is); of = tt }
-ending_back (Name word.Spent) v is = record { is = ap ending_field (some_once ending.Spent v is); of = tt }
-ending_back (Name word.Faulted) v is = record { is = ap ending_field (some_once ending.Faulted v is); of = tt }
-ending_back other v is = absurd (none_some v is)
-
--- ---- a line is told by its row
-
--- the row says what the line does
-pub record Says (w : Word) (fields : List Field) (r : Row) : Type 0 where
-  pub lines : row_lines r ≡ line w fields ∷ []
-  pub plain : IsPlainRow r
-  pub form : HasForm (line w fields)
+value_back : (k : FieldKind) (f : Field) (v : of.Value k) → InRange f → of.value_of k f ≡ Some v → Back k f v
+value_back of.small (Int (pos m)) v range is = let t = limited m (2 ^ 32) m v is in record { is = ap num t.1; of = t.0; good = tt }
+value_back of.big (Int (pos m)) v range is = let t = limited m (2 ^ 64) m v is in record { is = ap num t.1; of = t.0; good = tt }
+value_back of.signed (Int (pos m)) v range is = let t = limited m (2 ^ 63) (pos m) v is in record { is = ap Int t.1; of = t.0; good = tt }
+value_back of.signed (Int (negsuc m)) v range is = let t = limited m (2 ^ 63) (negsuc m) v is in record { is = ap Int t.1; of = t.0; good = tt }
+value_back of.counted (Domain d) v range is = record { is = ap counter_field (some_once (counter.Domain d) v is); of = range; good = tt }
+value_back of.counted (Context d) v range is = record { is = ap counter_field (some_once (counter.Context d) v is); of = range; good = tt }
+value_back of.fresh (Name word.Fresh) v range is = record { is = ap fresh_field (some_once true v is); of = tt; good = tt }
+value_back of.fresh (Name word.Already) v range is = record { is = ap fresh_field (some_once false v is); of = tt; good = tt }
+value_back of.decided (Name word.Free) v range is = record { is = ap kind_field (some_once kind.Free v is); of = tt; good = tt }
+value_back of.decided (Name word.Go) v range is = record { is = ap kind_field (some_once kind.Go v is); of = tt; good = tt }
+value_back of.decided (Name word.Exempt) v range is = record { is = ap kind_field (some_once kind.Exempt v is); of = tt; good = tt }
+value_back of.decided (Name word.Wait) v range is = record { is = ap kind_field (some_once kind.Wait v is); of = tt; good = tt }
+value_back of.absorbed (Name word.Absorbed) v range is = record { is = ap back_field (some_once true v is); of = tt; good = tt }
+value_back of.absorbed (Name word.Dirty) v range is = record { is = ap back_field (some_once false v is); of = tt; good = tt }
+value_back of.bits (Name word.Dirty) v range is = let same = some_once 1 v is in record { is = ap bits_field same; of = tt; good = (omega (arith, same), omega (arith, same)) }
+value_back of.bits (Name word.Writeback) v range is = let same = some_once 2 v is in record { is = ap bits_field same; of = tt; good = (omega (arith, same), omega (arith, same)) }
+value_back of.bits (Name word.Both) v range is = let same = some_once 3 v is in record { is = ap bits_field same; of = tt; good = (omega (arith, same), omega (arith, same)) }
+value_back of.ended (Name word.Done) v range is = record { is = ap ending_field (some_once ending.Done v is); of = tt; good = tt }
+value_back of.ended (Name word.Halted) v range is = record { is = ap ending_field (some_once ending.Halted v is); of = tt; good = tt }
+value_back of.ended (Name word.Spent) v range is = record { is = ap ending_field (some_once ending.Spent v is); of = tt; good = tt }
+value_back of.ended (Name word.Faulted) v range is = record { is = ap ending_field (some_once ending.Faulted v is); of = tt; good = tt }
+value_back of.small other v range is = absurd (none_some v is)
+value_back of.big other v range is = absurd (none_some v is)
+value_back of.signed other v range is = absurd (none_some v is)
+value_back of.counted other v range is = absurd (none_some v is)
+value_back of.fresh other v range is = absurd (none_some v is)
+value_back of.decided other v range is = absurd (none_some v is)
+value_back of.absorbed other v range is = absurd (none_some v is)
+value_back of.bits other v range is = absurd (none_some v is)
+value_back of.ended other v range is = absurd (none_some v is)
 
 record Value {A : Type 0} (told : Option A) (row_with : A → Option Row) (r : Row) : Type 0 where
   pub a : A
@@ -192,320 +225,85 @@ value : {A : Type 0} (told : Option A) (row_with : A → Option Row) (r : Row) �
 value (Some a) row_with r is = record { a = a; is = refl; on = is }
 value None row_with r is = absurd (none_some r is)
 
-timer_sound : (fields : List Field) (r : Row) → Each InRange fields → of.timer fields ≡ Some r → Says word.Timer fields r
-timer_sound [] r range is = subst (Says word.Timer []) (some_once row.Timer r is) (record { lines = refl; plain = tt; form = tt })
-timer_sound other r range is = absurd (none_some r is)
+-- the fields tell good values, which the row is of
+record Told (ks : List FieldKind) (row_with : of.RowWith ks) (fields : List Field) (r : Row) : Type 0 where
+  pub vs : Values ks
+  pub fields_are : fields ≡ fields_for ks vs
+  pub row_is : row_for ks row_with vs ≡ r
+  pub form : AreOf (forms_for ks) fields
+  pub good : AreGood ks vs
 
-limits_sound : (fields : List Field) (r : Row) → Each InRange fields → of.limits fields ≡ Some r → Says word.Limits fields r
-limits_sound (a ∷ b ∷ c ∷ d ∷ e ∷ []) r range is =
-    let v0 = value (of.small_of a) _ r is in
-    let p0 = small_back a v0.a v0.is in
-    let v1 = value (of.big_of b) _ r v0.on in
-    let p1 = big_back b v1.a v1.is in
-    let v2 = value (of.big_of c) _ r v1.on in
-    let p2 = big_back c v2.a v2.is in
-    let v3 = value (of.big_of d) _ r v2.on in
-    let p3 = big_back d v3.a v3.is in
-    let v4 = value (of.big_of e) _ r v3.on in
-    let p4 = big_back e v4.a v4.is in
-    subst (Says word.Limits (a ∷ b ∷ c ∷ d ∷ e ∷ [])) (some_once (row.Timed (timed.Limits v0.a v1.a (record { thresh = v2.a; bg = v3.a; hard = v4.a }))) r v4.on)
-    (record { lines = λ j. line word.Limits (sym p0.is j ∷ sym p1.is j ∷ sym p2.is j ∷ sym p3.is j ∷ sym p4.is j ∷ []) ∷ []; plain = tt; form = (p0.of, (p1.of, (p2.of, (p3.of, (p4.of, tt))))) })
-limits_sound other r range is = absurd (none_some r is)
+good_more : (k : FieldKind) (ks : List FieldKind) (v : of.Value k) (vs : Values ks) → IsGood k v → AreGood ks vs → AreGood (k ∷ ks) (v, vs)
+good_more of.bits ks v vs good more = (good, more)
+good_more k ks v vs good more = more
 
-period_sound : (fields : List Field) (r : Row) → Each InRange fields → of.period fields ≡ Some r → Says word.Period fields r
-period_sound (a ∷ b ∷ []) r range is =
-    let v0 = value (of.small_of a) _ r is in
-    let p0 = small_back a v0.a v0.is in
-    let v1 = value (of.big_of b) _ r v0.on in
-    let p1 = big_back b v1.a v1.is in
-    subst (Says word.Period (a ∷ b ∷ [])) (some_once (row.Timed (timed.Period v0.a v1.a)) r v1.on)
-    (record { lines = λ j. line word.Period (sym p0.is j ∷ sym p1.is j ∷ []) ∷ []; plain = tt; form = (p0.of, (p1.of, tt)) })
-period_sound other r range is = absurd (none_some r is)
+values_back : (ks : List FieldKind) (row_with : of.RowWith ks) (fields : List Field) (r : Row) → Each InRange fields → of.as_many ks fields ≡ true
+    → of.told_by ks row_with fields ≡ Some r → Told ks row_with fields r
+values_back [] row_with [] r range many is = record { vs = tt; fields_are = refl; row_is = some_once row_with r is; form = tt; good = tt }
+values_back [] row_with (f ∷ fs) r range many is = cc
+values_back (k ∷ ks) row_with [] r range many is = cc
+values_back (k ∷ ks) row_with (f ∷ fs) r range many is =
+    let v = value (of.value_of k f) (λ a. of.told_by ks (row_with a) fs) r is in
+    let back = value_back k f v.a range.0 v.is in
+    let more = values_back ks (row_with v.a) fs r range.1 many v.on in
+    record {
+      vs = (v.a, more.vs);
+      fields_are = λ i. back.is i ∷ more.fields_are i;
+      row_is = more.row_is;
+      form = (back.of, more.form);
+      good = good_more k ks v.a more.vs back.good more.good;
+    }
 
-cpu_sound : (fields : List Field) (r : Row) → Each InRange fields → of.cpu fields ≡ Some r → Says word.Cpu fields r
-cpu_sound (a ∷ []) r range is =
-    let v0 = value (of.big_of a) _ r is in
-    let p0 = big_back a v0.a v0.is in
-    subst (Says word.Cpu (a ∷ [])) (some_once (row.Cpu v0.a) r v0.on)
-    (record { lines = λ j. line word.Cpu (sym p0.is j ∷ []) ∷ []; plain = tt; form = (p0.of, tt) })
-cpu_sound other r range is = absurd (none_some r is)
+-- ---- a line is told by its row
 
-write_sound : (fields : List Field) (r : Row) → Each InRange fields → of.write fields ≡ Some r → Says word.Write fields r
-write_sound (a ∷ b ∷ c ∷ []) r range is =
-    let v0 = value (of.small_of a) _ r is in
-    let p0 = small_back a v0.a v0.is in
-    let v1 = value (of.small_of b) _ r v0.on in
-    let p1 = small_back b v1.a v1.is in
-    let v2 = value (of.fresh_of c) _ r v1.on in
-    let p2 = fresh_back c v2.a v2.is in
-    subst (Says word.Write (a ∷ b ∷ c ∷ [])) (some_once (row.Entry (entry.Write v0.a v1.a v2.a)) r v2.on)
-    (record { lines = λ j. line word.Write (sym p0.is j ∷ sym p1.is j ∷ sym p2.is j ∷ []) ∷ []; plain = tt; form = (p0.of, (p1.of, (p2.of, tt))) })
-write_sound other r range is = absurd (none_some r is)
+-- the row says what the line does
+pub record Says (w : Word) (fields : List Field) (r : Row) : Type 0 where
+  pub lines : row_lines r ≡ line w fields ∷ []
+  pub plain : IsPlainRow r
+  pub form : HasForm (line w fields)
 
-fold_sound : (fields : List Field) (r : Row) → Each InRange fields → of.fold fields ≡ Some r → Says word.Fold fields r
-fold_sound (a ∷ b ∷ c ∷ []) r range is =
-    let v0 = value (of.counter_of a) _ r is in
-    let p0 = counter_back a v0.a range.0 v0.is in
-    let v1 = value (of.big_of b) _ r v0.on in
-    let p1 = big_back b v1.a v1.is in
-    let v2 = value (of.signed_of c) _ r v1.on in
-    let p2 = signed_back c v2.a v2.is in
-    subst (Says word.Fold (a ∷ b ∷ c ∷ [])) (some_once (row.Entry (entry.Folded (record { counter = v0.a; version = v1.a; delta = v2.a }))) r v2.on)
-    (record { lines = λ j. line word.Fold (sym p0.is j ∷ sym p1.is j ∷ sym p2.is j ∷ []) ∷ []; plain = tt; form = (p0.of, (p1.of, (p2.of, tt))) })
-fold_sound other r range is = absurd (none_some r is)
+-- the rows of a shape are plain, and their lines have its word, fields and forms
+record Prints (w : Word) (s : Shape) : Type 0 where
+  pub lines : (vs : Values s.kinds) → row_lines (row_for s.kinds s.row_with vs) ≡ line w (fields_for s.kinds vs) ∷ []
+  pub forms : forms_for s.kinds ≡ forms_of w
+  pub plain : (vs : Values s.kinds) → AreGood s.kinds vs → IsPlainRow (row_for s.kinds s.row_with vs)
 
-read_sound : (fields : List Field) (r : Row) → Each InRange fields → of.read fields ≡ Some r → Says word.Read fields r
-read_sound (a ∷ b ∷ c ∷ d ∷ e ∷ f ∷ g ∷ h ∷ i ∷ j ∷ []) r range is =
-    let v0 = value (of.small_of a) _ r is in
-    let p0 = small_back a v0.a v0.is in
-    let v1 = value (of.big_of b) _ r v0.on in
-    let p1 = big_back b v1.a v1.is in
-    let v2 = value (of.big_of c) _ r v1.on in
-    let p2 = big_back c v2.a v2.is in
-    let v3 = value (of.big_of d) _ r v2.on in
-    let p3 = big_back d v3.a v3.is in
-    let v4 = value (of.big_of e) _ r v3.on in
-    let p4 = big_back e v4.a v4.is in
-    let v5 = value (of.big_of f) _ r v4.on in
-    let p5 = big_back f v5.a v5.is in
-    let v6 = value (of.signed_of g) _ r v5.on in
-    let p6 = signed_back g v6.a v6.is in
-    let v7 = value (of.big_of h) _ r v6.on in
-    let p7 = big_back h v7.a v7.is in
-    let v8 = value (of.big_of i) _ r v7.on in
-    let p8 = big_back i v8.a v8.is in
-    let v9 = value (of.big_of j) _ r v8.on in
-    let p9 = big_back j v9.a v9.is in
-    subst (Says word.Read (a ∷ b ∷ c ∷ d ∷ e ∷ f ∷ g ∷ h ∷ i ∷ j ∷ [])) (some_once (row.Read (record { domain = v0.a; triple = v1.a; limits = record { thresh = v2.a; bg = v3.a; hard = v4.a }; count = record { version = v5.a; value = v6.a }; share = record { period = v7.a; num = v8.a; den = v9.a } })) r v9.on)
-    (record { lines = λ j. line word.Read (sym p0.is j ∷ sym p1.is j ∷ sym p2.is j ∷ sym p3.is j ∷ sym p4.is j ∷ sym p5.is j ∷ sym p6.is j ∷ sym p7.is j ∷ sym p8.is j ∷ sym p9.is j ∷ []) ∷ []; plain = tt; form = (p0.of, (p1.of, (p2.of, (p3.of, (p4.of, (p5.of, (p6.of, (p7.of, (p8.of, (p9.of, tt)))))))))) })
-read_sound other r range is = absurd (none_some r is)
+shaped : (w : Word) → IfSome (of.shape_of w) (Prints w)
+shaped word.Timer = record { lines = λ vs. refl; forms = refl; plain = λ vs good. tt }
+shaped word.Limits = record { lines = λ vs. refl; forms = refl; plain = λ vs good. tt }
+shaped word.Period = record { lines = λ vs. refl; forms = refl; plain = λ vs good. tt }
+shaped word.Cpu = record { lines = λ vs. refl; forms = refl; plain = λ vs good. tt }
+shaped word.Write = record { lines = λ vs. refl; forms = refl; plain = λ vs good. tt }
+shaped word.Fold = record { lines = λ vs. refl; forms = refl; plain = λ vs good. tt }
+shaped word.Read = record { lines = λ vs. refl; forms = refl; plain = λ vs good. tt }
+shaped word.Count = record { lines = λ vs. refl; forms = refl; plain = λ vs good. tt }
+shaped word.Check = record { lines = λ vs. refl; forms = refl; plain = λ vs good. refl }
+shaped word.Claim = record { lines = λ vs. refl; forms = refl; plain = λ vs good. tt }
+shaped word.Batch = record { lines = λ vs. refl; forms = refl; plain = λ vs good. tt }
+shaped word.Done = record { lines = λ vs. refl; forms = refl; plain = λ vs good. tt }
+shaped word.Share = record { lines = λ vs. refl; forms = refl; plain = λ vs good. tt }
+shaped word.Est = record { lines = λ vs. refl; forms = refl; plain = λ vs good. tt }
+shaped word.Fault = record { lines = λ vs. refl; forms = refl; plain = λ vs good. tt }
+shaped word.Back = record { lines = λ vs. refl; forms = refl; plain = λ vs good. tt }
+shaped word.Notice = record { lines = λ vs. refl; forms = refl; plain = λ vs good. tt }
+shaped word.Age = record { lines = λ vs. refl; forms = refl; plain = λ vs good. tt }
+shaped word.Take = record { lines = λ vs. refl; forms = refl; plain = λ vs good. tt }
+shaped word.Left = record { lines = λ vs. refl; forms = refl; plain = λ vs good. good.0 }
+shaped word.Census = record { lines = λ vs. refl; forms = refl; plain = λ vs good. tt }
+shaped word.Totals = record { lines = λ vs. refl; forms = refl; plain = λ vs good. tt }
+shaped word.End = record { lines = λ vs. refl; forms = refl; plain = λ vs good. tt }
+shaped other = tt
 
-count_sound : (fields : List Field) (r : Row) → Each InRange fields → of.count fields ≡ Some r → Says word.Count fields r
-count_sound (a ∷ b ∷ c ∷ []) r range is =
-    let v0 = value (of.small_of a) _ r is in
-    let p0 = small_back a v0.a v0.is in
-    let v1 = value (of.big_of b) _ r v0.on in
-    let p1 = big_back b v1.a v1.is in
-    let v2 = value (of.signed_of c) _ r v1.on in
-    let p2 = signed_back c v2.a v2.is in
-    subst (Says word.Count (a ∷ b ∷ c ∷ [])) (some_once (row.Count v0.a (record { version = v1.a; value = v2.a })) r v2.on)
-    (record { lines = λ j. line word.Count (sym p0.is j ∷ sym p1.is j ∷ sym p2.is j ∷ []) ∷ []; plain = tt; form = (p0.of, (p1.of, (p2.of, tt))) })
-count_sound other r range is = absurd (none_some r is)
-
-check_sound : (fields : List Field) (r : Row) → Each InRange fields → of.check fields ≡ Some r → Says word.Check fields r
-check_sound (a ∷ b ∷ c ∷ d ∷ e ∷ f ∷ g ∷ h ∷ i ∷ j ∷ []) r range is =
-    let v0 = value (of.small_of a) _ r is in
-    let p0 = small_back a v0.a v0.is in
-    let v1 = value (of.small_of b) _ r v0.on in
-    let p1 = small_back b v1.a v1.is in
-    let v2 = value (of.big_of c) _ r v1.on in
-    let p2 = big_back c v2.a v2.is in
-    let v3 = value (of.big_of d) _ r v2.on in
-    let p3 = big_back d v3.a v3.is in
-    let v4 = value (of.kind_of e) _ r v3.on in
-    let p4 = kind_back e v4.a v4.is in
-    let v5 = value (of.big_of f) _ r v4.on in
-    let p5 = big_back f v5.a v5.is in
-    let v6 = value (of.big_of g) _ r v5.on in
-    let p6 = big_back g v6.a v6.is in
-    let v7 = value (of.big_of h) _ r v6.on in
-    let p7 = big_back h v7.a v7.is in
-    let v8 = value (of.big_of i) _ r v7.on in
-    let p8 = big_back i v8.a v8.is in
-    let v9 = value (of.big_of j) _ r v8.on in
-    let p9 = big_back j v9.a v9.is in
-    subst (Says word.Check (a ∷ b ∷ c ∷ d ∷ e ∷ f ∷ g ∷ h ∷ i ∷ j ∷ [])) (some_once (row.Check (record { task = v0.a; context = v1.a; now = v2.a; estimate = v3.a; decision = record { kind = v4.a; pause = v5.a; left = v6.a; task = record { nr_dirtied = v7.a; nr_dirtied_pause = v8.a; paused_when = v9.a }; exceeded = false } })) r v9.on)
-    (record { lines = λ j. line word.Check (sym p0.is j ∷ sym p1.is j ∷ sym p2.is j ∷ sym p3.is j ∷ sym p4.is j ∷ sym p5.is j ∷ sym p6.is j ∷ sym p7.is j ∷ sym p8.is j ∷ sym p9.is j ∷ []) ∷ []; plain = refl; form = (p0.of, (p1.of, (p2.of, (p3.of, (p4.of, (p5.of, (p6.of, (p7.of, (p8.of, (p9.of, tt)))))))))) })
-check_sound other r range is = absurd (none_some r is)
-
-claim_sound : (fields : List Field) (r : Row) → Each InRange fields → of.claim fields ≡ Some r → Says word.Claim fields r
-claim_sound (a ∷ b ∷ []) r range is =
-    let v0 = value (of.small_of a) _ r is in
-    let p0 = small_back a v0.a v0.is in
-    let v1 = value (of.small_of b) _ r v0.on in
-    let p1 = small_back b v1.a v1.is in
-    subst (Says word.Claim (a ∷ b ∷ [])) (some_once (row.Entry (entry.Claimed v0.a v1.a)) r v1.on)
-    (record { lines = λ j. line word.Claim (sym p0.is j ∷ sym p1.is j ∷ []) ∷ []; plain = tt; form = (p0.of, (p1.of, tt)) })
-claim_sound other r range is = absurd (none_some r is)
-
-batch_sound : (fields : List Field) (r : Row) → Each InRange fields → of.batch fields ≡ Some r → Says word.Batch fields r
-batch_sound (a ∷ b ∷ c ∷ d ∷ []) r range is =
-    let v0 = value (of.small_of a) _ r is in
-    let p0 = small_back a v0.a v0.is in
-    let v1 = value (of.small_of b) _ r v0.on in
-    let p1 = small_back b v1.a v1.is in
-    let v2 = value (of.big_of c) _ r v1.on in
-    let p2 = big_back c v2.a v2.is in
-    let v3 = value (of.big_of d) _ r v2.on in
-    let p3 = big_back d v3.a v3.is in
-    subst (Says word.Batch (a ∷ b ∷ c ∷ d ∷ [])) (some_once (row.Entry (entry.Batch v0.a v1.a v2.a v3.a)) r v3.on)
-    (record { lines = λ j. line word.Batch (sym p0.is j ∷ sym p1.is j ∷ sym p2.is j ∷ sym p3.is j ∷ []) ∷ []; plain = tt; form = (p0.of, (p1.of, (p2.of, (p3.of, tt)))) })
-batch_sound other r range is = absurd (none_some r is)
-
-done_sound : (fields : List Field) (r : Row) → Each InRange fields → of.done fields ≡ Some r → Says word.Done fields r
-done_sound (a ∷ b ∷ []) r range is =
-    let v0 = value (of.small_of a) _ r is in
-    let p0 = small_back a v0.a v0.is in
-    let v1 = value (of.small_of b) _ r v0.on in
-    let p1 = small_back b v1.a v1.is in
-    subst (Says word.Done (a ∷ b ∷ [])) (some_once (row.Entry (entry.Done v0.a v1.a)) r v1.on)
-    (record { lines = λ j. line word.Done (sym p0.is j ∷ sym p1.is j ∷ []) ∷ []; plain = tt; form = (p0.of, (p1.of, tt)) })
-done_sound other r range is = absurd (none_some r is)
-
-share_sound : (fields : List Field) (r : Row) → Each InRange fields → of.share fields ≡ Some r → Says word.Share fields r
-share_sound (a ∷ b ∷ c ∷ []) r range is =
-    let v0 = value (of.small_of a) _ r is in
-    let p0 = small_back a v0.a v0.is in
-    let v1 = value (of.small_of b) _ r v0.on in
-    let p1 = small_back b v1.a v1.is in
-    let v2 = value (of.big_of c) _ r v1.on in
-    let p2 = big_back c v2.a v2.is in
-    subst (Says word.Share (a ∷ b ∷ c ∷ [])) (some_once (row.Entry (entry.Share v0.a v1.a v2.a)) r v2.on)
-    (record { lines = λ j. line word.Share (sym p0.is j ∷ sym p1.is j ∷ sym p2.is j ∷ []) ∷ []; plain = tt; form = (p0.of, (p1.of, (p2.of, tt))) })
-share_sound other r range is = absurd (none_some r is)
-
-est_sound : (fields : List Field) (r : Row) → Each InRange fields → of.est fields ≡ Some r → Says word.Est fields r
-est_sound (a ∷ b ∷ c ∷ d ∷ e ∷ f ∷ g ∷ h ∷ i ∷ []) r range is =
-    let v0 = value (of.small_of a) _ r is in
-    let p0 = small_back a v0.a v0.is in
-    let v1 = value (of.big_of b) _ r v0.on in
-    let p1 = big_back b v1.a v1.is in
-    let v2 = value (of.big_of c) _ r v1.on in
-    let p2 = big_back c v2.a v2.is in
-    let v3 = value (of.big_of d) _ r v2.on in
-    let p3 = big_back d v3.a v3.is in
-    let v4 = value (of.big_of e) _ r v3.on in
-    let p4 = big_back e v4.a v4.is in
-    let v5 = value (of.big_of f) _ r v4.on in
-    let p5 = big_back f v5.a v5.is in
-    let v6 = value (of.big_of g) _ r v5.on in
-    let p6 = big_back g v6.a v6.is in
-    let v7 = value (of.big_of h) _ r v6.on in
-    let p7 = big_back h v7.a v7.is in
-    let v8 = value (of.big_of i) _ r v7.on in
-    let p8 = big_back i v8.a v8.is in
-    subst (Says word.Est (a ∷ b ∷ c ∷ d ∷ e ∷ f ∷ g ∷ h ∷ i ∷ [])) (some_once (row.Estimate (record { context = v0.a; estimate = record { version = v1.a; bw = v2.a; avg = v3.a; ratelimit = v4.a; balanced = v5.a; written_stamp = v6.a; dirtied_stamp = v7.a; at = v8.a } })) r v8.on)
-    (record { lines = λ j. line word.Est (sym p0.is j ∷ sym p1.is j ∷ sym p2.is j ∷ sym p3.is j ∷ sym p4.is j ∷ sym p5.is j ∷ sym p6.is j ∷ sym p7.is j ∷ sym p8.is j ∷ []) ∷ []; plain = tt; form = (p0.of, (p1.of, (p2.of, (p3.of, (p4.of, (p5.of, (p6.of, (p7.of, (p8.of, tt))))))))) })
-est_sound other r range is = absurd (none_some r is)
-
-fault_sound : (fields : List Field) (r : Row) → Each InRange fields → of.fault fields ≡ Some r → Says word.Fault fields r
-fault_sound (a ∷ b ∷ []) r range is =
-    let v0 = value (of.small_of a) _ r is in
-    let p0 = small_back a v0.a v0.is in
-    let v1 = value (of.small_of b) _ r v0.on in
-    let p1 = small_back b v1.a v1.is in
-    subst (Says word.Fault (a ∷ b ∷ [])) (some_once (row.Entry (entry.Fault v0.a v1.a)) r v1.on)
-    (record { lines = λ j. line word.Fault (sym p0.is j ∷ sym p1.is j ∷ []) ∷ []; plain = tt; form = (p0.of, (p1.of, tt)) })
-fault_sound other r range is = absurd (none_some r is)
-
-back_sound : (fields : List Field) (r : Row) → Each InRange fields → of.back fields ≡ Some r → Says word.Back fields r
-back_sound (a ∷ b ∷ c ∷ []) r range is =
-    let v0 = value (of.small_of a) _ r is in
-    let p0 = small_back a v0.a v0.is in
-    let v1 = value (of.small_of b) _ r v0.on in
-    let p1 = small_back b v1.a v1.is in
-    let v2 = value (of.absorbed_of c) _ r v1.on in
-    let p2 = absorbed_back c v2.a v2.is in
-    subst (Says word.Back (a ∷ b ∷ c ∷ [])) (some_once (row.Entry (entry.Back v0.a v1.a v2.a)) r v2.on)
-    (record { lines = λ j. line word.Back (sym p0.is j ∷ sym p1.is j ∷ sym p2.is j ∷ []) ∷ []; plain = tt; form = (p0.of, (p1.of, (p2.of, tt))) })
-back_sound other r range is = absurd (none_some r is)
-
-notice_sound : (fields : List Field) (r : Row) → Each InRange fields → of.notice fields ≡ Some r → Says word.Notice fields r
-notice_sound (a ∷ b ∷ c ∷ []) r range is =
-    let v0 = value (of.small_of a) _ r is in
-    let p0 = small_back a v0.a v0.is in
-    let v1 = value (of.small_of b) _ r v0.on in
-    let p1 = small_back b v1.a v1.is in
-    let v2 = value (of.big_of c) _ r v1.on in
-    let p2 = big_back c v2.a v2.is in
-    subst (Says word.Notice (a ∷ b ∷ c ∷ [])) (some_once (row.Entry (entry.Noticed v0.a v1.a v2.a)) r v2.on)
-    (record { lines = λ j. line word.Notice (sym p0.is j ∷ sym p1.is j ∷ sym p2.is j ∷ []) ∷ []; plain = tt; form = (p0.of, (p1.of, (p2.of, tt))) })
-notice_sound other r range is = absurd (none_some r is)
-
-age_sound : (fields : List Field) (r : Row) → Each InRange fields → of.age fields ≡ Some r → Says word.Age fields r
-age_sound (a ∷ b ∷ c ∷ d ∷ []) r range is =
-    let v0 = value (of.small_of a) _ r is in
-    let p0 = small_back a v0.a v0.is in
-    let v1 = value (of.small_of b) _ r v0.on in
-    let p1 = small_back b v1.a v1.is in
-    let v2 = value (of.big_of c) _ r v1.on in
-    let p2 = big_back c v2.a v2.is in
-    let v3 = value (of.big_of d) _ r v2.on in
-    let p3 = big_back d v3.a v3.is in
-    subst (Says word.Age (a ∷ b ∷ c ∷ d ∷ [])) (some_once (row.Entry (entry.Aged v0.a v1.a v2.a v3.a)) r v3.on)
-    (record { lines = λ j. line word.Age (sym p0.is j ∷ sym p1.is j ∷ sym p2.is j ∷ sym p3.is j ∷ []) ∷ []; plain = tt; form = (p0.of, (p1.of, (p2.of, (p3.of, tt)))) })
-age_sound other r range is = absurd (none_some r is)
-
-take_sound : (fields : List Field) (r : Row) → Each InRange fields → of.take fields ≡ Some r → Says word.Take fields r
-take_sound (a ∷ b ∷ []) r range is =
-    let v0 = value (of.small_of a) _ r is in
-    let p0 = small_back a v0.a v0.is in
-    let v1 = value (of.small_of b) _ r v0.on in
-    let p1 = small_back b v1.a v1.is in
-    subst (Says word.Take (a ∷ b ∷ [])) (some_once (row.Entry (entry.Taken v0.a v1.a)) r v1.on)
-    (record { lines = λ j. line word.Take (sym p0.is j ∷ sym p1.is j ∷ []) ∷ []; plain = tt; form = (p0.of, (p1.of, tt)) })
-take_sound other r range is = absurd (none_some r is)
-
-left_sound : (fields : List Field) (r : Row) → Each InRange fields → of.left fields ≡ Some r → Says word.Left fields r
-left_sound (a ∷ b ∷ []) r range is =
-    let v0 = value (of.small_of a) _ r is in
-    let p0 = small_back a v0.a v0.is in
-    let v1 = value (of.bits_of b) _ r v0.on in
-    let p1 = bits_back b v1.a v1.is in
-    subst (Says word.Left (a ∷ b ∷ [])) (some_once (row.Left (record { page = v0.a; word = v1.a })) r v1.on)
-    (record { lines = λ j. line word.Left (sym p0.is j ∷ sym p1.is j ∷ []) ∷ []; plain = bits_have b v1.a v1.is; form = (p0.of, (p1.of, tt)) })
-left_sound other r range is = absurd (none_some r is)
-
-census_sound : (fields : List Field) (r : Row) → Each InRange fields → of.census fields ≡ Some r → Says word.Census fields r
-census_sound (a ∷ b ∷ []) r range is =
-    let v0 = value (of.big_of a) _ r is in
-    let p0 = big_back a v0.a v0.is in
-    let v1 = value (of.big_of b) _ r v0.on in
-    let p1 = big_back b v1.a v1.is in
-    subst (Says word.Census (a ∷ b ∷ [])) (some_once (row.Census v0.a v1.a) r v1.on)
-    (record { lines = λ j. line word.Census (sym p0.is j ∷ sym p1.is j ∷ []) ∷ []; plain = tt; form = (p0.of, (p1.of, tt)) })
-census_sound other r range is = absurd (none_some r is)
-
-totals_sound : (fields : List Field) (r : Row) → Each InRange fields → of.totals fields ≡ Some r → Says word.Totals fields r
-totals_sound (a ∷ b ∷ []) r range is =
-    let v0 = value (of.big_of a) _ r is in
-    let p0 = big_back a v0.a v0.is in
-    let v1 = value (of.big_of b) _ r v0.on in
-    let p1 = big_back b v1.a v1.is in
-    subst (Says word.Totals (a ∷ b ∷ [])) (some_once (row.Totals v0.a v1.a) r v1.on)
-    (record { lines = λ j. line word.Totals (sym p0.is j ∷ sym p1.is j ∷ []) ∷ []; plain = tt; form = (p0.of, (p1.of, tt)) })
-totals_sound other r range is = absurd (none_some r is)
-
-end_sound : (fields : List Field) (r : Row) → Each InRange fields → of.end fields ≡ Some r → Says word.End fields r
-end_sound (a ∷ []) r range is =
-    let v0 = value (of.ending_of a) _ r is in
-    let p0 = ending_back a v0.a v0.is in
-    subst (Says word.End (a ∷ [])) (some_once (row.End v0.a) r v0.on)
-    (record { lines = λ j. line word.End (sym p0.is j ∷ []) ∷ []; plain = tt; form = (p0.of, tt) })
-end_sound other r range is = absurd (none_some r is)
+sound : (w : Word) (which : Option Shape) (fields : List Field) (r : Row) → IfSome which (Prints w) → Each InRange fields → of.row_by which fields ≡ Some r → Says w fields r
+sound w None fields r prints range is = absurd (none_some r is)
+sound w (Some s) fields r prints range is =
+    let t = tested (of.as_many s.kinds fields) (of.told_by s.kinds s.row_with fields) r is in
+    let told = values_back s.kinds s.row_with fields r range t.0 t.1 in
+    record {
+      lines = ap row_lines (sym told.row_is) ∙ prints.lines told.vs ∙ ap (λ (fs : List Field). line w fs ∷ []) (sym told.fields_are);
+      plain = subst IsPlainRow told.row_is (prints.plain told.vs told.good);
+      form = subst (λ (forms : List Form). AreOf forms fields) prints.forms told.form;
+    }
 
 pub row_sound : (w : Word) (fields : List Field) (r : Row) → Each InRange fields → of.row_of w fields ≡ Some r → Says w fields r
-row_sound word.Timer fields r range is = timer_sound fields r range is
-row_sound word.Limits fields r range is = limits_sound fields r range is
-row_sound word.Period fields r range is = period_sound fields r range is
-row_sound word.Cpu fields r range is = cpu_sound fields r range is
-row_sound word.Write fields r range is = write_sound fields r range is
-row_sound word.Fold fields r range is = fold_sound fields r range is
-row_sound word.Read fields r range is = read_sound fields r range is
-row_sound word.Count fields r range is = count_sound fields r range is
-row_sound word.Check fields r range is = check_sound fields r range is
-row_sound word.Claim fields r range is = claim_sound fields r range is
-row_sound word.Batch fields r range is = batch_sound fields r range is
-row_sound word.Done fields r range is = done_sound fields r range is
-row_sound word.Share fields r range is = share_sound fields r range is
-row_sound word.Est fields r range is = est_sound fields r range is
-row_sound word.Fault fields r range is = fault_sound fields r range is
-row_sound word.Back fields r range is = back_sound fields r range is
-row_sound word.Notice fields r range is = notice_sound fields r range is
-row_sound word.Age fields r range is = age_sound fields r range is
-row_sound word.Take fields r range is = take_sound fields r range is
-row_sound word.Left fields r range is = left_sound fields r range is
-row_sound word.Census fields r range is = census_sound fields r range is
-row_sound word.Totals fields r range is = totals_sound fields r range is
-row_sound word.End fields r range is = end_sound fields r range is
-row_sound other fields r range is = absurd (none_some r is)
+row_sound w fields r range is = sound w (of.shape_of w) fields r (shaped w) range is

@@ -74,176 +74,161 @@ ending_of (Name word.Spent) = Some ending.Spent
 ending_of (Name word.Faulted) = Some ending.Faulted
 ending_of other = None
 
--- ---- a row for each word, where each of its fields tells something
+-- ---- the kinds of fields
+
+-- what a field of a line tells
+pub data FieldKind : Type 0 where
+  -- a number of 32 bits: a thing, or a batch's pages
+  small : FieldKind
+  -- a number of 64 bits: pages, ticks, a version, a CPU
+  big : FieldKind
+  -- a number of 64 bits that may be below zero
+  signed : FieldKind
+  -- the name of a counter
+  counted : FieldKind
+  -- the word that says whether a page was clean
+  fresh : FieldKind
+  -- the word of a decision's kind
+  decided : FieldKind
+  -- the word that says whether a page was absorbed
+  absorbed : FieldKind
+  -- the word of a page that is left
+  bits : FieldKind
+  -- the word of an ending
+  ended : FieldKind
+
+-- the values that fields of a kind tell
+abbrev pub Value : (field_kind : FieldKind) → Type 0
+Value small = ℕ
+Value big = ℕ
+Value signed = ℤ
+Value counted = Counter
+Value fresh = Bool
+Value decided = Kind
+Value absorbed = Bool
+Value bits = ℕ
+Value ended = Ending
+
+-- the value that a field of a kind tells
+abbrev pub value_of : (field_kind : FieldKind) (field : Field) → Option (Value field_kind)
+value_of small field = small_of field
+value_of big field = big_of field
+value_of signed field = signed_of field
+value_of counted field = counter_of field
+value_of fresh field = fresh_of field
+value_of decided field = kind_of field
+value_of absorbed field = absorbed_of field
+value_of bits field = bits_of field
+value_of ended field = ending_of field
+
+-- ---- the table of lines: for each word the kinds of its fields, and the row of their values
+
+-- a row of a value for each kind
+abbrev pub RowWith : (kinds : List FieldKind) → Type 0
+RowWith [] = Row
+RowWith (field_kind ∷ kinds) = Value field_kind → RowWith kinds
+
+-- the kinds of a line's fields, and the row of what they tell
+pub record Shape : Type 0 where
+  pub kinds : List FieldKind
+  pub row_with : RowWith kinds
+
+-- the shape of a line that a plain journal may have
+abbrev pub shape : (kinds : List FieldKind) (row_with : RowWith kinds) → Option Shape
+shape kinds row_with = Some (record { kinds = kinds; row_with = row_with })
+
+-- the shape of a word's lines; none where a plain journal has no such line
+abbrev pub shape_of : (word : Word) → Option Shape
+-- the beginning of the timer's entries
+shape_of word.Timer = shape [] row.Timer
+-- limits of a domain: moment, threshold, background threshold and hard limit
+shape_of word.Limits =
+    shape (small ∷ big ∷ big ∷ big ∷ big ∷ [])
+    (λ domain now thresh bg hard.
+    row.Timed (timed.Limits domain now (record { thresh = thresh; bg = bg; hard = hard })))
+-- periods of a domain that began at once
+shape_of word.Period = shape (small ∷ big ∷ []) (λ domain k. row.Timed (timed.Period domain k))
+-- the beginning of a CPU's part
+shape_of word.Cpu = shape (big ∷ []) row.Cpu
+-- a task's write of a page
+shape_of word.Write = shape (small ∷ small ∷ fresh ∷ []) (λ task page was_clean. row.Entry (entry.Write task page was_clean))
+-- a fold of a counter under its version
+shape_of word.Fold =
+    shape (counted ∷ big ∷ signed ∷ [])
+    (λ counter version delta.
+    row.Entry (entry.Folded (record { counter = counter; version = version; delta = delta })))
+-- what a check read of a domain
+shape_of word.Read =
+    shape (small ∷ big ∷ big ∷ big ∷ big ∷ big ∷ signed ∷ big ∷ big ∷ big ∷ [])
+    (λ domain triple thresh bg hard version value period num den.
+    row.Read (record { domain = domain; triple = triple; limits = record { thresh = thresh; bg = bg; hard = hard }; count = record { version = version; value = value }; share = record { period = period; num = num; den = den } }))
+-- the count of its context that a check loaded
+shape_of word.Count = shape (small ∷ big ∷ signed ∷ []) (λ context version value. row.Count context (record { version = version; value = value }))
+-- a check's decision
+shape_of word.Check =
+    shape (small ∷ small ∷ big ∷ big ∷ decided ∷ big ∷ big ∷ big ∷ big ∷ big ∷ [])
+    (λ task context now estimate kind pause left nr allowance when.
+    row.Check (record { task = task; context = context; now = now; estimate = estimate; decision = record { kind = kind; pause = pause; left = left; task = record { nr_dirtied = nr; nr_dirtied_pause = allowance; paused_when = when }; exceeded = false } }))
+-- a flusher's claim of a page
+shape_of word.Claim = shape (small ∷ small ∷ []) (λ flusher page. row.Entry (entry.Claimed flusher page))
+-- a flusher's batch, with the moments at which it went to the disk and was written
+shape_of word.Batch = shape (small ∷ small ∷ big ∷ big ∷ []) (λ flusher pages now until. row.Entry (entry.Batch flusher pages now until))
+-- a flusher's completion of a page
+shape_of word.Done = shape (small ∷ small ∷ []) (λ flusher page. row.Entry (entry.Done flusher page))
+-- what was added for a context in a domain
+shape_of word.Share = shape (small ∷ small ∷ big ∷ []) (λ domain context n. row.Entry (entry.Share domain context n))
+-- an estimate of a context
+shape_of word.Est =
+    shape (small ∷ big ∷ big ∷ big ∷ big ∷ big ∷ big ∷ big ∷ big ∷ [])
+    (λ context version bw avg ratelimit balanced written dirtied moment.
+    row.Estimate (record { context = context; estimate = record { version = version; bw = bw; avg = avg; ratelimit = ratelimit; balanced = balanced; written_stamp = written; dirtied_stamp = dirtied; at = moment } }))
+-- a batch that a flusher's disk failed to write
+shape_of word.Fault = shape (small ∷ small ∷ []) (λ flusher pages. row.Entry (entry.Fault flusher pages))
+-- a page that a flusher gave back
+shape_of word.Back = shape (small ∷ small ∷ absorbed ∷ []) (λ flusher page was_absorbed. row.Entry (entry.Back flusher page was_absorbed))
+-- an inode that a flusher noticed at a moment
+shape_of word.Notice = shape (small ∷ small ∷ big ∷ []) (λ flusher inode since. row.Entry (entry.Noticed flusher inode since))
+-- an inode that a flusher took for its age
+shape_of word.Age = shape (small ∷ small ∷ big ∷ big ∷ []) (λ flusher inode due now. row.Entry (entry.Aged flusher inode due now))
+-- an inode that a flusher took, due or not
+shape_of word.Take = shape (small ∷ small ∷ []) (λ flusher inode. row.Entry (entry.Taken flusher inode))
+-- a page that is left
+shape_of word.Left = shape (small ∷ bits ∷ []) (λ page left_bits. row.Left (record { page = page; word = left_bits }))
+-- how many pages are left dirty, and how many under writeback
+shape_of word.Census = shape (big ∷ big ∷ []) row.Census
+-- how many writes were fresh, and how many pages were done
+shape_of word.Totals = shape (big ∷ big ∷ []) row.Totals
+-- how the run ended
+shape_of word.End = shape (ended ∷ []) row.End
+shape_of other = None
+
+-- ---- reading by the table
+
+-- whether there is one field for each kind
+abbrev pub as_many : (kinds : List FieldKind) (fields : List Field) → Bool
+as_many [] [] = true
+as_many (field_kind ∷ kinds) (field ∷ fields) = as_many kinds fields
+as_many kinds fields = false
 
 -- the row where the field tells a value; none where it doesn't
 abbrev pub with_value : {A : Type 0} (told : Option A) (row_with : A → Option Row) → Option Row
 with_value None row_with = None
 with_value (Some value) row_with = row_with value
 
--- the beginning of the timer's entries
-abbrev pub timer : (fields : List Field) → Option Row
-timer [] = Some row.Timer
-timer other = None
+-- the row of the values that the fields tell, one for each kind
+abbrev pub told_by : (kinds : List FieldKind) (row_with : RowWith kinds) (fields : List Field) → Option Row
+told_by [] row_with fields = Some row_with
+told_by (field_kind ∷ kinds) row_with [] = None
+told_by (field_kind ∷ kinds) row_with (field ∷ fields) = with_value (value_of field_kind field) (λ value. told_by kinds (row_with value) fields)
 
--- limits of a domain: moment, threshold, background threshold and hard limit
-abbrev pub limits : (fields : List Field) → Option Row
-limits (a ∷ b ∷ c ∷ d ∷ e ∷ []) =
-    with_value (small_of a) (λ domain. with_value (big_of b) (λ now. with_value (big_of c) (λ thresh. with_value (big_of d) (λ bg. with_value (big_of e) (λ hard. Some (row.Timed (timed.Limits domain now (record { thresh = thresh; bg = bg; hard = hard }))))))))
-limits other = None
+-- the row of the fields of a line that has a shape
+abbrev pub row_by : (which : Option Shape) (fields : List Field) → Option Row
+row_by None fields = None
+row_by (Some s) fields = if as_many s.kinds fields then told_by s.kinds s.row_with fields else None
 
--- periods of a domain that began at once
-abbrev pub period : (fields : List Field) → Option Row
-period (a ∷ b ∷ []) =
-    with_value (small_of a) (λ domain. with_value (big_of b) (λ k. Some (row.Timed (timed.Period domain k))))
-period other = None
-
--- the beginning of a CPU's part
-abbrev pub cpu : (fields : List Field) → Option Row
-cpu (a ∷ []) =
-    with_value (big_of a) (λ cpu. Some (row.Cpu cpu))
-cpu other = None
-
--- a task's write of a page
-abbrev pub write : (fields : List Field) → Option Row
-write (a ∷ b ∷ c ∷ []) =
-    with_value (small_of a) (λ task. with_value (small_of b) (λ page. with_value (fresh_of c) (λ fresh. Some (row.Entry (entry.Write task page fresh)))))
-write other = None
-
--- a fold of a counter under its version
-abbrev pub fold : (fields : List Field) → Option Row
-fold (a ∷ b ∷ c ∷ []) =
-    with_value (counter_of a) (λ counter. with_value (big_of b) (λ version. with_value (signed_of c) (λ delta. Some (row.Entry (entry.Folded (record { counter = counter; version = version; delta = delta }))))))
-fold other = None
-
--- what a check read of a domain
-abbrev pub read : (fields : List Field) → Option Row
-read (a ∷ b ∷ c ∷ d ∷ e ∷ f ∷ g ∷ h ∷ i ∷ j ∷ []) =
-    with_value (small_of a) (λ domain. with_value (big_of b) (λ triple. with_value (big_of c) (λ thresh. with_value (big_of d) (λ bg. with_value (big_of e) (λ hard. with_value (big_of f) (λ version. with_value (signed_of g) (λ value. with_value (big_of h) (λ period. with_value (big_of i) (λ num. with_value (big_of j) (λ den. Some (row.Read (record { domain = domain; triple = triple; limits = record { thresh = thresh; bg = bg; hard = hard }; count = record { version = version; value = value }; share = record { period = period; num = num; den = den } }))))))))))))
-read other = None
-
--- the count of its context that a check loaded
-abbrev pub count : (fields : List Field) → Option Row
-count (a ∷ b ∷ c ∷ []) =
-    with_value (small_of a) (λ context. with_value (big_of b) (λ version. with_value (signed_of c) (λ value. Some (row.Count context (record { version = version; value = value })))))
-count other = None
-
--- a check's decision
-abbrev pub check : (fields : List Field) → Option Row
-check (a ∷ b ∷ c ∷ d ∷ e ∷ f ∷ g ∷ h ∷ i ∷ j ∷ []) =
-    with_value (small_of a) (λ task. with_value (small_of b) (λ context. with_value (big_of c) (λ now. with_value (big_of d) (λ estimate. with_value (kind_of e) (λ kind. with_value (big_of f) (λ pause. with_value (big_of g) (λ left. with_value (big_of h) (λ nr. with_value (big_of i) (λ allowance. with_value (big_of j) (λ when. Some (row.Check (record { task = task; context = context; now = now; estimate = estimate; decision = record { kind = kind; pause = pause; left = left; task = record { nr_dirtied = nr; nr_dirtied_pause = allowance; paused_when = when }; exceeded = false } }))))))))))))
-check other = None
-
--- a flusher's claim of a page
-abbrev pub claim : (fields : List Field) → Option Row
-claim (a ∷ b ∷ []) =
-    with_value (small_of a) (λ flusher. with_value (small_of b) (λ page. Some (row.Entry (entry.Claimed flusher page))))
-claim other = None
-
--- a flusher's batch, with the moments at which it went to the disk and was written
-abbrev pub batch : (fields : List Field) → Option Row
-batch (a ∷ b ∷ c ∷ d ∷ []) =
-    with_value (small_of a) (λ flusher. with_value (small_of b) (λ pages. with_value (big_of c) (λ now. with_value (big_of d) (λ until. Some (row.Entry (entry.Batch flusher pages now until))))))
-batch other = None
-
--- a flusher's completion of a page
-abbrev pub done : (fields : List Field) → Option Row
-done (a ∷ b ∷ []) =
-    with_value (small_of a) (λ flusher. with_value (small_of b) (λ page. Some (row.Entry (entry.Done flusher page))))
-done other = None
-
--- what was added for a context in a domain
-abbrev pub share : (fields : List Field) → Option Row
-share (a ∷ b ∷ c ∷ []) =
-    with_value (small_of a) (λ domain. with_value (small_of b) (λ context. with_value (big_of c) (λ n. Some (row.Entry (entry.Share domain context n)))))
-share other = None
-
--- an estimate of a context
-abbrev pub est : (fields : List Field) → Option Row
-est (a ∷ b ∷ c ∷ d ∷ e ∷ f ∷ g ∷ h ∷ i ∷ []) =
-    with_value (small_of a) (λ context. with_value (big_of b) (λ version. with_value (big_of c) (λ bw. with_value (big_of d) (λ avg. with_value (big_of e) (λ ratelimit. with_value (big_of f) (λ balanced. with_value (big_of g) (λ written. with_value (big_of h) (λ dirtied. with_value (big_of i) (λ moment. Some (row.Estimate (record { context = context; estimate = record { version = version; bw = bw; avg = avg; ratelimit = ratelimit; balanced = balanced; written_stamp = written; dirtied_stamp = dirtied; at = moment } })))))))))))
-est other = None
-
--- a batch that a flusher's disk failed to write
-abbrev pub fault : (fields : List Field) → Option Row
-fault (a ∷ b ∷ []) =
-    with_value (small_of a) (λ flusher. with_value (small_of b) (λ pages. Some (row.Entry (entry.Fault flusher pages))))
-fault other = None
-
--- a page that a flusher gave back
-abbrev pub back : (fields : List Field) → Option Row
-back (a ∷ b ∷ c ∷ []) =
-    with_value (small_of a) (λ flusher. with_value (small_of b) (λ page. with_value (absorbed_of c) (λ absorbed. Some (row.Entry (entry.Back flusher page absorbed)))))
-back other = None
-
--- an inode that a flusher noticed at a moment
-abbrev pub notice : (fields : List Field) → Option Row
-notice (a ∷ b ∷ c ∷ []) =
-    with_value (small_of a) (λ flusher. with_value (small_of b) (λ inode. with_value (big_of c) (λ since. Some (row.Entry (entry.Noticed flusher inode since)))))
-notice other = None
-
--- an inode that a flusher took for its age
-abbrev pub age : (fields : List Field) → Option Row
-age (a ∷ b ∷ c ∷ d ∷ []) =
-    with_value (small_of a) (λ flusher. with_value (small_of b) (λ inode. with_value (big_of c) (λ due. with_value (big_of d) (λ now. Some (row.Entry (entry.Aged flusher inode due now))))))
-age other = None
-
--- an inode that a flusher took, due or not
-abbrev pub take : (fields : List Field) → Option Row
-take (a ∷ b ∷ []) =
-    with_value (small_of a) (λ flusher. with_value (small_of b) (λ inode. Some (row.Entry (entry.Taken flusher inode))))
-take other = None
-
--- a page that is left
-abbrev pub left : (fields : List Field) → Option Row
-left (a ∷ b ∷ []) =
-    with_value (small_of a) (λ page. with_value (bits_of b) (λ bits. Some (row.Left (record { page = page; word = bits }))))
-left other = None
-
--- how many pages are left dirty, and how many under writeback
-abbrev pub census : (fields : List Field) → Option Row
-census (a ∷ b ∷ []) =
-    with_value (big_of a) (λ dirty. with_value (big_of b) (λ writeback. Some (row.Census dirty writeback)))
-census other = None
-
--- how many writes were fresh, and how many pages were done
-abbrev pub totals : (fields : List Field) → Option Row
-totals (a ∷ b ∷ []) =
-    with_value (big_of a) (λ fresh. with_value (big_of b) (λ done. Some (row.Totals fresh done)))
-totals other = None
-
--- how the run ended
-abbrev pub end : (fields : List Field) → Option Row
-end (a ∷ []) =
-    with_value (ending_of a) (λ ending. Some (row.End ending))
-end other = None
-
--- the row of a line by its word; none where a plain journal has no such line
+-- the row of a line by its word
 abbrev pub row_of : (word : Word) (fields : List Field) → Option Row
-row_of word.Timer fields = timer fields
-row_of word.Limits fields = limits fields
-row_of word.Period fields = period fields
-row_of word.Cpu fields = cpu fields
-row_of word.Write fields = write fields
-row_of word.Fold fields = fold fields
-row_of word.Read fields = read fields
-row_of word.Count fields = count fields
-row_of word.Check fields = check fields
-row_of word.Claim fields = claim fields
-row_of word.Batch fields = batch fields
-row_of word.Done fields = done fields
-row_of word.Share fields = share fields
-row_of word.Est fields = est fields
-row_of word.Fault fields = fault fields
-row_of word.Back fields = back fields
-row_of word.Notice fields = notice fields
-row_of word.Age fields = age fields
-row_of word.Take fields = take fields
-row_of word.Left fields = left fields
-row_of word.Census fields = census fields
-row_of word.Totals fields = totals fields
-row_of word.End fields = end fields
-row_of other fields = None
+row_of word fields = row_by (shape_of word) fields
 
 -- the first field of a line is its word
 abbrev pub row_from : (fields : List Field) → Option Row

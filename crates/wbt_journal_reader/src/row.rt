@@ -1,6 +1,7 @@
 //! What a line of a journal says.
 
 ghost use Rattle.std.specs.Prelude.{◌≡◌};
+ghost use Rattle.wbt_journal.specs.declared.word.Word.TheVariants as word;
 ghost use Rattle.wbt_journal_reader.specs.RowOf as spec;
 
 use crate::values::{
@@ -53,7 +54,7 @@ pub enum Row {
 }
 
 fn timer(fields: &[Field]) -> Option<Row>
-    ensures { result ≡ spec.timer fields.now }
+    ensures { result ≡ spec.row_of word.Timer fields.now }
 {
     let [] = fields else {
         return None;
@@ -62,7 +63,7 @@ fn timer(fields: &[Field]) -> Option<Row>
 }
 
 fn limits(fields: &[Field]) -> Option<Row>
-    ensures { result ≡ spec.limits fields.now }
+    ensures { result ≡ spec.row_of word.Limits fields.now }
 {
     let [domain, now, thresh, bg, hard] = fields else {
         return None;
@@ -79,7 +80,7 @@ fn limits(fields: &[Field]) -> Option<Row>
 }
 
 fn period(fields: &[Field]) -> Option<Row>
-    ensures { result ≡ spec.period fields.now }
+    ensures { result ≡ spec.row_of word.Period fields.now }
 {
     let [domain, k] = fields else {
         return None;
@@ -91,7 +92,7 @@ fn period(fields: &[Field]) -> Option<Row>
 }
 
 fn cpu(fields: &[Field]) -> Option<Row>
-    ensures { result ≡ spec.cpu fields.now }
+    ensures { result ≡ spec.row_of word.Cpu fields.now }
 {
     let [cpu] = fields else {
         return None;
@@ -100,7 +101,7 @@ fn cpu(fields: &[Field]) -> Option<Row>
 }
 
 fn write(fields: &[Field]) -> Option<Row>
-    ensures { result ≡ spec.write fields.now }
+    ensures { result ≡ spec.row_of word.Write fields.now }
 {
     let [task, page, fresh] = fields else {
         return None;
@@ -113,7 +114,7 @@ fn write(fields: &[Field]) -> Option<Row>
 }
 
 fn fold(fields: &[Field]) -> Option<Row>
-    ensures { result ≡ spec.fold fields.now }
+    ensures { result ≡ spec.row_of word.Fold fields.now }
 {
     let [counter, version, delta] = fields else {
         return None;
@@ -126,7 +127,7 @@ fn fold(fields: &[Field]) -> Option<Row>
 }
 
 fn read(fields: &[Field]) -> Option<Row>
-    ensures { result ≡ spec.read fields.now }
+    ensures { result ≡ spec.row_of word.Read fields.now }
 {
     let [
         domain,
@@ -164,7 +165,7 @@ fn read(fields: &[Field]) -> Option<Row>
 }
 
 fn count(fields: &[Field]) -> Option<Row>
-    ensures { result ≡ spec.count fields.now }
+    ensures { result ≡ spec.row_of word.Count fields.now }
 {
     let [context, version, value] = fields else {
         return None;
@@ -179,7 +180,7 @@ fn count(fields: &[Field]) -> Option<Row>
 }
 
 fn check(fields: &[Field]) -> Option<Row>
-    ensures { result ≡ spec.check fields.now }
+    ensures { result ≡ spec.row_of word.Check fields.now }
 {
     let [
         task,
@@ -216,7 +217,7 @@ fn check(fields: &[Field]) -> Option<Row>
 }
 
 fn claim(fields: &[Field]) -> Option<Row>
-    ensures { result ≡ spec.claim fields.now }
+    ensures { result ≡ spec.row_of word.Claim fields.now }
 {
     let [flusher, page] = fields else {
         return None;
@@ -228,7 +229,7 @@ fn claim(fields: &[Field]) -> Option<Row>
 }
 
 fn batch(fields: &[Field]) -> Option<Row>
-    ensures { result ≡ spec.batch fields.now }
+    ensures { result ≡ spec.row_of word.Batch fields.now }
 {
     let [flusher, pages, now, until] = fields else {
         return None;
@@ -242,7 +243,7 @@ fn batch(fields: &[Field]) -> Option<Row>
 }
 
 fn done(fields: &[Field]) -> Option<Row>
-    ensures { result ≡ spec.done fields.now }
+    ensures { result ≡ spec.row_of word.Done fields.now }
 {
     let [flusher, page] = fields else {
         return None;
@@ -254,7 +255,7 @@ fn done(fields: &[Field]) -> Option<Row>
 }
 
 fn share(fields: &[Field]) -> Option<Row>
-    ensures { result ≡ spec.share fields.now }
+    ensures { result ≡ spec.row_of word.Share fields.now }
 {
     let [domain, context, n] = fields else {
         return None;
@@ -267,7 +268,7 @@ fn share(fields: &[Field]) -> Option<Row>
 }
 
 fn est(fields: &[Field]) -> Option<Row>
-    ensures { result ≡ spec.est fields.now }
+    ensures { result ≡ spec.row_of word.Est fields.now }
 {
     let [
         context,
@@ -299,7 +300,7 @@ fn est(fields: &[Field]) -> Option<Row>
 }
 
 fn fault(fields: &[Field]) -> Option<Row>
-    ensures { result ≡ spec.fault fields.now }
+    ensures { result ≡ spec.row_of word.Fault fields.now }
 {
     let [flusher, pages] = fields else {
         return None;
@@ -311,7 +312,7 @@ fn fault(fields: &[Field]) -> Option<Row>
 }
 
 fn back(fields: &[Field]) -> Option<Row>
-    ensures { result ≡ spec.back fields.now }
+    ensures { result ≡ spec.row_of word.Back fields.now }
 {
     let [flusher, page, absorbed] = fields else {
         return None;
@@ -324,7 +325,7 @@ fn back(fields: &[Field]) -> Option<Row>
 }
 
 fn notice(fields: &[Field]) -> Option<Row>
-    ensures { result ≡ spec.notice fields.now }
+    ensures { result ≡ spec.row_of word.Notice fields.now }
 {
     let [flusher, inode, since] = fields else {
         return None;
@@ -337,7 +338,7 @@ fn notice(fields: &[Field]) -> Option<Row>
 }
 
 fn age(fields: &[Field]) -> Option<Row>
-    ensures { result ≡ spec.age fields.now }
+    ensures { result ≡ spec.row_of word.Age fields.now }
 {
     let [flusher, inode, due, now] = fields else {
         return None;
@@ -351,7 +352,7 @@ fn age(fields: &[Field]) -> Option<Row>
 }
 
 fn take(fields: &[Field]) -> Option<Row>
-    ensures { result ≡ spec.take fields.now }
+    ensures { result ≡ spec.row_of word.Take fields.now }
 {
     let [flusher, inode] = fields else {
         return None;
@@ -363,7 +364,7 @@ fn take(fields: &[Field]) -> Option<Row>
 }
 
 fn left(fields: &[Field]) -> Option<Row>
-    ensures { result ≡ spec.left fields.now }
+    ensures { result ≡ spec.row_of word.Left fields.now }
 {
     let [page, bits] = fields else {
         return None;
@@ -375,7 +376,7 @@ fn left(fields: &[Field]) -> Option<Row>
 }
 
 fn census(fields: &[Field]) -> Option<Row>
-    ensures { result ≡ spec.census fields.now }
+    ensures { result ≡ spec.row_of word.Census fields.now }
 {
     let [dirty, writeback] = fields else {
         return None;
@@ -387,7 +388,7 @@ fn census(fields: &[Field]) -> Option<Row>
 }
 
 fn totals(fields: &[Field]) -> Option<Row>
-    ensures { result ≡ spec.totals fields.now }
+    ensures { result ≡ spec.row_of word.Totals fields.now }
 {
     let [fresh, done] = fields else {
         return None;
@@ -399,7 +400,7 @@ fn totals(fields: &[Field]) -> Option<Row>
 }
 
 fn end(fields: &[Field]) -> Option<Row>
-    ensures { result ≡ spec.end fields.now }
+    ensures { result ≡ spec.row_of word.End fields.now }
 {
     let [ending] = fields else {
         return None;
