@@ -1,4 +1,4 @@
-//! Whether the journal of a run is lawful for a trace; where it isn't, by which rule and which line.
+//! Whether the journal of a run is lawful for a trace; where it isn't, by which point and which line.
 //!
 //! ```
 //! use wbt_audit::{Verdict, audit};
@@ -11,7 +11,7 @@
 //!     Ok(verdict) => assert_eq!(rt; verdict, Verdict::Lawful),
 //!     Err(_) => println!(rt; "no memory")?,
 //! }
-//! // `Broken { clause: 14, line: 4 }` would say which rule fails first, and the line of the journal that shows it.
+//! // `Broken { clause: 14, line: 4 }` would say which point it breaks first, and the line of the journal that shows it.
 //! ```
 #![tactic(auto)]
 

@@ -33,7 +33,7 @@ use wbt_trace::Trace;
 pub enum Verdict {
     /// It is lawful for the trace.
     Lawful,
-    /// It isn't: this is the least clause that fails, with the line that shows it, counted from the journal's first, which is 1.
+    /// It isn't: this is the least point that it breaks, with the line that shows it, counted from the journal's first, which is 1.
     Broken { clause: u32, line: u64 },
     /// It isn't judged, since no line tells where this task ends: its last action is a rest, and its CPU has another task. It is the
     /// least such task.
@@ -53,7 +53,7 @@ impl From<NoMemory> for AuditEnd {
     }
 }
 
-/// What an audit says of the journal: first whether a task is unsettled; else whether the journal is lawful for the trace, by its clauses in
+/// What an audit says of the journal: first whether a task is unsettled; else whether the journal is lawful for the trace, by its points in
 /// order, each judged with the marks that the journal's lines call for. `NoMemory` may come at any journal; it also comes at one with 2^64
 /// lines or more, or with 2^46 fresh writes of a CPU, for which there is no memory anyway.
 ///
@@ -74,7 +74,7 @@ pub fn audit(alloc: Global, trace: &Trace, journal: &Journal) -> Result<Verdict,
     Ok(verdict)
 }
 
-// By the clauses from the second on.
+// By the points from the second on.
 #[tactic(auto, unfolding(wbt_journal::specs::Verdict::verdict_of))]
 fn judge_folds(alloc: Global, trace: &Trace, journal: &Journal) -> Result<Verdict, NoMemory>
     requires lawful { IsLawful trace.now }

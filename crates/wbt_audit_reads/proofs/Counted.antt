@@ -1,4 +1,4 @@
--- What the code of the clause on counts keeps, step by step.
+-- What the code of the point on counts keeps, step by step.
 use Rattle.std.proofs.Common.{◌≡◌, ℕ, ◌+◌, Bool, true, false, ◌&&◌, nat_le, if◌then◌else◌, Option, Some, None, ℤ, List, [], ◌∷◌, ◌++◌, length, get_or, replicate, refl, ap, sym, subst, ◌∙◌, append_assoc, append-nil}
 use Rattle.std.specs.Ordering.{int_eq}
 use Rattle.wbt_audit_walk.proofs.Common.{is_same, Counter, Fold, Trace, Load, cgroup_reads, count_fault, loads_of, of_counter, read_loads, versions_after, effect, of_part, begins, tells, domains, contexts, Told, wrote, folded, checked, claimed, batch, done, share, estimated, fault, gave_back, noticed, aged, took, first_failed, CheckEntry, DomainLine, seen_at, counter_place, IsJudged, Judges}

@@ -1,4 +1,4 @@
--- What the code of the clause on folds keeps, fold by fold.
+-- What the code of the point on folds keeps, fold by fold.
 use Rattle.std.proofs.Common.{◌≡◌, ℕ, ◌+◌, ◌-◌, ◌<◌, ◌≤◌, Bool, true, false, not, ◌&&◌, ◌||◌, ◌==◌, nat_lt, nat_le, if◌then◌else◌, Option, Some, None, List, [], ◌∷◌, ◌++◌, length, replicate, take, get_or, unsigned_abs, refl, ap, sym, subst, ◌∙◌, arith, tests, ◌⊎◌, inl, inr, add-zero}
 use Rattle.std.specs.List.{list_any, slice_get}
 use Rattle.std.proofs.lemmas.Bool.{cases_eq, cases_lt, false≢true}

@@ -1,4 +1,4 @@
--- What the code of the clause on the timer's lines keeps, line by line.
+-- What the code of the point on the timer's lines keeps, line by line.
 use Rattle.std.proofs.Common.{◌≡◌, ℕ, zero, suc, ◌+◌, ◌<◌, ◌≤◌, Bool, true, false, not, nat_lt, if◌then◌else◌, Option, Some, None, option_map, Result, Ok, Err, IfOk, List, [], ◌∷◌, ◌++◌, length, set, drop, get_or, refl, ap, sym, subst, ◌∙◌, arith, tests, add_assoc, add-zero, add-one, drop-cons}
 use Rattle.std.specs.List.{slice_get}
 use Rattle.std.proofs.lemmas.List.{drop_all}

@@ -1,4 +1,4 @@
--- What the code of the clause on counts keeps.
+-- What the code of the point on counts keeps.
 use Rattle.std.specs.Prelude.{◌≡◌, ℕ, ◌+◌, Bool, false, ◌&&◌, nat_le, if◌then◌else◌, Option, Some, None, ℤ, List, [], ◌∷◌, ◌++◌, length, get_or}
 use Rattle.std.specs.Ordering.{int_eq}
 use Rattle.wbt_counter.specs.Counters.{is_same}

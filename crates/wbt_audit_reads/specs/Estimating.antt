@@ -1,4 +1,4 @@
--- What the code of the clause on estimates keeps.
+-- What the code of the point on estimates keeps.
 use Rattle.std.specs.Prelude.{◌≡◌, ℕ, ◌+◌, ◌-◌, ◌^◌, min, Bool, false, ◌&&◌, ◌==◌, nat_lt, nat_le, if◌then◌else◌, Option, Some, None, List, ◌∷◌, ◌++◌, length, get_or, set, slice_get}
 use Rattle.wbt_estimate.specs.declared.estimate.Estimate.{Estimate}
 use Rattle.wbt_trace.specs.declared.trace.Trace.{Trace}

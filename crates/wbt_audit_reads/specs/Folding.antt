@@ -1,4 +1,4 @@
--- What the code of the clause on folds keeps.
+-- What the code of the point on folds keeps.
 use Rattle.std.specs.Prelude.{◌≡◌, ℕ, ◌+◌, ◌-◌, Bool, true, false, not, ◌&&◌, nat_lt, nat_le, if◌then◌else◌, Option, Some, None, List, [], ◌∷◌, length, replicate}
 use Rattle.std.specs.List.{list_any}
 use Rattle.wbt_counter.specs.Batch.{domain_batch, context_batch}

@@ -1,4 +1,4 @@
--- What the code of the clause on fractions keeps.
+-- What the code of the point on fractions keeps.
 use Rattle.std.specs.Prelude.{◌≡◌, ℕ, ◌*◌, Bool, false, ◌&&◌, ◌==◌, nat_le, nat_lt, Option, Some, None, List, ◌++◌, length, get_or}
 use Rattle.std.specs.List.{list_any}
 use Rattle.wbt_counter.specs.declared.record.Fold.{Fold}

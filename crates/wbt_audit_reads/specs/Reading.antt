@@ -1,4 +1,4 @@
--- What the code of the clause on triples keeps.
+-- What the code of the point on triples keeps.
 use Rattle.std.specs.Prelude.{◌≡◌, ℕ, Bool, false, ◌&&◌, ◌==◌, nat_le, Option, Some, None, List, ◌++◌, get_or}
 use Rattle.wbt_counter.specs.declared.record.Fold.{Fold}
 use Rattle.wbt_num.specs.declared.limits.Limits.{Limits}

@@ -1,4 +1,4 @@
--- What the code of the clause on the timer's lines keeps.
+-- What the code of the point on the timer's lines keeps.
 use Rattle.std.specs.Prelude.{◌≡◌, ℕ, ◌+◌, Bool, true, Some, List, [], drop, map, slice_get}
 use Rattle.wbt_limits.specs.Thresholds.{thresholds_of}
 use Rattle.wbt_num.specs.declared.limits.Limits.{Limits}

@@ -1,6 +1,6 @@
 //! Whether what the entries of a journal tell as read is what was there: folds and counts, limits, fractions, estimates, and the timer's lines.
 //!
-//! Each `X_fault` is the first line at fault by one rule.
+//! Each `X_fault` is the first line at fault by one point.
 //!
 //! ```
 //! use wbt_audit_reads::{counts::counts_fault, folds::folds_fault};

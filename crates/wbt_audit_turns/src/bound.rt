@@ -1,4 +1,4 @@
-//! Clause 15: no domain is left with more pages than its bound.
+//! Point 15: no domain is left with more pages than its bound.
 
 ghost use Rattle.std.specs.Prelude.{ℕ, ◌≡◌, ◌≤◌, nat_le, slice_get, IfOk};
 ghost use Rattle.wbt_grant.specs.Formula.{fixed_bound as bound_without_peak};

@@ -1,4 +1,4 @@
-//! Clauses 7 and 8: checks decide as the control law asks, and stand exactly where they are due.
+//! Points 7 and 8: checks decide as the control law asks, and stand exactly where they are due.
 
 ghost use Rattle.std.specs.Prelude.{◌≡◌, ◌<◌, ◌+◌, ◌≤◌, ◌||◌, not, true, false, None, Some, option_map, length, IfOk, IfSome};
 ghost use Rattle.wbt_journal.specs.Checks as spec;
@@ -243,7 +243,7 @@ impl<'a> Judge<'a> {
         ensures fits { IfOk result (λ _found. Fits self.old.machine self.new.side) }
         ensures rest { IfOk result (λ _found. self.new ≡ record self.old { side = self.new.side; stand = self.new.stand }) }
     {
-        // Such a check names no estimate, which an earlier clause tells: it is never judged here.
+        // Such a check names no estimate, which an earlier point tells: it is never judged here.
         if check.context as usize >= self.machine.trace.contexts.as_slice().len() {
             return Err(NoMemory);
         }

@@ -1,4 +1,4 @@
-//! Clause 16: the journal ended as it says.
+//! Point 16: the journal ended as it says.
 
 ghost use Rattle.std.specs.Prelude.{ℕ, ◌≡◌, ◌+◌, ◌-◌, ◌<◌, ◌==◌, ◌++◌, List, [], length, count_by, replicate, slice_index, IfOk, OnOk};
 ghost use Rattle.std.specs.List.{list_any, list_all};

@@ -1,4 +1,4 @@
-//! Clause 14: each flusher claims pages, hands them to its disk, and completes them in order or gives them back, in the part of its
+//! Point 14: each flusher claims pages, hands them to its disk, and completes them in order or gives them back, in the part of its
 //! CPU.
 
 ghost use Rattle.std.specs.Prelude.{◌≡◌, true, length, map, replicate, IfOk};

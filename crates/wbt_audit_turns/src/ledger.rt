@@ -1,4 +1,4 @@
-//! Clause 13: each page was claimed as often as it was dirtied, and released as often as it was claimed, but for what is left.
+//! Point 13: each page was claimed as often as it was dirtied, and released as often as it was claimed, but for what is left.
 
 ghost use Rattle.std.specs.Prelude.{◌≡◌, ℕ, ◌<◌, ◌++◌, List, length, replicate, slice_index_or, if◌then◌else◌, ◌==◌, IfOk, OnOk};
 ghost use Rattle.std.specs.List.{list_all};

@@ -1,7 +1,7 @@
 //! Whether turns did what they may do: checks where they are due and as the law decides, writes in order, waiting lists, flights, the
 //! ledger of each page, what is left, and the ending.
 //!
-//! Each `X_fault` is the first line at fault by one rule.
+//! Each `X_fault` is the first line at fault by one point.
 //!
 //! ```
 //! use wbt_audit_turns::{ending::ending_fault, flights::flights_fault};

@@ -1,4 +1,4 @@
-//! Clause 12: each task writes its pages in order, in the part of its CPU, and every page that is named is there.
+//! Point 12: each task writes its pages in order, in the part of its CPU, and every page that is named is there.
 
 ghost use Rattle.std.specs.Prelude.{◌≡◌, Bool, None, List, ◌∷◌, [], length, map, replicate, IfOk, OnOk};
 ghost use Rattle.wbt_journal.specs.Checks.{has_page as is_there};

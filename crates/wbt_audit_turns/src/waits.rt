@@ -1,4 +1,4 @@
-//! Clause 10: each flusher's notices, and the inodes that it takes, keep a list of those that wait, in order of the moment at which they
+//! Point 10: each flusher's notices, and the inodes that it takes, keep a list of those that wait, in order of the moment at which they
 //! are due.
 
 ghost use Rattle.std.specs.Prelude.{ℕ, ◌≡◌, ◌+◌, ◌<◌, [], true, not, IfOk, length};
@@ -27,7 +27,7 @@ use wbt_trace::Trace;
 /// The moments of a run, in ticks, are before this one: 146 million years.
 pub const END_OF_TIME: u64 = 1 << 62;
 
-/// The line of the first entry that breaks the rule; None where there is none. An entry in the part of another CPU than its flusher's is
+/// The line of the first entry that breaks the point; None where there is none. An entry in the part of another CPU than its flusher's is
 /// passed over. It takes 24 bytes for each pair of a flusher and an inode.
 pub fn waits_fault(alloc: Global, trace: &Trace, journal: &Journal) -> Result<Option<u64>, NoMemory>
     requires lawful { IsLawful trace.now }

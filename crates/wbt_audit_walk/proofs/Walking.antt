@@ -1,4 +1,4 @@
--- A walk of a clause, step by step.
+-- A walk of a point, step by step.
 use Rattle.std.proofs.Common.{◌≡◌, ℕ, ◌+◌, ◌<◌, Option, Some, None, List, [], ◌∷◌, length, ap, sym, ◌∙◌, arith}
 use Rattle.wbt_audit_walk.proofs.Common.{Item, item_size, first_fault, Judges, Goes, rest, item_of, Shows}
 use Rattle.wbt_audit_walk.specs.declared.walk.Step.{Step}

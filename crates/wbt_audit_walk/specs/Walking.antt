@@ -1,4 +1,4 @@
--- How the code of a clause goes through the CPUs' parts of a journal: it keeps what the clause's definition has seen, and the first fault
+-- How the code of a point goes through the CPUs' parts of a journal: it keeps what the point's definition has seen, and the first fault
 -- of what is still to come is that of the whole.
 use Rattle.std.specs.Prelude.{◌≡◌, ℕ, Option, None}
 use Rattle.wbt_journal.specs.Items.{Item, item_size}

@@ -1,6 +1,6 @@
 //! A walk over the lines of a journal, for those who judge it: what an entry did, in which line, and on which CPU; and what they count in.
 //!
-//! The layers above each judge by some rules, and share no state but this.
+//! The layers above each judge by some points, and share no state but this.
 //!
 //! ```
 //! use wbt_audit_walk::walk::Walk;
