@@ -5,7 +5,7 @@ import os
 import unittest
 
 from values import specs
-from values.cases import Case, cases, chosen, chosen_ageing, chosen_strict
+from values.cases import Case, cases, chosen, chosen_ageing, chosen_strict, sharing
 from values.changes import changed, changes
 from values.journals import journal_value
 from values.traces import trace_value
@@ -75,6 +75,11 @@ class Taken(WithDirectory):
         found = [case(1, "lawful"), case(2, "lawful", "strict 0, context 0 0 0", "check 0 0 1 1 go 5 1 0 32 9"), case(3, "lawful", journal="age 0 0 1 1")]
         self.assertEqual([it.size for it in chosen_strict(found)], [1, 2])
         self.assertEqual([it.size for it in chosen_ageing(found)], [1, 3])
+
+    def test_those_with_one_trace_name_it_by_the_first(self) -> None:
+        found = sharing([case(1, "lawful"), case(2, "broken 4 7"), case(3, "lawful", "cpus 2"), case(4, "lawful", "cpus 2")])
+        self.assertEqual([it.traced for it in found], ["case_1_trace", "case_1_trace", "case_3_trace", "case_3_trace"])
+        self.assertIn("verdict_of case_1_trace (with_marks case_1_trace case_2) ≡ broken 4 7", specs.claim(found[1]))
 
     def test_the_cases_of_a_folder(self) -> None:
         for name, text, verdict in (

@@ -14,13 +14,20 @@ JOURNAL_WORDS = frozenset(
 
 
 class Case(NamedTuple):
-    """A trace with a journal, and the verdict on it: `lawful`, or `broken` with a point and a line. It has so many lines in all."""
+    """A trace with a journal, and the verdict on it: `lawful`, or `broken` with a point and a line. It has so many lines in all. Another case
+    with the same trace may give the trace its name."""
 
     size: int
     said: str
     name: str
     trace: list[str]
     journal: list[str]
+    first: str = ""
+
+    @property
+    def traced(self) -> str:
+        """The name of the trace."""
+        return f"{self.first or self.name}_trace"
 
     @property
     def point(self) -> str:
@@ -32,6 +39,12 @@ def cases(folder: str) -> list[Case]:
     """Those of which a value is made, the smallest first."""
     found = (case_of(path) for path in sorted(pathlib.Path(folder).glob("*.in")))
     return sorted(case for case in found if case)
+
+
+def sharing(taken: Sequence[Case]) -> list[Case]:
+    """The cases, of which those with one trace name it by the first of them."""
+    first: dict[tuple[str, ...], str] = {}
+    return [case._replace(first=first.setdefault(tuple(case.trace), case.name)) for case in taken]
 
 
 def case_of(path: pathlib.Path) -> Case | None:

@@ -7,7 +7,7 @@ import subprocess
 import sys
 from collections.abc import Iterator
 
-from .cases import Case
+from .cases import Case, sharing
 
 TOOLS = pathlib.Path(__file__).resolve().parent.parent
 FOLDER = TOOLS / "judged"
@@ -15,7 +15,7 @@ FOLDER = TOOLS / "judged"
 
 def changes() -> list[Case]:
     """The journal of each trace of the folder, and each change of it."""
-    return [case for path in sorted(FOLDER.glob("*.trace")) for case in changes_of(path)]
+    return sharing([case for path in sorted(FOLDER.glob("*.trace")) for case in changes_of(path)])
 
 
 def changes_of(path: pathlib.Path) -> Iterator[Case]:

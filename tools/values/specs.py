@@ -36,11 +36,12 @@ def told(said: str) -> str:
 
 
 def journals(file: str, taken: Sequence[Case]) -> str:
-    """A file of traces and journals as values."""
+    """A file of traces, each once, and journals as values."""
     out = []
     for case in taken:
-        out.append(f"\n-- {case.said}\nabbrev pub {case.name}_trace : Trace\n{case.name}_trace = {trace_value(case.trace)}\n")
-        out.append(f"\n-- its journal{told(case.said)}\nabbrev pub {case.name} : Journal\n{case.name} = {journal_value(case.journal)}\n")
+        if case.traced == f"{case.name}_trace":
+            out.append(f"\n-- the trace of the next journals\nabbrev pub {case.traced} : Trace\n{case.traced} = {trace_value(case.trace)}\n")
+        out.append(f"\n-- a journal of it{told(case.said)}\nabbrev pub {case.name} : Journal\n{case.name} = {journal_value(case.journal)}\n")
     text = "".join(out)
     return f"-- {ABOUT[file]}: {MADE}.\n{imported(text)}{lines_used(text)}{text}"
 
@@ -49,7 +50,7 @@ def used(files: Files) -> str:
     """The imports of all journals of these files."""
     out = []
     for file, taken in files:
-        names = ", ".join(f"{case.name}, {case.name}_trace" for case in taken)
+        names = ", ".join(dict.fromkeys(name for case in taken for name in (case.traced, case.name)))
         out.append(f"use Rattle.wbt_judged.specs.{file}.{{{names}}}\n")
     return "".join(out)
 
@@ -67,4 +68,4 @@ def verdicts(files: Files) -> str:
 
 def claim(case: Case) -> str:
     """That the verdict of the definitions is the one that was told."""
-    return f"verdict_of {case.name}_trace (with_marks {case.name}_trace {case.name}) ≡ {case.said}"
+    return f"verdict_of {case.traced} (with_marks {case.traced} {case.name}) ≡ {case.said}"
