@@ -1,4 +1,3 @@
 -- What a move of one CPU leaves alone of the others, and of what they share.
-pub mod Chances
 pub mod Others
 pub mod Quiet

@@ -1,5 +1,6 @@
 pub mod Common
 pub mod Facts
+pub mod Search
 pub mod Walk
 pub mod Outset
 pub mod Lists

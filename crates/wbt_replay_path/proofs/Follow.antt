@@ -19,6 +19,7 @@ pub mod Flights
 pub mod Harmless
 pub mod Begins
 pub mod Timers
+pub mod Stopping
 pub mod Moving
 pub mod Setting
 pub mod Opening

@@ -12,7 +12,6 @@ use Rattle.wbt_replay_moves.specs.declared.state.ReplayPhase.TheVariants as phas
 use Rattle.wbt_replay_moves.specs.declared.state.Whose.TheVariants as whose
 use Rattle.wbt_replay_moves.specs.declared.todo.Step.TheVariants as step
 use Rattle.wbt_replay_moves.specs.declared.todo.Todo.TheVariants as todo
-use Rattle.wbt_replay_order.proofs.Frames.Chances.{IsSeeker}
 use Rattle.wbt_replay_points.proofs.Claims.Counted.{are_homes}
 use Rattle.wbt_forecast_rows.specs.Counts.{homes_of, count_after}
 use Rattle.wbt_forecast_run.proofs.Counts.Quiet.{NoClaims, count_more, batch_in}
@@ -43,7 +42,7 @@ pub record Seats (trace : Trace) (ts : List ReplayTask) (fs : List Flusher) (cs 
   pub flushers : length fs ≡ length trace.flushers
   pub turns : (j : ℕ) → j < trace.cpus → 1 ≤ length (get_or cs j no_cpu).todo → IsWhose trace j (get_or cs j no_cpu).turn.whose
   pub jobs : (j : ℕ) → j < trace.cpus → (get_or cs j no_cpu).jobs ≡ (first_cpu trace j).jobs
-  pub seeks : (j : ℕ) → j < trace.cpus → IsSeeker (get_or cs j no_cpu)
+  pub next : (j : ℕ) → j < trace.cpus → 1 ≤ length (get_or cs j no_cpu).jobs → (get_or cs j no_cpu).next < length (get_or cs j no_cpu).jobs
   pub works : (t : ℕ) → t < length trace.tasks → All (WorkFits trace t) (get_or ts t no_task).works
   pub at : (f : ℕ) → IsAt trace (get_or fs f no_flusher).batch (get_or fs f no_flusher).phase
 
@@ -58,7 +57,7 @@ seats_of trace s sound =
       flushers = h.flushers.many;
       turns = λ j less. (h.cpus.each j less).whose;
       jobs = λ j less. (h.cpus.each j less).jobs;
-      seeks = λ j less. record { next = (h.cpus.each j less).next; next_task = (h.cpus.each j less).next_task };
+      next = λ j less. (h.cpus.each j less).next;
       works = λ t less. (h.tasks.each t less).works;
       at = λ f. (h.flushers.each f).phase;
     }

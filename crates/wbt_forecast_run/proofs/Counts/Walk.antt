@@ -1,17 +1,14 @@
 -- At each moment of the run the steps tell the exact count of each domain.
 use Rattle.std.proofs.Common.{◌≡◌, ℕ, ◌+◌, ◌<◌, true, List, [], ◌∷◌, length, get_or, All, refl, sym, ◌∙◌, ap, subst, arith}
 use Rattle.std.proofs.lemmas.List.{get_or_past}
-use Rattle.wbt_replay_order.proofs.Common.{Trace, make_step, make_timer_step, make_timer_move, begin_turn, State, no_cpu, cpu_of, with_cpu, begin_timer, with_timer, Actor, Cpu, ReplayJob, Whose, TimerTodo, Todo, setting_of, after, job_at, is_full, is_halted, spend, stop, cpu_on, timer_on, go_on, begin_job, begin, advance, Facts, IsFlusherOn, IsJobOn, Suits, apply_all, Change, turn_changes, timer_step_changes, timer_move_changes, timer_turn_changes, moves_are_changes}
+use Rattle.wbt_replay_order.proofs.Common.{Trace, make_step, make_timer_step, make_timer_move, begin_turn, State, no_cpu, cpu_of, with_cpu, begin_timer, with_timer, Actor, Cpu, ReplayJob, Whose, TimerTodo, Todo, setting_of, after, job_at, is_full, is_halted, spend, stop, cpu_on, timer_on, go_on, begin_job, advance, Facts, IsFlusherOn, IsJobOn, Suits, apply_all, Change, turn_changes, timer_step_changes, timer_move_changes, timer_turn_changes, moves_are_changes}
 use Rattle.wbt_replay_moves.specs.declared.state.Actor.TheVariants as actor
 use Rattle.wbt_replay_moves.specs.declared.state.ReplayJob.TheVariants as job
 use Rattle.wbt_replay_moves.specs.declared.state.Whose.TheVariants as whose
 use Rattle.wbt_replay_moves.specs.declared.todo.TimerTodo.TheVariants as timer_todo
 use Rattle.wbt_replay_moves.specs.declared.todo.Todo.TheVariants as todo
-use Rattle.wbt_replay_order.specs.declared.chance.Chance.{Chance}
-use Rattle.wbt_replay_order.specs.declared.chance.Chance.TheVariants as chance
 use Rattle.wbt_replay_order.proofs.Facts.Lists.{either}
 use Rattle.wbt_replay_order.proofs.Walk.{turned, walked}
-use Rattle.wbt_replay_order.proofs.Frames.Chances.{IsSeeker, CanBegin, MayBegin, may_moved, turn_begins}
 use Rattle.wbt_replay_order.proofs.Growth.Quiet.{same_at}
 use Rattle.wbt_forecast_run.proofs.Counts.Booked.{IsBooked, IsSeated, behind_first}
 use Rattle.wbt_forecast_run.proofs.Counts.Looks.{IsTurnsOwn, still_after}
@@ -109,20 +106,12 @@ module _ (trace : Trace) (facts : Facts trace) (suits : Suits trace (setting_of 
   goes (actor.Cpu i) s seats h = by_cpu i (cpu_of i s).todo s seats h refl
   goes actor.Timer s seats h = on_timer s.timer.todo s seats h
 
-  begins : (a : Actor) (which place : ℕ) (s : State) → IsSeated trace s → IsBooked trace s → CanBegin a which place s → IsBooked trace (begin trace a which place s)
-  begins (actor.Cpu i) which place s seats h can =
-      job_begun trace s seats h facts i place which (job_at which (cpu_of i s)) can.0 can.1 can.2 refl
-      (record (cpu_of i s) { next = after (length (cpu_of i s).jobs) which }) refl
-  begins actor.Timer which place s seats h can = h
-
   module _ (s : State) (seats : IsSeated trace s) (h : IsBooked trace s) where
-    seeks : (i : ℕ) → i < length s.cpus → IsSeeker (cpu_of i s)
-    seeks i less = seats.seeks i (omega (arith, less, seats.many))
-
     pub advance_booked : IsBooked trace (advance trace s)
     advance_booked =
-        walked trace s (IsBooked trace) (λ orders rotation now. h) (λ orders rotation a. goes a (turned orders rotation s) seats h)
-        (λ orders rotation a which place idle is.
-        begins a which place (turned orders rotation s) seats h
-        (may_moved s.now orders rotation s a (chance.Begins which place) (subst (λ (found : Chance). MayBegin a found s) is (turn_begins s seeks a idle))))
-        (λ orders rotation a idle is. begun_timer trace (turned orders rotation s) seats h)
+        walked trace s (IsBooked trace) (λ orders rotation now. h) (λ orders rotation a some. goes a (turned orders rotation s) seats h)
+        (λ orders rotation i which place free found.
+        job_begun trace (turned orders rotation s) seats h facts i place which (job_at which (cpu_of i s)) free.there free.idle
+        (found.among (seats.next i (omega (arith, free.there, seats.many)))) refl
+        (record (cpu_of i s) { next = after (length (cpu_of i s).jobs) which }) refl)
+        (λ orders rotation none time. begun_timer trace (turned orders rotation s) seats h)

@@ -102,8 +102,8 @@ module _ (trace : Trace) (P Q : State → Type 0) (weaker : (s : State) → P s 
   pub advance_walks : (s : State) → P s → Q (advance trace s)
   advance_walks s h =
       walked trace s Q (λ orders rotation now. along (record (course_of s) { orders = orders; rotation = rotation; now = now }) s h)
-      (λ orders rotation a. goes a (turned orders rotation s) (turn orders rotation)) (λ orders rotation a n place idle is. by_begin a n place (turned orders rotation s) (turn orders rotation))
-      (λ orders rotation a idle is. timer_turns (turned orders rotation s) (turn orders rotation))
+      (λ orders rotation a some. goes a (turned orders rotation s) (turn orders rotation)) (λ orders rotation i n place free found. by_begin (actor.Cpu i) n place (turned orders rotation s) (turn orders rotation))
+      (λ orders rotation none time. timer_turns (turned orders rotation s) (turn orders rotation))
     where
       turn : (orders : List Stretch) (rotation : Option Actor) → P (turned orders rotation s)
       turn orders rotation = course (record (course_of s) { orders = orders; rotation = rotation }) s h

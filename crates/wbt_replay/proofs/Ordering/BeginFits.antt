@@ -13,7 +13,7 @@ use Rattle.wbt_replay_moves.specs.declared.state.Whose.TheVariants as whose
 use Rattle.wbt_replay_moves.specs.declared.state.ReplayWork.TheVariants as work
 use Rattle.wbt_replay_order.specs.declared.chance.Chance.TheVariants as chance
 use Rattle.wbt_replay_order.specs.Kept.Seeks.{CanSeek, CanSeekAll, HasJob, HasTask, JobBegins}
-use Rattle.wbt_replay_order.proofs.Frames.Chances.{IsPlace, IsChance, seek_chance}
+use Rattle.wbt_replay_order.proofs.Search.{IsFound, IsTurn, turn_found}
 use Rattle.wbt_replay_order.proofs.Facts.Lists.{either}
 use Rattle.wbt_replay_order.proofs.Facts.Things.{moment_fits, flusher_there, flusher_fits}
 use Rattle.wbt_replay_order.proofs.Lists.Numbered.{one_if, sum_part}
@@ -126,29 +126,28 @@ module _ (trace : Trace) (facts : Facts trace) (s : State) (sound : Sound trace 
         = ap (λ (b : Bool). cond b 0 (count_by (is_at_work s.flushers) (cpu_of i s).jobs)) live in
         omega (arith, sound.holds.counted.flushers, all, part, one, runs)
 
-    job_fits : (cpu_of i s).stopped ≡ false → which < length (cpu_of i s).jobs → (j : ReplayJob) → job_at which (cpu_of i s) ≡ j → IsPlace (cpu_of i s) place j
+    job_fits : (cpu_of i s).stopped ≡ false → which < length (cpu_of i s).jobs → (j : ReplayJob) → job_at which (cpu_of i s) ≡ j → (j ≡ job.Writer → place < length (cpu_of i s).tasks)
         → JobBegins trace i place j (turned_to i which)
     job_fits live here job.Writer is inside =
         subst (λ (c : Cpu). (place < length c.tasks) × (length c.tasks < 2 ^ 31) × CanBegin trace (turned_to i which) (whose.Task (get_or c.tasks place 0))) (sym same)
-        (inside, few_tasks i less, task_begins (set s.cpus i turned) (get_or (cpu_of i s).tasks place 0) (tasks_on i less place 0 inside).there)
+        (inside refl, few_tasks i less, task_begins (set s.cpus i turned) (get_or (cpu_of i s).tasks place 0) (tasks_on i less place 0 (inside refl)).there)
     job_fits live here (job.Flusher f) is inside =
         let on = subst (IsJobOn trace i) is (jobs_on i less which job.Writer here) in
         (flusher_there trace facts s sound f on.there, phase_begins (set s.cpus i turned) f on.there (flusher_of f s).phase (at_work live f here is))
 
-    -- the CPU whose turn was found isn't stopped, and the turn is one of its
-    is_chance : cpu_turn (cpu_of i s) s ≡ chance.Begins which place
-        → ((cpu_of i s).stopped ≡ false) × (which < length (cpu_of i s).jobs) × IsPlace (cpu_of i s) place (job_at which (cpu_of i s))
-    is_chance = by_stopped (cpu_of i s).stopped refl
+    -- the CPU whose turn was found isn't stopped
+    live : cpu_turn (cpu_of i s) s ≡ chance.Begins which place → (cpu_of i s).stopped ≡ false
+    live = by_stopped (cpu_of i s).stopped refl
       where
         by_stopped : (b : Bool) → (cpu_of i s).stopped ≡ b
-            → cond b chance.Nothing (seek_job (cpu_of i s) s (length (cpu_of i s).jobs) (cpu_of i s).next) ≡ chance.Begins which place
-            → ((cpu_of i s).stopped ≡ false) × (which < length (cpu_of i s).jobs) × IsPlace (cpu_of i s) place (job_at which (cpu_of i s))
+            → cond b chance.Nothing (seek_job (cpu_of i s) s (length (cpu_of i s).jobs) (cpu_of i s).next) ≡ chance.Begins which place → (cpu_of i s).stopped ≡ false
         by_stopped true e found = absurd (cc found)
-        by_stopped false e found =
-            let c : Cpu = cpu_of i s in
-            let its = sound.holds.cpus.each i less in
-            let is = subst (IsChance c) found (seek_chance c s its.next_task (length c.jobs) c.next its.next) in
-            (e, is.0, is.1)
+        by_stopped false e found = e
 
     pub begin_fits : turn_at (who.Cpu i) s ≡ chance.Begins which place → Begins i which place
-    begin_fits found = let h = is_chance found in record { job = h.1; fits = job_fits h.0 h.1 (job_at which (cpu_of i s)) refl h.2 }
+    begin_fits found =
+        let c : Cpu = cpu_of i s in
+        let its = sound.holds.cpus.each i less in
+        let turn : IsTurn c s which place = subst (IsFound c s) found (turn_found c s) in
+        let here = turn.among its.next in
+        record { job = here; fits = job_fits (live found) here (job_at which c) refl (λ writer. turn.task writer its.next_task) }

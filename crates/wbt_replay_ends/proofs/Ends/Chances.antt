@@ -12,7 +12,7 @@ use Rattle.wbt_replay_order.specs.declared.chance.Chance.{Chance}
 use Rattle.wbt_replay_order.specs.declared.chance.Chance.TheVariants as chance
 use Rattle.wbt_replay_order.proofs.Facts.Actors.{past_turn}
 use Rattle.wbt_replay_order.proofs.Facts.Lists.{either}
-use Rattle.wbt_replay_ends.proofs.Ends.Seeks.{IsTurn, IsFound, turn_found}
+use Rattle.wbt_replay_order.proofs.Search.{IsTurn, IsFound, no_item, no_timer_item, turn_found}
 use Rattle.wbt_replay_ends.proofs.Ends.Turning.{Turning}
 
 -- ---- what an actor can do
@@ -62,12 +62,7 @@ module _ (trace : Trace) (s : State) (at : Turning trace s) where
 
     -- a CPU with nothing ahead is stopped, or its list is empty
     cpu_free : cpu_ahead (cpu_of i s) ≡ next.Nothing → (cpu_of i s).stopped ≡ false → (cpu_of i s).todo ≡ []
-    cpu_free is going = by_todo (cpu_of i s).todo refl (sym (cond-false (cpu_of i s).stopped next.Nothing (todo_ahead (cpu_of i s).todo) going) ∙ is)
-      where
-        by_todo : (ts : List Todo) → (cpu_of i s).todo ≡ ts → todo_ahead ts ≡ next.Nothing → (cpu_of i s).todo ≡ []
-        by_todo [] is none = is
-        by_todo (todo.Step item ∷ ts) is none = absurd (cc none)
-        by_todo (todo.Silent item ∷ ts) is none = absurd (cc none)
+    cpu_free is going = no_item (cpu_of i s).todo (sym (cond-false (cpu_of i s).stopped next.Nothing (todo_ahead (cpu_of i s).todo) going) ∙ is)
 
     module _ (there : i < length s.cpus) where
       cpu_can : cpu_ahead (cpu_of i s) ≡ next.Nothing → Can s (who.Cpu i) (cpu_turn (cpu_of i s) s)
@@ -81,7 +76,7 @@ module _ (trace : Trace) (s : State) (at : Turning trace s) where
 
           by_stop : (b : Bool) → (cpu_of i s).stopped ≡ b → Can s (who.Cpu i) (cpu_turn (cpu_of i s) s)
           by_stop true halted = subst (Can s (who.Cpu i)) (sym (cond-true (cpu_of i s).stopped chance.Nothing _ halted)) tt
-          by_stop false going = by_found going (cpu_turn (cpu_of i s) s) (turn_found (cpu_of i s) s (at.next_task i there))
+          by_stop false going = by_found going (cpu_turn (cpu_of i s) s) (turn_found (cpu_of i s) s)
 
     can_cpu : cpu_ahead (cpu_of i s) ≡ next.Nothing → Can s (who.Cpu i) (turn_at (who.Cpu i) s)
     can_cpu is = ⊎_elim (λ there. cpu_can there is) (λ past. subst (Can s (who.Cpu i)) (sym (past_turn s i past)) tt) (cases_lt i (length s.cpus))
@@ -97,12 +92,7 @@ module _ (trace : Trace) (s : State) (at : Turning trace s) where
       by_todo going (timer_todo.Silent item ∷ ts) is = (going, omega (arith, ap (λ (l : List TimerTodo). length l) is))
 
   timer_free : timer_ahead s ≡ next.Nothing → is_drained s ≡ false → s.timer.todo ≡ []
-  timer_free is going = by_todo s.timer.todo refl (sym (cond-false (is_drained s) next.Nothing (timer_todo_ahead s.timer.todo) going) ∙ is)
-    where
-      by_todo : (ts : List TimerTodo) → s.timer.todo ≡ ts → timer_todo_ahead ts ≡ next.Nothing → s.timer.todo ≡ []
-      by_todo [] is none = is
-      by_todo (timer_todo.Step item ∷ ts) is none = absurd (cc none)
-      by_todo (timer_todo.Silent item ∷ ts) is none = absurd (cc none)
+  timer_free is going = no_timer_item s.timer.todo (sym (cond-false (is_drained s) next.Nothing (timer_todo_ahead s.timer.todo) going) ∙ is)
 
   timer_can : timer_ahead s ≡ next.Nothing → Can s who.Timer (timer_turn s)
   timer_can is = by_drain (is_drained s) refl

@@ -19,7 +19,7 @@ use Rattle.wbt_replay_ends.proofs.Ends.Cores.{spend_ahead, cpu_due, free_cpu}
 use Rattle.wbt_replay_ends.proofs.Ends.Goes.{Outside, Pace, pace, goes_costs}
 use Rattle.wbt_replay_ends.proofs.Ends.Items.{Ahead, task_alone, step_ahead, silent_ahead}
 use Rattle.wbt_replay_ends.proofs.Ends.Paces.{paced_quietly, unspent}
-use Rattle.wbt_replay_ends.proofs.Ends.Seeks.{IsTurn}
+use Rattle.wbt_replay_order.proofs.Search.{IsTurn}
 use Rattle.wbt_replay_ends.proofs.Ends.Stops.{stop_ahead}
 use Rattle.wbt_replay_ends.proofs.Ends.Sums.{is_there}
 use Rattle.wbt_replay_ends.proofs.Ends.Turning.{Turning}
@@ -154,7 +154,7 @@ module _ (trace : Trace) (facts : Facts trace) (s : State) (at : Turning trace s
         → c.tasks ≡ (cpu_of i s).tasks → Ahead trace s (begin_job trace i place j c s)
     job_ahead n place job.Writer is turn c free paces tasks =
         task_turn_ahead (get_or c.tasks place 0) (record c { next_task = after (length c.tasks) place }) free paces
-        (subst (λ (l : List ℕ). IsTaskOn trace i (get_or l place 0)) (sym tasks) (task_on place (turn.writer is)))
+        (subst (λ (l : List ℕ). IsTaskOn trace i (get_or l place 0)) (sym tasks) (task_on place (turn.task is (at.next_task i there))))
     job_ahead n place (job.Flusher f) is turn c free paces tasks =
         flusher_turn_ahead f c free paces (flusher_on f n is) (finished_never (flusher_of f s).phase (is_drained s) s.now (turn.flusher f is))
 

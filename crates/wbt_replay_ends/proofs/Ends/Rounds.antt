@@ -20,7 +20,8 @@ use Rattle.wbt_replay_ends.proofs.Ends.Cores.{core_ahead, drop_ahead, timer_goes
 use Rattle.wbt_replay_ends.proofs.Ends.Items.{Ahead}
 use Rattle.wbt_replay_ends.proofs.Ends.Moves.{cpu_goes_on, cpu_begins}
 use Rattle.wbt_replay_ends.proofs.Ends.Paces.{unspent}
-use Rattle.wbt_replay_ends.proofs.Ends.Seeks.{Comes, comes_next, comes_not, comes_all, after_below, none_found}
+use Rattle.wbt_replay_ends.proofs.Ends.Seeks.{Comes, comes_next, comes_not, comes_all, none_found}
+use Rattle.wbt_replay_order.proofs.Search.{after_below}
 use Rattle.wbt_replay_ends.proofs.Ends.Sums.{sum_none}
 use Rattle.wbt_replay_ends.proofs.Ends.Turning.{Turning, placed_turning, ordered_turning, placed_kept, ordered_kept}
 
@@ -47,7 +48,7 @@ placed_goes s turn (who.Cpu i) can = can
 placed_goes s turn who.Timer can = can
 
 placed_begins : (s : State) (turn : Option Actor) (a : Actor) (n place : ℕ) → BeginsTurn s a n place → BeginsTurn (record s { rotation = turn }) a n place
-placed_begins s turn (who.Cpu i) n place can = (can.0, can.1, can.2, record { writer = can.3.writer; flusher = can.3.flusher })
+placed_begins s turn (who.Cpu i) n place can = (can.0, can.1, can.2, record { among = can.3.among; task = can.3.task; runs = can.3.runs; flusher = can.3.flusher })
 placed_begins s turn who.Timer n place can = can
 
 placed_can : (s : State) (turn : Option Actor) (a : Actor) (found : Chance) → Can s a found → Can (record s { rotation = turn }) a found

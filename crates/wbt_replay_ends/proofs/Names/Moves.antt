@@ -88,11 +88,11 @@ module _ (trace : Trace) (facts : Facts trace) (s : State) (reach : Reaches trac
 pub advance_logs : (trace : Trace) → Facts trace → (s : State) → Sound trace s → Naming trace s → Naming trace (advance trace s)
 advance_logs trace facts s sound =
     walked trace s (Logs trace s) (λ orders rotation now. quiet_logs trace s (clocked orders rotation now s) refl refl)
-    (λ orders rotation actor h.
+    (λ orders rotation actor some h.
     let reach = reaches trace s sound in
     go_logs trace facts (turned orders rotation s) (record { works = reach.works; phases = reach.phases }) sound.holds.timer.todo actor (turn orders rotation h))
-    (λ orders rotation actor n place idle is h. begin_logs trace actor n place (turned orders rotation s) (turn orders rotation h))
-    (λ orders rotation actor idle is h. let u = turned orders rotation s in quiet_logs trace u (begin_timer u) refl refl (turn orders rotation h))
+    (λ orders rotation i n place free found h. begin_logs trace (who.Cpu i) n place (turned orders rotation s) (turn orders rotation h))
+    (λ orders rotation none time h. let u = turned orders rotation s in quiet_logs trace u (begin_timer u) refl refl (turn orders rotation h))
   where
     turn : (orders : List Stretch) (rotation : Option Actor) → Logs trace s (turned orders rotation s)
     turn orders rotation = quiet_logs trace s (turned orders rotation s) refl refl

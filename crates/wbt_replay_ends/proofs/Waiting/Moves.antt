@@ -2,18 +2,15 @@
 use Rattle.std.proofs.Common.{◌≡◌, ℕ, ◌+◌, ◌<◌, true, List, [], ◌∷◌, length, get_or, All, Option, refl, sym, ap, subst, arith, ⊎_elim}
 use Rattle.std.proofs.lemmas.Bool.{cases_lt}
 use Rattle.std.proofs.lemmas.List.{get_or_past}
-use Rattle.wbt_replay_order.proofs.Common.{Trace, make_step, make_timer_step, State, no_cpu, cpu_of, with_cpu, begin_timer, with_timer, Actor, Cpu, ReplayJob, Stretch, TimerTodo, Todo, after, job_at, is_full, is_halted, spend, stop, cpu_on, timer_on, go_on, begin_job, begin, advance, Facts, IsJobOn, Waiting}
+use Rattle.wbt_replay_order.proofs.Common.{Trace, make_step, make_timer_step, State, no_cpu, cpu_of, with_cpu, begin_timer, with_timer, Actor, Cpu, ReplayJob, Stretch, TimerTodo, Todo, after, job_at, is_full, is_halted, spend, stop, cpu_on, timer_on, go_on, begin_job, advance, Facts, IsJobOn, Waiting}
 use Rattle.wbt_replay_moves.specs.declared.state.Actor.TheVariants as who
 use Rattle.wbt_replay_moves.specs.declared.state.ReplayJob.TheVariants as job
 use Rattle.wbt_replay_moves.specs.declared.state.Whose.TheVariants as whose
 use Rattle.wbt_replay_moves.specs.declared.todo.TimerTodo.TheVariants as timer_todo
 use Rattle.wbt_replay_moves.specs.declared.todo.Todo.TheVariants as todo
-use Rattle.wbt_replay_order.specs.declared.chance.Chance.{Chance}
-use Rattle.wbt_replay_order.specs.declared.chance.Chance.TheVariants as chance
 use Rattle.wbt_replay_order.proofs.Facts.Jobs.{flusher_on}
 use Rattle.wbt_replay_order.proofs.Facts.Lists.{either}
 use Rattle.wbt_replay_order.proofs.Walk.{clocked, turned, walked}
-use Rattle.wbt_replay_order.proofs.Frames.Chances.{IsSeeker, CanBegin, MayBegin, may_moved, turn_begins}
 use Rattle.wbt_replay_ends.proofs.Waiting.Items.{step_waits, move_waits}
 use Rattle.wbt_replay_order.proofs.Lists.Todos.{same_alike}
 use Rattle.wbt_replay_ends.proofs.Waiting.Needs.{Needs, needs_moved}
@@ -62,26 +59,17 @@ module _ (trace : Trace) (facts : Facts trace) (s : State) (needs : Needs trace 
       let all : All (IsJobOn trace i) (cpu_of i s).jobs = subst (All (IsJobOn trace i)) (sym (needs.cpus.each i less).jobs) (facts.jobs i) in
       turn_waits trace facts i less (whose.Flusher f) (flusher_on trace i f n (cpu_of i s).jobs all is) (record (cpu_of i s) { next = after (length (cpu_of i s).jobs) n }) s none none needs.cpus.many needs.flushers.many needs.queues w
 
-  begin_waits : (actor : Actor) (n place : ℕ) → CanBegin actor n place s → Waiting trace (begin trace actor n place s)
-  begin_waits (who.Cpu i) n place free = job_waits i (omega (arith, free.0, needs.cpus.many)) free.1 n place (job_at n (cpu_of i s)) refl
-  begin_waits who.Timer n place free = absurd free
-
 -- ---- the order
 
 module _ (trace : Trace) (facts : Facts trace) (s : State) (needs : Needs trace s) (w : Waiting trace s) where
-  seeks : (i : ℕ) → i < length s.cpus → IsSeeker (cpu_of i s)
-  seeks i below =
-      let own = needs.cpus.each i (omega (arith, below, needs.cpus.many)) in
-      record { next = own.next; next_task = own.next_task }
-
   turn : (orders : List Stretch) (rotation : Option Actor) → Waiting trace (turned orders rotation s)
   turn orders rotation = still trace s (turned orders rotation s) w refl (omega arith) refl refl refl refl
 
   pub advance_waits : Waiting trace (advance trace s)
   advance_waits =
       walked trace s (Waiting trace) (λ orders rotation now. still trace s (clocked orders rotation now s) w refl (omega arith) refl refl refl refl)
-      (λ orders rotation actor. go_on_waits trace facts (turned orders rotation s) (needs_moved trace s orders rotation needs) (turn orders rotation) actor)
-      (λ orders rotation actor n place idle is.
-      begin_waits trace facts (turned orders rotation s) (needs_moved trace s orders rotation needs) (turn orders rotation) actor n place
-      (may_moved s.now orders rotation s actor (chance.Begins n place) (subst (λ (found : Chance). MayBegin actor found s) is (turn_begins s seeks actor idle))))
-      (λ orders rotation actor idle is. let u = turned orders rotation s in still trace u (begin_timer u) (turn orders rotation) refl (omega arith) refl refl refl refl)
+      (λ orders rotation actor some. go_on_waits trace facts (turned orders rotation s) (needs_moved trace s orders rotation needs) (turn orders rotation) actor)
+      (λ orders rotation i n place free found.
+      job_waits trace facts (turned orders rotation s) (needs_moved trace s orders rotation needs) (turn orders rotation) i (omega (arith, free.there, needs.cpus.many)) free.idle n place
+      (job_at n (cpu_of i s)) refl)
+      (λ orders rotation none time. let u = turned orders rotation s in still trace u (begin_timer u) (turn orders rotation) refl (omega arith) refl refl refl refl)

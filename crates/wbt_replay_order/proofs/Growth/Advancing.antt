@@ -135,9 +135,9 @@ module _ (trace : Trace) (P : State → Type 0) (frame : (s u : State) → Quiet
 
   pub advance_all : (s : State) → Can s.now s.domains s.cpus s.tasks s.contexts → P s → P (advance trace s)
   advance_all s can h =
-      walked trace s P (λ orders rotation now. frame s (clocked orders rotation now s) (still s) (unwritten s) h) (λ orders rotation actor. by_actor actor (turned orders rotation s) can (turn orders rotation))
-      (λ orders rotation actor job place idle is. by_begin actor job place (turned orders rotation s) (turn orders rotation))
-      (λ orders rotation actor idle is. begins (turned orders rotation s) (turn orders rotation))
+      walked trace s P (λ orders rotation now. frame s (clocked orders rotation now s) (still s) (unwritten s) h) (λ orders rotation actor some. by_actor actor (turned orders rotation s) can (turn orders rotation))
+      (λ orders rotation i job place free found. by_begin (who.Cpu i) job place (turned orders rotation s) (turn orders rotation))
+      (λ orders rotation none time. begins (turned orders rotation s) (turn orders rotation))
     where
       turn : (orders : List Stretch) (rotation : Option Actor) → P (turned orders rotation s)
       turn orders rotation = frame s (turned orders rotation s) (still s) (unwritten s) h

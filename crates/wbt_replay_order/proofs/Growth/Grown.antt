@@ -92,8 +92,8 @@ grew_actor trace who.Timer s = (length s.cpus, grew_timer trace s.timer.todo s)
 
 pub advance_grows : (trace : Trace) (s : State) → (number : ℕ) × Grew number s.steps (advance trace s).steps s.timer.todo
 advance_grows trace s =
-    walked trace s (Anyone s) (λ orders rotation now. (0, inl refl)) (λ orders rotation actor. grew_actor trace actor (turned orders rotation s))
-    (λ orders rotation actor job place idle is. (0, inl (silent_begin trace actor job place (turned orders rotation s)))) (λ orders rotation actor idle is. (0, inl refl))
+    walked trace s (Anyone s) (λ orders rotation now. (0, inl refl)) (λ orders rotation actor some. grew_actor trace actor (turned orders rotation s))
+    (λ orders rotation i job place free found. (0, inl (silent_begin trace (who.Cpu i) job place (turned orders rotation s)))) (λ orders rotation none time. (0, inl refl))
 
 -- ---- the moments just past each step
 

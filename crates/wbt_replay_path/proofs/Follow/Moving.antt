@@ -4,7 +4,7 @@ use Rattle.std.proofs.lemmas.Bool.{cases_lt}
 use Rattle.std.proofs.lemmas.Bool.Decides.{nat_tests}
 use Rattle.std.proofs.lemmas.List.{get_or_past}
 use Rattle.std.proofs.lemmas.List.Elements.{All-head}
-use Rattle.wbt_replay_order.proofs.Common.{Trace, Setting, Rule, make_step, make_move, make_timer_step, make_timer_move, begin_turn, State, no_cpu, cpu_of, with_cpu, with_timer, Actor, Cpu, ReplayJob, Stretch, Whose, Silent, Step, TimerSilent, TimerStep, TimerTodo, Todo, first_cpu, after, ahead_of, job_at, turn_at, is_full, is_halted, stop, step_or_stop, cpu_on, timer_on, go_on, begin_job, begin, advance, Facts, IsJobOn, IsTaskOn, Suits, Follows, Moves, silently, Ranges, IsTurnOf, TimerItemFits, ItemFits}
+use Rattle.wbt_replay_order.proofs.Common.{Trace, Setting, Rule, make_step, make_move, make_timer_step, make_timer_move, begin_turn, State, no_cpu, cpu_of, with_cpu, with_timer, Actor, Cpu, ReplayJob, Stretch, Whose, Silent, Step, TimerSilent, TimerStep, TimerTodo, Todo, first_cpu, after, job_at, is_full, is_halted, stop, step_or_stop, cpu_on, timer_on, go_on, begin_job, advance, Facts, IsJobOn, IsTaskOn, Suits, Follows, Moves, silently, Ranges, IsTurnOf, TimerItemFits, ItemFits}
 use Rattle.wbt_grant.specs.State as throttle
 use Rattle.wbt_replay_moves.specs.declared.state.Actor.TheVariants as who
 use Rattle.wbt_replay_moves.specs.declared.state.ReplayJob.TheVariants as job
@@ -15,14 +15,11 @@ use Rattle.wbt_replay_moves.specs.declared.todo.TimerSilent.TheVariants as timer
 use Rattle.wbt_replay_moves.specs.declared.todo.TimerStep.TheVariants as timer_step
 use Rattle.wbt_replay_moves.specs.declared.todo.TimerTodo.TheVariants as timer_todo
 use Rattle.wbt_replay_moves.specs.declared.todo.Todo.TheVariants as todo
-use Rattle.wbt_replay_order.specs.declared.chance.Ahead.TheVariants as ahead
-use Rattle.wbt_replay_order.specs.declared.chance.Chance.{Chance}
-use Rattle.wbt_replay_order.specs.declared.chance.Chance.TheVariants as chance
 use Rattle.wbt_replay_order.specs.Kept.Turns.{StepFits}
 use Rattle.wbt_replay_order.proofs.Facts.Lists.{either}
 use Rattle.wbt_replay_order.proofs.Walk.{turned, walked}
 use Rattle.wbt_replay_path.proofs.Follow.Begins.{begin_moves as turn_begun}
-use Rattle.wbt_replay_order.proofs.Frames.Chances.{IsPlace, IsSeeker, CanBegin, MayBegin, may_moved, turn_begins, turned_state}
+use Rattle.wbt_replay_path.proofs.Follow.Stopping.{stop_follows}
 use Rattle.wbt_replay_path.proofs.Follow.Counters.{add_moves, fold_moves, clear_moves}
 use Rattle.wbt_replay_path.proofs.Follow.Decided.{decide_moves}
 use Rattle.wbt_replay_path.proofs.Follow.Dirtying.{dirty_moves}
@@ -106,7 +103,7 @@ module _ (trace : Trace) (setting : Setting) (suits : Suits trace setting) (fact
 
   module _ (i : ℕ) (less : i < trace.cpus) where
     stop_moves : Moves trace setting s.steps (stop i s) t
-    stop_moves = silently refl (turned_state trace setting suits i (cpu_of i s).next (cpu_of i s).next_task true s t less fits.ranges h)
+    stop_moves = silently refl (stop_follows trace setting suits i s t less fits.ranges h)
 
     step_or_stop_moves : (x : Step) (ts : List Todo) → (cpu_of i s).todo ≡ todo.Step x ∷ ts → StepFits trace x → Moves trace setting s.steps (step_or_stop trace i x ts s) t
     step_or_stop_moves x ts is fit =
@@ -140,19 +137,14 @@ module _ (trace : Trace) (setting : Setting) (suits : Suits trace setting) (fact
         → Moves trace setting s.steps (begin_turn trace i w (with_cpu i (record (cpu_of i s) { next = next; next_task = next_task }) s)) t
     begins_after next_task w on = turn_begun trace setting suits i less s t fits.ranges h none next next_task w on
 
-    job_moves : (which place : ℕ) (j : ReplayJob) → job_at which (cpu_of i s) ≡ j → which < length (cpu_of i s).jobs → IsPlace (cpu_of i s) place j
+    job_moves : (which place : ℕ) (j : ReplayJob) → job_at which (cpu_of i s) ≡ j → which < length (cpu_of i s).jobs → (j ≡ job.Writer → place < length (cpu_of i s).tasks)
         → Moves trace setting s.steps (begin_job trace i place j (record (cpu_of i s) { next = next }) s) t
     job_moves which place job.Writer is known here =
         let all : All (IsTaskOn trace i) (cpu_of i s).tasks = subst (All (IsTaskOn trace i)) (sym (fits.placed i less).tasks) (facts.tasks i) in
-        begins_after (after (length (cpu_of i s).tasks) place) (whose.Task (get_or (cpu_of i s).tasks place 0)) (all place 0 here)
+        begins_after (after (length (cpu_of i s).tasks) place) (whose.Task (get_or (cpu_of i s).tasks place 0)) (all place 0 (here refl))
     job_moves which place (job.Flusher f) is known here =
         let all : All (IsJobOn trace i) (cpu_of i s).jobs = subst (All (IsJobOn trace i)) (sym (fits.placed i less).jobs) (facts.jobs i) in
         begins_after (cpu_of i s).next_task (whose.Flusher f) (subst (IsJobOn trace i) is (all which job.Writer known))
-
-  begin_moves : (actor : Actor) (which place : ℕ) → CanBegin actor which place s → Moves trace setting s.steps (begin trace actor which place s) t
-  begin_moves (who.Cpu i) which place can =
-      job_moves i (omega (arith, can.0, fits.ranges.cpus)) (after (length (cpu_of i s).jobs) which) can.1 which place (job_at which (cpu_of i s)) refl can.2 can.3
-  begin_moves who.Timer which place can = absurd can
 
 -- ---- orders and the rotation aren't followed
 
@@ -192,25 +184,13 @@ turned_fits trace setting orders turn s fits =
 
 module _ (trace : Trace) (setting : Setting) (suits : Suits trace setting) (facts : Facts trace) (t : throttle.State) (rule : Rule setting t) (s : State) (fits : Fits trace setting s)
     (h : Follows trace setting s t) where
-  seeks : (i : ℕ) → i < length s.cpus → IsSeeker (cpu_of i s)
-  seeks i below =
-      let placed = fits.placed i (omega (arith, below, fits.ranges.cpus)) in
-      record { next = placed.next; next_task = placed.next_task }
-
-  -- who has nothing ahead may begin what it was found to begin, also where it is another's turn
-  may_begin : (orders : List Stretch) (rotation : Option Actor) (actor : Actor) (found : Chance) → ahead_of actor s ≡ ahead.Nothing → turn_at actor s ≡ found
-      → MayBegin actor found (turned orders rotation s)
-  may_begin orders rotation actor found idle is =
-      may_moved s.now orders rotation s actor found (subst (λ (c : Chance). MayBegin actor c s) is (turn_begins s seeks actor idle))
-
   -- each move of the run
   pub advance_moves : Moves trace setting s.steps (advance trace s) t
   advance_moves =
       walked trace s (λ (u : State). Moves trace setting s.steps u t) (λ orders rotation now. silently refl h)
-      (λ orders rotation actor. go_on_moves trace setting suits facts (turned orders rotation s) t (turned_fits trace setting orders rotation s fits) rule h actor)
-      (λ orders rotation actor which place idle is.
-      begin_moves trace setting suits facts (turned orders rotation s) t (turned_fits trace setting orders rotation s fits) rule h actor which place
-      (may_begin orders rotation actor (chance.Begins which place) idle is))
-      (λ orders rotation actor idle is.
-      begin_timer_moves trace setting suits (turned orders rotation s) t (turned_fits trace setting orders rotation s fits).ranges h
-      (may_begin orders rotation actor chance.TimerBegins idle is))
+      (λ orders rotation actor some. go_on_moves trace setting suits facts (turned orders rotation s) t (turned_fits trace setting orders rotation s fits) rule h actor)
+      (λ orders rotation i which place free found.
+      let placed = fits.placed i (omega (arith, free.there, fits.ranges.cpus)) in
+      job_moves trace setting suits facts (turned orders rotation s) t (turned_fits trace setting orders rotation s fits) rule h i (omega (arith, free.there, fits.ranges.cpus))
+      (after (length (cpu_of i s).jobs) which) free.idle which place (job_at which (cpu_of i s)) refl (found.among placed.next) (λ writer. found.task writer placed.next_task))
+      (λ orders rotation none time. begin_timer_moves trace setting suits (turned orders rotation s) t (turned_fits trace setting orders rotation s fits).ranges h none)

@@ -1,16 +1,13 @@
 -- A move of a run, from what each item, each turn and each move of the timer does.
-use Rattle.std.proofs.Common.{◌≡◌, ℕ, zero, suc, ◌+◌, ◌<◌, Bool, true, false, not, ◌&&◌, cond, leb, List, [], ◌∷◌, length, get_or, Option, refl, sym, ap, subst, ⊎_elim, All, arith, ◌∙◌}
+use Rattle.std.proofs.Common.{◌≡◌, ℕ, ◌+◌, ◌<◌, true, leb, List, [], ◌∷◌, length, get_or, Option, refl, sym, ap, subst, ⊎_elim, All, arith, ◌∙◌}
 use Rattle.std.proofs.lemmas.Bool.{cases_lt}
 use Rattle.std.proofs.lemmas.List.{get_or_past}
-use Rattle.wbt_replay_order.proofs.Common.{Trace, make_step, make_move, make_timer_step, make_timer_move, begin_turn, State, no_cpu, cpu_of, with_cpu, task_of, is_drained, begin_timer, with_timer, Actor, Cpu, ReplayJob, Stretch, Whose, Silent, Step, TimerSilent, TimerStep, TimerTodo, Todo, after, ahead_of, todo_ahead, timer_todo_ahead, timer_turn, turn_at, task_turn, job_turn, job_at, seek_job, is_task_ready, is_full, is_halted, is_nothing, spend, stop, cpu_on, timer_on, go_on, begin_job, begin, advance, Facts, IsFlusherOn, IsJobOn, Sound}
+use Rattle.wbt_replay_order.proofs.Common.{Trace, make_step, make_move, make_timer_step, make_timer_move, begin_turn, State, no_cpu, cpu_of, with_cpu, begin_timer, with_timer, Actor, Cpu, ReplayJob, Stretch, Whose, Silent, Step, TimerSilent, TimerStep, TimerTodo, Todo, after, job_at, is_full, is_halted, spend, stop, cpu_on, timer_on, go_on, begin_job, begin, advance, Facts, IsFlusherOn, IsJobOn, Sound}
 use Rattle.wbt_replay_moves.specs.declared.state.Actor.TheVariants as who
 use Rattle.wbt_replay_moves.specs.declared.state.ReplayJob.TheVariants as job
 use Rattle.wbt_replay_moves.specs.declared.state.Whose.TheVariants as whose
 use Rattle.wbt_replay_moves.specs.declared.todo.TimerTodo.TheVariants as timer_todo
 use Rattle.wbt_replay_moves.specs.declared.todo.Todo.TheVariants as todo
-use Rattle.wbt_replay_order.specs.declared.chance.Ahead.TheVariants as ahead
-use Rattle.wbt_replay_order.specs.declared.chance.Chance.{Chance}
-use Rattle.wbt_replay_order.specs.declared.chance.Chance.TheVariants as chance
 use Rattle.wbt_replay_order.proofs.Facts.Jobs.{flusher_on}
 use Rattle.wbt_replay_order.proofs.Facts.Lists.{either}
 use Rattle.wbt_replay_order.proofs.Walk.{clocked, turned, walked}
@@ -80,11 +77,6 @@ module _ (trace : Trace) (R : State → State → Type 0) (hide : (s u : State) 
 
   -- ---- a turn begins
 
-  -- a CPU has nothing to do
-  abbrev IsFree : (actor : Actor) → Type 0
-  IsFree (who.Cpu i) = (cpu_of i s0).todo ≡ []
-  IsFree who.Timer = Unit {0}
-
   by_job : (orders : List Stretch) (rotation : Option Actor) (i n next place : ℕ) (j : ReplayJob) → job_at n (cpu_of i s0) ≡ j → (cpu_of i s0).todo ≡ []
       → R (m orders rotation) (begin_job trace i place j (record (cpu_of i s0) { next = next }) (m orders rotation))
   by_job orders rotation i n next place job.Writer is free =
@@ -93,88 +85,13 @@ module _ (trace : Trace) (R : State → State → Type 0) (hide : (s u : State) 
   by_job orders rotation i n next place (job.Flusher f) is free =
       let c : Cpu = record (cpu_of i s0) { next = next } in turns i (whose.Flusher f) c (m orders rotation) refl refl (same_turn (cpu_of i s0) c refl refl) free free (starts i n f is)
 
-  by_begin : (orders : List Stretch) (rotation : Option Actor) (actor : Actor) (n place : ℕ) → IsFree actor → R (m orders rotation) (begin trace actor n place (m orders rotation))
-  by_begin orders rotation (who.Cpu i) n place free = by_job orders rotation i n (after (length (cpu_of i s0).jobs) n) place (job_at n (cpu_of i s0)) refl free
-  by_begin orders rotation who.Timer n place free = same (m orders rotation)
-
-  -- an actor begins where it has nothing to do, and the timer where its wait is over
-  abbrev Begins : (actor : Actor) (found : Chance) → Type 0
-  Begins actor chance.Nothing = Unit {0}
-  Begins actor chance.GoesOn = Unit {0}
-  Begins actor (chance.Begins n place) = IsFree actor
-  Begins actor chance.TimerBegins = (s0.timer.todo ≡ []) × (leb s0.timer.next s0.now ≡ true)
-
-  no_todo : (ts : List TimerTodo) → timer_todo_ahead ts ≡ ahead.Nothing → ts ≡ []
-  no_todo [] is = refl
-  no_todo (timer_todo.Step x ∷ ts) is = absurd (cc is)
-  no_todo (timer_todo.Silent x ∷ ts) is = absurd (cc is)
-
-  no_item : (ts : List Todo) → todo_ahead ts ≡ ahead.Nothing → ts ≡ []
-  no_item [] is = refl
-  no_item (todo.Step x ∷ ts) is = absurd (cc is)
-  no_item (todo.Silent x ∷ ts) is = absurd (cc is)
-
-  timer_begins : ahead_of who.Timer s0 ≡ ahead.Nothing → Begins who.Timer (timer_turn s0)
-  timer_begins = by_drained (is_drained s0)
-    where
-      by_time : (b : Bool) → leb s0.timer.next s0.now ≡ b → s0.timer.todo ≡ [] → Begins who.Timer (cond b chance.TimerBegins chance.Nothing)
-      by_time true is none = (none, is)
-      by_time false is none = tt
-
-      by_drained : (b : Bool) → cond b ahead.Nothing (timer_todo_ahead s0.timer.todo) ≡ ahead.Nothing → Begins who.Timer (cond (not b && leb s0.timer.next s0.now) chance.TimerBegins chance.Nothing)
-      by_drained true none = tt
-      by_drained false none = by_time (leb s0.timer.next s0.now) refl (no_todo s0.timer.todo none)
-
-  cpu_begins : (i : ℕ) → ahead_of (who.Cpu i) s0 ≡ ahead.Nothing → Begins (who.Cpu i) (turn_at (who.Cpu i) s0)
-  unfolding task_turn seek_job
-  cpu_begins i = by_stopped (cpu_of i s0).stopped
-    where
-      of_tasks : IsFree (who.Cpu i) → (n : ℕ) (tasks : List ℕ) (tries at : ℕ) → Begins (who.Cpu i) (task_turn n tasks s0 tries at)
-      of_tasks free n tasks zero at = tt
-      of_tasks free n tasks (suc tries) at = by (is_task_ready s0.now (task_of (get_or tasks at 0) s0)) (of_tasks free n tasks tries (after (length tasks) at))
-        where
-          by : (b : Bool) → Begins (who.Cpu i) (task_turn n tasks s0 tries (after (length tasks) at))
-              → Begins (who.Cpu i) (elim b as (λ _. Chance) [ true ↦ chance.Begins n at | false ↦ task_turn n tasks s0 tries (after (length tasks) at) ])
-          by true rest = free
-          by false rest = rest
-
-      of_job : IsFree (who.Cpu i) → (at : ℕ) (j : ReplayJob) → Begins (who.Cpu i) (job_turn (cpu_of i s0) s0 at j)
-      of_job free at job.Writer = of_tasks free at (cpu_of i s0).tasks (length (cpu_of i s0).tasks) (cpu_of i s0).next_task
-      of_job free at (job.Flusher f) = either (Begins (who.Cpu i)) _ (chance.Begins at 0) chance.Nothing (λ ready. free) (λ not_yet. tt)
-
-      seeks : IsFree (who.Cpu i) → (tries at : ℕ) → Begins (who.Cpu i) (seek_job (cpu_of i s0) s0 tries at)
-      seeks free zero at = tt
-      seeks free (suc tries) at =
-          by (is_nothing (job_turn (cpu_of i s0) s0 at (job_at at (cpu_of i s0)))) (seeks free tries (after (length (cpu_of i s0).jobs) at)) (of_job free at (job_at at (cpu_of i s0)))
-        where
-          by : (b : Bool) → Begins (who.Cpu i) (seek_job (cpu_of i s0) s0 tries (after (length (cpu_of i s0).jobs) at)) → Begins (who.Cpu i) (job_turn (cpu_of i s0) s0 at (job_at at (cpu_of i s0)))
-              → Begins (who.Cpu i)
-              (elim b as (λ _. Chance) [ true ↦ seek_job (cpu_of i s0) s0 tries (after (length (cpu_of i s0).jobs) at) | false ↦ job_turn (cpu_of i s0) s0 at (job_at at (cpu_of i s0)) ])
-          by true rest here = rest
-          by false rest here = here
-
-      by_stopped : (b : Bool) → cond b ahead.Nothing (todo_ahead (cpu_of i s0).todo) ≡ ahead.Nothing
-          → Begins (who.Cpu i) (cond b chance.Nothing (seek_job (cpu_of i s0) s0 (length (cpu_of i s0).jobs) (cpu_of i s0).next))
-      by_stopped true none = tt
-      by_stopped false none = seeks (no_item (cpu_of i s0).todo none) (length (cpu_of i s0).jobs) (cpu_of i s0).next
-
-  turn_begins : (actor : Actor) → ahead_of actor s0 ≡ ahead.Nothing → Begins actor (turn_at actor s0)
-  turn_begins (who.Cpu i) none = cpu_begins i none
-  turn_begins who.Timer none = timer_begins none
-
   -- ---- the order
-
-  -- it began where it has nothing to do
-  may_begin : (actor : Actor) (found : Chance) → ahead_of actor s0 ≡ ahead.Nothing → turn_at actor s0 ≡ found → Begins actor found
-  may_begin actor found idle is = subst (Begins actor) is (turn_begins actor idle)
 
   pub advance_seen : R s0 (advance trace s0)
   advance_seen =
       walked trace s0 (R s0) (λ orders rotation now. hide s0 (clocked orders rotation now s0) (still s0))
-      (λ orders rotation actor. thens s0 (m orders rotation) (go_on trace actor (m orders rotation)) (ordered orders rotation) (by_actor orders rotation actor))
-      (λ orders rotation actor n place idle is.
-      thens s0 (m orders rotation) (begin trace actor n place (m orders rotation)) (ordered orders rotation)
-      (by_begin orders rotation actor n place (may_begin actor (chance.Begins n place) idle is)))
-      (λ orders rotation actor idle is.
-      let may : Begins actor chance.TimerBegins = may_begin actor chance.TimerBegins idle is in
-      thens s0 (m orders rotation) (begin_timer (m orders rotation)) (ordered orders rotation) (begins orders rotation may.0 may.1))
+      (λ orders rotation actor some. thens s0 (m orders rotation) (go_on trace actor (m orders rotation)) (ordered orders rotation) (by_actor orders rotation actor))
+      (λ orders rotation i n place free found.
+      thens s0 (m orders rotation) (begin trace (who.Cpu i) n place (m orders rotation)) (ordered orders rotation)
+      (by_job orders rotation i n (after (length (cpu_of i s0).jobs) n) place (job_at n (cpu_of i s0)) refl free.idle))
+      (λ orders rotation none time. thens s0 (m orders rotation) (begin_timer (m orders rotation)) (ordered orders rotation) (begins orders rotation none time))

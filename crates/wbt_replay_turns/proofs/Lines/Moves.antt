@@ -1,6 +1,6 @@
 -- What a move does of the first order line, where it asks for steps.
-use Rattle.std.proofs.Common.{◌≡◌, ℕ, zero, suc, Bool, true, false, not, ◌&&◌, cond, leb, List, [], ◌∷◌, ◌++◌, length, get_or, refl, sym, ◌∙◌, ap, subst}
-use Rattle.wbt_replay_order.proofs.Common.{StepEntry, Trace, at_turn, State, cpu_of, with_cpu, task_of, flusher_of, is_drained, Actor, Cpu, ReplayJob, Stretch, may_step, after, is_task_ready, is_phase_ready, task_turn, job_turn, job_at, is_nothing, seek_job, turn_at, ahead_of, chance_by, chance_of, go_on, begin_job, begin, with_orders, begin_or_drop, follow, advance_by, advance, Ending}
+use Rattle.std.proofs.Common.{◌≡◌, ℕ, zero, suc, true, false, List, [], ◌∷◌, ◌++◌, length, get_or, refl, sym, ◌∙◌, ap, subst}
+use Rattle.wbt_replay_order.proofs.Common.{StepEntry, Trace, at_turn, State, cpu_of, with_cpu, Actor, Cpu, ReplayJob, Stretch, may_step, after, job_at, turn_at, ahead_of, chance_by, chance_of, go_on, begin_job, begin, with_orders, begin_or_drop, follow, advance_by, advance, Ending}
 use Rattle.wbt_replay_moves.specs.declared.state.Actor.TheVariants as who
 use Rattle.wbt_replay_moves.specs.declared.state.ReplayJob.TheVariants as job
 use Rattle.wbt_replay_moves.specs.declared.state.Stretch.TheVariants as stretch
@@ -9,75 +9,13 @@ use Rattle.wbt_replay_order.specs.declared.chance.Ahead.{Ahead}
 use Rattle.wbt_replay_order.specs.declared.chance.Ahead.TheVariants as ahead
 use Rattle.wbt_replay_order.specs.declared.chance.Chance.{Chance}
 use Rattle.wbt_replay_order.specs.declared.chance.Chance.TheVariants as chance
-use Rattle.wbt_replay_order.proofs.Facts.Lists.{either}
 use Rattle.wbt_replay_order.proofs.Growth.Grown.{silent_for}
+use Rattle.wbt_replay_order.proofs.Search.{never_goes}
 use Rattle.wbt_replay_turns.specs.Lines.{number_of}
 use Rattle.wbt_replay_turns.proofs.Kept.Actors.{kept_on}
 use Rattle.wbt_replay_turns.proofs.Kept.Items.{Order}
 use Rattle.wbt_replay_turns.proofs.Kept.Turns.{kept_begin}
 use Rattle.wbt_replay_turns.proofs.Lines.Steps.{Steps, makes, halts, spends, quiet_on, steps_on}
-
--- ---- a search for a turn of a CPU finds one of a job, or none
-
-goes : (found : Chance) → Bool
-goes chance.Nothing = false
-goes chance.GoesOn = true
-goes (chance.Begins job place) = false
-goes chance.TimerBegins = true
-
-abbrev Rests : (found : Chance) → Type 0
-Rests found = goes found ≡ false
-
-task_rests : (n : ℕ) (tasks : List ℕ) (s : State) (tries place : ℕ) → Rests (task_turn n tasks s tries place)
-unfolding task_turn goes
-task_rests n tasks s zero place = refl
-task_rests n tasks s (suc tries) place = by_ready (is_task_ready s.now (task_of (get_or tasks place 0) s)) (task_rests n tasks s tries (after (length tasks) place))
-  where
-    by_ready : (b : Bool) → Rests (task_turn n tasks s tries (after (length tasks) place))
-        → Rests (elim b as (λ _. Chance) [ true ↦ chance.Begins n place | false ↦ task_turn n tasks s tries (after (length tasks) place) ])
-    by_ready true more = refl
-    by_ready false more = more
-
-job_rests : (c : Cpu) (s : State) (n : ℕ) (j : ReplayJob) → Rests (job_turn c s n j)
-unfolding goes
-job_rests c s n job.Writer = task_rests n c.tasks s (length c.tasks) c.next_task
-job_rests c s n (job.Flusher f) = either Rests (is_phase_ready (flusher_of f s).phase (is_drained s) s.now) (chance.Begins n 0) chance.Nothing (λ is. refl) (λ no. refl)
-
-seek_rests : (c : Cpu) (s : State) (tries place : ℕ) → Rests (seek_job c s tries place)
-unfolding seek_job goes
-seek_rests c s zero place = refl
-seek_rests c s (suc tries) place = by_first (is_nothing (job_turn c s place (job_at place c))) (seek_rests c s tries (after (length c.jobs) place))
-  where
-    by_first : (b : Bool) → Rests (seek_job c s tries (after (length c.jobs) place))
-        → Rests (elim b as (λ _. Chance) [ true ↦ seek_job c s tries (after (length c.jobs) place) | false ↦ job_turn c s place (job_at place c) ])
-    by_first true more = more
-    by_first false more = job_rests c s place (job_at place c)
-
-cpu_rests : (i : ℕ) (s : State) → Rests (turn_at (who.Cpu i) s)
-unfolding goes
-cpu_rests i s = either Rests (cpu_of i s).stopped chance.Nothing (seek_job (cpu_of i s) s (length (cpu_of i s).jobs) (cpu_of i s).next)
-    (λ is. refl) (λ no. seek_rests (cpu_of i s) s (length (cpu_of i s).jobs) (cpu_of i s).next)
-
-goes_never : Rests chance.GoesOn → ⊥
-unfolding goes
-goes_never is = cc is
-
-times_never : Rests chance.TimerBegins → ⊥
-unfolding goes
-times_never is = cc is
-
--- Nobody is found to go on by a search for a turn,
-never_goes : (a : Actor) (s : State) → turn_at a s ≡ chance.GoesOn → ⊥
-never_goes (who.Cpu i) s = λ found. goes_never (subst Rests found (cpu_rests i s))
-never_goes who.Timer s = by_test (not (is_drained s) && leb s.timer.next s.now)
-  where
-    by_test : (b : Bool) → cond b chance.TimerBegins chance.Nothing ≡ chance.GoesOn → ⊥
-    by_test true found = cc found
-    by_test false found = cc found
-
--- and no CPU to begin the timer's turn.
-pub never_times : (i : ℕ) (s : State) → turn_at (who.Cpu i) s ≡ chance.TimerBegins → ⊥
-never_times i s found = times_never (subst Rests found (cpu_rests i s))
 
 -- ---- a turn begins without a step
 

@@ -1,17 +1,12 @@
 -- What moves of actors keep, each move of a run keeps, and so it holds at each moment.
-use Rattle.std.proofs.Common.{◌≡◌, ℕ, zero, suc, ◌<◌, Bool, true, false, not, ◌&&◌, cond, leb, List, [], ◌∷◌, length, Option, ⊎_elim, refl, sym, ◌∙◌, subst, arith}
-use Rattle.std.proofs.lemmas.Bool.{cases_Bool, and_parts, not-true, cond-false}
-use Rattle.wbt_replay_order.proofs.Common.{domains, StepEntry, Trace, State, cpu_of, is_drained, begin_timer, Actor, Cpu, Domain, Stretch, TimerTodo, Todo, opening, todo_ahead, timer_todo_ahead, ahead_of, turn_at, go_on, begin, seek_job, advance, is_ended, state_at, Ending, ArePaced, StaysInRange}
+use Rattle.std.proofs.Common.{◌≡◌, ℕ, zero, suc, ◌<◌, List, [], length, Option, ⊎_elim, refl, sym, subst, arith}
+use Rattle.std.proofs.lemmas.Bool.{cases_Bool}
+use Rattle.wbt_replay_order.proofs.Common.{domains, StepEntry, Trace, State, cpu_of, begin_timer, Actor, Cpu, Domain, Stretch, opening, go_on, begin, advance, is_ended, state_at, Ending, ArePaced, StaysInRange}
 use Rattle.wbt_replay_moves.specs.declared.state.Actor.TheVariants as who
-use Rattle.wbt_replay_moves.specs.declared.todo.TimerTodo.TheVariants as timer_todo
 use Rattle.wbt_replay_moves.specs.declared.todo.Todo.TheVariants as todo
-use Rattle.wbt_replay_order.specs.declared.chance.Ahead.TheVariants as ahead
-use Rattle.wbt_replay_order.specs.declared.chance.Chance.TheVariants as chance
-use Rattle.wbt_replay_order.proofs.Facts.Actors.{there_by_turn}
 use Rattle.wbt_replay_order.proofs.Walk.{turned, walked}
 use Rattle.wbt_replay_order.proofs.Growth.Runs.{run_none, run_last, run_stays}
 use Rattle.wbt_replay_turns.specs.Laws.{EndsWell}
-use Rattle.wbt_replay_turns.proofs.Lines.Moves.{never_times}
 
 -- what is needed of a state for a move
 pub record ReadyIn (trace : Trace) (steps : List StepEntry) (cpus : List Cpu) (ds : List Domain) : Type 0 where
@@ -21,35 +16,6 @@ pub record ReadyIn (trace : Trace) (steps : List StepEntry) (cpus : List Cpu) (d
 
 abbrev pub Ready : (trace : Trace) (s : State) → Type 0
 Ready trace s = ReadyIn trace s.steps s.cpus s.domains
-
--- who can begin a turn has nothing left of the one before
-free_cpu : (s : State) (i job place : ℕ) → ahead_of (who.Cpu i) s ≡ ahead.Nothing → turn_at (who.Cpu i) s ≡ chance.Begins job place → (cpu_of i s).todo ≡ []
-free_cpu s i n place none found = by_stopped (cpu_of i s).stopped refl found
-  where
-    by_todo : (ts : List Todo) → (cpu_of i s).todo ≡ ts → todo_ahead ts ≡ ahead.Nothing → (cpu_of i s).todo ≡ []
-    by_todo [] is e = is
-    by_todo (todo.Step item ∷ rest) is e = absurd (cc e)
-    by_todo (todo.Silent item ∷ rest) is e = absurd (cc e)
-
-    by_stopped : (b : Bool) → (cpu_of i s).stopped ≡ b
-        → cond b chance.Nothing (seek_job (cpu_of i s) s (length (cpu_of i s).jobs) (cpu_of i s).next) ≡ chance.Begins n place → (cpu_of i s).todo ≡ []
-    by_stopped true is e = absurd (cc e)
-    by_stopped false is e = by_todo (cpu_of i s).todo refl (sym (cond-false (cpu_of i s).stopped ahead.Nothing (todo_ahead (cpu_of i s).todo) is) ∙ none)
-
--- nor has the timer, where it can begin one
-free_timer : (s : State) → ahead_of who.Timer s ≡ ahead.Nothing → turn_at who.Timer s ≡ chance.TimerBegins → s.timer.todo ≡ []
-free_timer s none found = by_test (not (is_drained s) && leb s.timer.next s.now) refl found
-  where
-    by_todo : (ts : List TimerTodo) → s.timer.todo ≡ ts → timer_todo_ahead ts ≡ ahead.Nothing → s.timer.todo ≡ []
-    by_todo [] is e = is
-    by_todo (timer_todo.Step item ∷ rest) is e = absurd (cc e)
-    by_todo (timer_todo.Silent item ∷ rest) is e = absurd (cc e)
-
-    by_test : (b : Bool) → (not (is_drained s) && leb s.timer.next s.now) ≡ b → cond b chance.TimerBegins chance.Nothing ≡ chance.TimerBegins → s.timer.todo ≡ []
-    by_test true is e =
-        let running = not-true (is_drained s) (and_parts (not (is_drained s)) (leb s.timer.next s.now) is).0 in
-        by_todo s.timer.todo refl (sym (cond-false (is_drained s) ahead.Nothing (timer_todo_ahead s.timer.todo) running) ∙ none)
-    by_test false is e = absurd (cc e)
 
 -- What doesn't ask for the clock, the order lines or the rotation, and is kept where an actor goes on or begins a turn.
 module _ (trace : Trace) (P : State → Type 0)
@@ -61,20 +27,12 @@ module _ (trace : Trace) (P : State → Type 0)
     turn : (orders : List Stretch) (rotation : Option Actor) → P (turned orders rotation s)
     turn orders rotation = free s s.now orders rotation h
 
-    by_begin : (orders : List Stretch) (rotation : Option Actor) (a : Actor) (n place : ℕ) → ahead_of a s ≡ ahead.Nothing → turn_at a s ≡ chance.Begins n place
-        → P (begin trace a n place (turned orders rotation s))
-    by_begin orders rotation (who.Cpu i) n place idle is = begins i n place (turned orders rotation s) ready (turn orders rotation) (there_by_turn s i n place is) (free_cpu s i n place idle is)
-    by_begin orders rotation who.Timer n place idle is = turn orders rotation
-
-    by_tick : (orders : List Stretch) (rotation : Option Actor) (a : Actor) → ahead_of a s ≡ ahead.Nothing → turn_at a s ≡ chance.TimerBegins → P (begin_timer (turned orders rotation s))
-    by_tick orders rotation (who.Cpu i) idle is = absurd (never_times i s is)
-    by_tick orders rotation who.Timer idle is = times (turned orders rotation s) ready (turn orders rotation) (free_timer s idle is)
-
     on_move : Ending trace (advance trace s) → P (advance trace s)
     on_move =
         walked trace s (λ (u : State). Ending trace u → P u) (λ orders rotation now ending. free s now orders rotation h)
-        (λ orders rotation a ending. goes a (turned orders rotation s) ready (turn orders rotation) ending)
-        (λ orders rotation a n place idle is ending. by_begin orders rotation a n place idle is) (λ orders rotation a idle is ending. by_tick orders rotation a idle is)
+        (λ orders rotation a some ending. goes a (turned orders rotation s) ready (turn orders rotation) ending)
+        (λ orders rotation i n place free found ending. begins i n place (turned orders rotation s) ready (turn orders rotation) free.there free.idle)
+        (λ orders rotation none time ending. times (turned orders rotation s) ready (turn orders rotation) none)
 
   -- what is needed of a state holds at each moment
   module _ (stays : StaysInRange trace) (h : EndsWell trace) (first : P (opening trace)) where
